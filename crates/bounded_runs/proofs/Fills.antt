@@ -14,7 +14,7 @@ use Rattle.requirement_table.specs.Instance.{Instance}
 use Rattle.requirement_table.specs.Opening.{Opening, width_of}
 use Rattle.async_window.specs.declared.request.Request.{Request}
 use Rattle.bus_line.specs.Trace.{IsLeastOffered, end_of, started_before}
-use Rattle.cycle_engine.specs.Offered.{offered_with}
+use Rattle.cycle_engine.specs.Offered.{offered}
 use Rattle.async_bound.specs.Room.{count_below, is_usable}
 use Rattle.bounded_runs.specs.Runs.{EndSoon, IsPressed, IsRunOf, WaitsAt, is_ahead, is_inside, time_of}
 use Rattle.async_bound.proofs.Shared.{Contains-any}
@@ -44,9 +44,9 @@ module _ (sends : Instance → List ℕ) (layout : CycleLayout) (known : IsLayou
     (count : ℕ) (trace : List TimedFrame) (run : IsRunOf sends layout requests openings count trace)
     (at_most : (frame : DataFrame) → wire_length frame ≤ worst (length frame.bytes)) where
   -- a request that waits in the room of a cycle is offered
-  offered : (longest at cycle : ℕ) (request : Request) → IsRoom layout longest at cycle → cycle < count → WaitsAt requests trace longest at request
-      → offered_with sends layout requests openings (started_before at trace) at request.frame
-  offered longest at cycle request room below waits =
+  offered-request : (longest at cycle : ℕ) (request : Request) → IsRoom layout longest at cycle → cycle < count → WaitsAt requests trace longest at request
+      → offered sends layout requests openings (started_before at trace) at request.frame
+  offered-request longest at cycle request room below waits =
       let is = run.opened cycle below in (
         is.opening,
         is.among,
@@ -80,7 +80,7 @@ module _ (sends : Instance → List ℕ) (layout : CycleLayout) (known : IsLayou
         let below : at / layout.cycle < count = (div-lt_iff_lt-mul some_time).1 (omega (arith, before, within)) in
         let room = room-of layout longest at usable in
         let now = filled at (omega arith) before in
-        let busy = run.can_trace.busy at now.request.frame (omega (arith, before, within)) (offered longest at cycle now.request room below now.waits) in
+        let busy = run.can_trace.busy at now.request.frame (omega (arith, before, within)) (offered-request longest at cycle now.request room below now.waits) in
         let found = Contains-any (λ s. (s.start ≤ at) × (at < end_of s)) trace busy in
         let sent = found.0 in
         let covers = found.2 in
@@ -99,11 +99,11 @@ module _ (sends : Instance → List ℕ) (layout : CycleLayout) (known : IsLayou
         ] in
         let then_ = filled sent.start late (omega (arith, covers, before)) in
         let its : IsRoom layout longest sent.start cycle = record { open_ = opened; whole = omega (arith, room.whole, covers) } in
-        let least = All-contains (λ s. IsLeastOffered (offered_with sends layout requests openings) (started_before s.start trace) s.start s.frame) trace sent run.can_trace.least found.1 in
+        let least = All-contains (λ s. IsLeastOffered (offered sends layout requests openings) (started_before s.start trace) s.start s.frame) trace sent run.can_trace.least found.1 in
         record {
           sent = sent;
           among = found.1;
-          passed = then_.passing sent found.1 refl request (least.least then_.request.frame (offered longest sent.start cycle then_.request its below then_.waits));
+          passed = then_.passing sent found.1 refl request (least.least then_.request.frame (offered-request longest sent.start cycle then_.request its below then_.waits));
           from = covers.0;
           before = covers.1;
         }

@@ -15,7 +15,7 @@ use Rattle.trigger_codec.specs.Bytes.{second_frame, trigger_frame}
 use Rattle.async_window.specs.declared.request.Request.{Request}
 use Rattle.bus_line.specs.Trace.{end_of}
 use Rattle.node_model.specs.Opening.{start_of}
-use Rattle.cycle_engine.specs.Cycle.{IsRequestFrame, IsSlotFrame, RunsCycleWith, cycle_of, frames_in}
+use Rattle.cycle_engine.specs.Cycle.{IsRequestFrame, IsSlotFrame, RunsCycle, cycle_of, frames_in}
 use Rattle.bounded_runs.specs.Runs.{IsRunOf}
 use Rattle.async_bound.proofs.Shared.{Contains-here, Contains-cases, Contains-nil, Contains-filter, Contains-map}
 
@@ -54,7 +54,7 @@ module _ (sends : Instance → List ℕ) (layout : CycleLayout) (known : IsLayou
   eight-long frame eight = omega (arith, eight, at_most frame)
 
   module _ (opening : Opening) (narrow : width_of opening ≤ layout.window)
-      (runs : RunsCycleWith sends layout opening (frames_in layout opening.cycle trace)) where
+      (runs : RunsCycle sends layout opening (frames_in layout opening.cycle trace)) where
     abbrev frames : List TimedFrame
     frames = frames_in layout opening.cycle trace
 
@@ -113,7 +113,7 @@ module _ (sends : Instance → List ℕ) (layout : CycleLayout) (known : IsLayou
   in-cycle : (cycle : ℕ) → cycle < count → (sent : TimedFrame) → Contains trace sent → cycle_of layout sent ≡ cycle → IsApart cycle sent
   in-cycle cycle below sent has same =
       let is = run.opened cycle below in
-      let runs = All-contains (λ o. RunsCycleWith sends layout o (frames_in layout o.cycle trace)) openings is.opening run.runs is.among in
+      let runs = All-contains (λ o. RunsCycle sends layout o (frames_in layout o.cycle trace)) openings is.opening run.runs is.among in
       let here = Contains-filter (λ s. cycle_of layout s == is.opening.cycle) trace sent has (eq-eqb (cycle_of layout sent) is.opening.cycle (same ∙ sym is.number)) in
       subst (λ c. IsApart c sent) is.number (of-frame is.opening is.narrow runs sent here)
 

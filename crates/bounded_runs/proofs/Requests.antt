@@ -14,7 +14,7 @@ use Rattle.async_window.specs.declared.request.Request.{Request}
 use Rattle.async_window.specs.Waiting.{requests_of}
 use Rattle.bus_line.specs.Trace.{IsLeastOffered, started_before}
 use Rattle.node_model.specs.Offered.{trigger_frames}
-use Rattle.cycle_engine.specs.Offered.{offered_in_with, offered_with}
+use Rattle.cycle_engine.specs.Offered.{offered, offered_in}
 use Rattle.bounded_runs.specs.Runs.{IsRunOf}
 use Rattle.bounded_runs.proofs.Begun.{begun, begun-step, begun-zero}
 use Rattle.bounded_runs.proofs.Arrivals.{arrived, arrived-le, arrived-least}
@@ -36,7 +36,7 @@ module _ (sends : Instance → List ℕ) (layout : CycleLayout) (requests : List
     pub its_frame : sent.frame ≡ request.frame
 
   from-offer : (opening : Opening) (sent : TimedFrame) → least_asynchronous ≤ sent.frame.identifier
-      → offered_in_with sends layout requests opening (started_before sent.start trace) sent.start sent.frame → OfRequest sent
+      → offered_in sends layout requests opening (started_before sent.start trace) sent.start sent.frame → OfRequest sent
   from-offer opening sent high (inl trigger) =
       let low = All-contains (λ f. f.identifier ≤ 1) (trigger_frames layout opening) sent.frame
       (low-ids (nat_eq layout.slots 40) (trigger_frame opening.cycle (width_of opening) opening.mask) (second_frame opening.cycle opening.mask) (omega arith) (omega arith))
@@ -52,7 +52,7 @@ module _ (sends : Instance → List ℕ) (layout : CycleLayout) (requests : List
 
   pub of-request : (sent : TimedFrame) → Contains trace sent → least_asynchronous ≤ sent.frame.identifier → OfRequest sent
   of-request sent has high =
-      let least = All-contains (λ s. IsLeastOffered (offered_with sends layout requests openings) (started_before s.start trace) s.start s.frame) trace sent run.can_trace.least has in
+      let least = All-contains (λ s. IsLeastOffered (offered sends layout requests openings) (started_before s.start trace) s.start s.frame) trace sent run.can_trace.least has in
       from-offer least.offered.0 sent high least.offered.2
 
   pub some-long : All (λ s. 0 < s.len) trace

@@ -4,7 +4,6 @@ use Rattle.std.specs.List.{range_with_len}
 use Rattle.std.proofs.lemmas.List.FromFn.{get_or-range_with_len, length-range_with_len}
 use Rattle.std.proofs.lemmas.List.Elements.{All-append, All-cons, All-contains, All-nil}
 use Rattle.can_frame.specs.declared.data_frame.TimedFrame.{TimedFrame}
-use Rattle.requirement_table.specs.Instance.{Instance}
 use Rattle.requirement_table.specs.Opening.{Opening, width_of}
 use Rattle.admission_rules.specs.declared.Rules.{Rules}
 use Rattle.master_core.specs.declared.event.Event.{Event}
@@ -12,7 +11,8 @@ use Rattle.master_core.specs.declared.event.Event.TheVariants.{Submit, Look, Ope
 use Rattle.master_core.specs.History.{IsLegal, next_of, placed_of}
 use Rattle.master_core.specs.Openings.{opening_of, openings_after, openings_of}
 use Rattle.cycle_engine.specs.Cycle.{FitsWindow}
-use Rattle.kept_run.specs.Progress.{IsSetting, IsUnderWayWith, Setting}
+use Rattle.kept_run.specs.Progress.{IsUnderWay}
+use Rattle.kept_run.specs.Setting.{IsSetting, Setting}
 use Rattle.bounded_runs.specs.Runs.{IsRunOf}
 use Rattle.async_bound.proofs.Shared.{Contains-here, Contains-later, Contains-cases, Contains-nil}
 
@@ -48,9 +48,9 @@ module _ (laws : RunLaws) (setting : Setting) (known : IsSetting setting) where
       All-append Narrow (opening_of before event) (openings_after (before ++ event ∷ []) later)
       (narrow-one before event (laws.front setting.rules (before ++ event ∷ []) later moved)) (narrow-after (before ++ event ∷ []) later moved)
 
-  pub run-of : (sends : Instance → List ℕ) (history : List Event) (trace : List TimedFrame) → IsUnderWayWith sends setting history trace
-      → IsRunOf sends setting.layout setting.requests (openings_of history) (next_of history) trace
-  run-of sends history trace way = record {
+  pub run-of : (history : List Event) (trace : List TimedFrame) → IsUnderWay setting history trace
+      → IsRunOf setting.sends setting.layout setting.requests (openings_of history) (next_of history) trace
+  run-of history trace way = record {
     can_trace = way.can_trace;
     runs = way.cycles;
     opened = λ cycle below.

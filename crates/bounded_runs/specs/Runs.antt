@@ -9,8 +9,8 @@ use Rattle.async_window.specs.Waiting.{IsWaiting, frames_with, unsent_after}
 use Rattle.requirement_table.specs.Opening.{Opening, width_of}
 use Rattle.requirement_table.specs.Instance.{Instance}
 use Rattle.bus_line.specs.Trace.{end_of, started_before}
-use Rattle.cycle_engine.specs.Offered.{IsCanTraceWith}
-use Rattle.cycle_engine.specs.Cycle.{RunsCyclesWith}
+use Rattle.cycle_engine.specs.Offered.{IsCanTrace}
+use Rattle.cycle_engine.specs.Cycle.{RunsCycles}
 
 -- the cycle is one of the opened ones, with a synchronous window of at most the largest length
 pub record IsOpened (layout : CycleLayout) (openings : List Opening) (cycle : ℕ) : Type 0 where
@@ -22,8 +22,8 @@ pub record IsOpened (layout : CycleLayout) (openings : List Opening) (cycle : �
 -- a run of `count` cycles: its trace is that which arbitration decides, and each cycle sends what its opening says
 pub record IsRunOf (sends : Instance → List ℕ) (layout : CycleLayout) (requests : List Request) (openings : List Opening)
     (count : ℕ) (trace : List TimedFrame) : Type 0 where
-  pub can_trace : IsCanTraceWith sends layout requests openings count trace
-  pub runs : RunsCyclesWith sends layout openings trace
+  pub can_trace : IsCanTrace sends layout requests openings count trace
+  pub runs : RunsCycles sends layout openings trace
   pub opened : (cycle : ℕ) → cycle < count → IsOpened layout openings cycle
 
 -- of the requests of its identifier, behind the frames that started before the time, the request waits, and its longest

@@ -12,8 +12,9 @@ ghost use Rattle.master_core.specs.declared.event.Event.{Event};
 ghost use Rattle.master_core.specs.History.{next_of};
 ghost use Rattle.master_core.specs.Openings.{openings_of};
 ghost use Rattle.cycle_engine.specs.Offered.{SendsWhole};
-ghost use Rattle.kept_run.specs.Kept.{Kept, KeptWith};
-ghost use Rattle.kept_run.specs.Progress.{IsSetting, IsUnderWayWith, Setting};
+ghost use Rattle.kept_run.specs.Kept.{Kept};
+ghost use Rattle.kept_run.specs.Progress.{IsUnderWay};
+ghost use Rattle.kept_run.specs.Setting.{IsSetting, Setting};
 ghost use Rattle.async_bound.specs.declared.stream.Stream.{Stream};
 ghost use Rattle.async_bound.specs.Streams.{AreStreams, arrivals};
 ghost use Rattle.async_bound.specs.Room.{count_below, is_usable};
@@ -24,7 +25,7 @@ ghost use Rattle.bounded_runs.specs.Runs.{EndSoon, IsPressed, IsRunOf, StartsWit
 use async_bound::laws::fitting_is_bound;
 use bus_line::laws::{same_along, trace_laws};
 use can_frame::laws::wire_lengths;
-use cycle_engine::laws::{OneCycle, OpenedCycles, numbers_are_whole};
+use cycle_engine::laws::{OneCycle, OpenedCycles};
 use kept_run::laws::{beginning, calls_between, cycles_run, one_call_more};
 use master_core::laws::opened_cycles;
 
@@ -84,12 +85,12 @@ pub fn bounds_hold()
 /// So in a run that is under way: whatever changes were made and whatever slots were flagged, each request of a stream
 /// with a bound starts within it.
 pub fn runs_keep_bounds()
-    ensures run { (sends : Instance → List ℕ) (setting : Setting) (history : List Event) (trace : List TimedFrame)
-        → IsSetting setting → IsUnderWayWith sends setting history trace
-        → IsRunOf sends setting.layout setting.requests (openings_of history) (next_of history) trace }
-    ensures starts { (sends : Instance → List ℕ) (setting : Setting) (history : List Event) (trace : List TimedFrame)
+    ensures run { (setting : Setting) (history : List Event) (trace : List TimedFrame)
+        → IsSetting setting → IsUnderWay setting history trace
+        → IsRunOf setting.sends setting.layout setting.requests (openings_of history) (next_of history) trace }
+    ensures starts { (setting : Setting) (history : List Event) (trace : List TimedFrame)
         → (streams : List Stream) (stream : Stream) (span place : ℕ) (request : Request)
-        → IsSetting setting → IsUnderWayWith sends setting history trace
+        → IsSetting setting → IsUnderWay setting history trace
         → AreStreams streams → AreOfStreams streams setting.requests → Contains streams stream
         → IsLeastFitting setting.layout streams stream span
         → slice_get (requests_of setting.requests stream.id) place ≡ Some request
@@ -103,10 +104,9 @@ pub fn runs_keep_bounds()
 
 /// What is kept is under way: the CAN trace of a legal history sends in each cycle what its opening says.
 pub fn kept_is_under_way()
-    ensures under_way { (sends : Instance → List ℕ) (setting : Setting) (history : List Event)
-        → (trace : List TimedFrame) → IsSetting setting → SendsWhole sends
-        → KeptWith sends setting.rules setting.layout setting.requests history trace
-        → IsUnderWayWith sends setting history trace }
+    ensures under_way { (setting : Setting) (history : List Event) (trace : List TimedFrame)
+        → IsSetting setting → SendsWhole setting.sends → Kept setting history trace
+        → IsUnderWay setting history trace }
 {
     opened_cycles();
     cycles_run();
@@ -118,20 +118,12 @@ pub fn kept_is_under_way()
 }
 
 /// So in each run that is kept, each request of a stream with a bound starts within it: whatever changes were made,
-/// whatever slots were flagged, and whatever the other requests were. With `starts_with` an instance sends whatever
-/// bytes, if they are as many as its entry's length.
+/// whatever slots were flagged, and whatever the other requests were. An instance sends whatever bytes, if they are as
+/// many as its entry's length.
 pub fn kept_runs_are_in_time()
     ensures starts { (setting : Setting) (history : List Event) (trace : List TimedFrame)
         → (streams : List Stream) (stream : Stream) (span place : ℕ) (request : Request)
-        → IsSetting setting → Kept setting.rules setting.layout setting.requests history trace
-        → AreStreams streams → AreOfStreams streams setting.requests → Contains streams stream
-        → IsLeastFitting setting.layout streams stream span
-        → slice_get (requests_of setting.requests stream.id) place ≡ Some request
-        → request.at + span ≤ next_of history * setting.layout.cycle → StartsWithin trace place span request }
-    ensures starts_with { (sends : Instance → List ℕ) (setting : Setting) (history : List Event)
-        → (trace : List TimedFrame) (streams : List Stream) (stream : Stream) (span place : ℕ) (request : Request)
-        → IsSetting setting → SendsWhole sends
-        → KeptWith sends setting.rules setting.layout setting.requests history trace
+        → IsSetting setting → SendsWhole setting.sends → Kept setting history trace
         → AreStreams streams → AreOfStreams streams setting.requests → Contains streams stream
         → IsLeastFitting setting.layout streams stream span
         → slice_get (requests_of setting.requests stream.id) place ≡ Some request
@@ -139,5 +131,4 @@ pub fn kept_runs_are_in_time()
 {
     runs_keep_bounds();
     kept_is_under_way();
-    numbers_are_whole();
 }

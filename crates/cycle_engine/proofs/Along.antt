@@ -129,7 +129,7 @@ module _ (laws : NodeLaws) (layout : CycleLayout) (owners : List Owner) (request
   -- where the nodes offer nothing, nothing is offered on the bus
   NothingOffered-nodes : (before : Stationed) (sofar past : List TimedFrame) (nodes : List NodeState) (low high : ℕ) → told cycle_line before sofar ≡ nodes_alone layout nodes
       → Standing layout owners requests opening past nodes → NoTrigger layout opening past → start_of layout opening ≤ low → high ≤ end_of_cycle layout opening
-      → NothingOffered (offers_of cycle_line before) sofar low high → NothingOffered (offered_in layout requests opening) past low high
+      → NothingOffered (offers_of cycle_line before) sofar low high → NothingOffered (offered_in bytes_of layout requests opening) past low high
   NothingOffered-nodes before sofar past nodes low high now standing none begun within nothing at frame from early offered =
       let parts = parts_at past nodes at (omega (arith, begun, from)) (omega (arith, early, within)) standing in
       let one = some_by_nodes layout owners requests opening past at nodes parts standing.senders standing.owned (none at) frame offered in
@@ -139,7 +139,7 @@ module _ (laws : NodeLaws) (layout : CycleLayout) (owners : List Owner) (request
   IsNext-nodes : (before : Stationed) (sofar past : List TimedFrame) (nodes : List NodeState) (free : ℕ) (sent : TimedFrame) → told cycle_line before sofar ≡ nodes_alone layout nodes
       → Standing layout owners requests opening past nodes → NoTrigger layout opening past → start_of layout opening ≤ free
       → IsNext (offers_of cycle_line before) sofar free (end_of_cycle layout opening) sent
-      → IsNext (offered_in layout requests opening) past free (end_of_cycle layout opening) sent × (1 < sent.frame.identifier)
+      → IsNext (offered_in bytes_of layout requests opening) past free (end_of_cycle layout opening) sent × (1 < sent.frame.identifier)
   IsNext-nodes before sofar past nodes free sent now standing none begun next =
       let behind : start_of layout opening ≤ sent.start = omega (arith, begun, next.when_free) in
       let parts = parts_at past nodes sent.start behind next.within standing in
@@ -161,7 +161,7 @@ module _ (laws : NodeLaws) (layout : CycleLayout) (owners : List Owner) (request
   Follows-nodes : (before : Stationed) (sofar past : List TimedFrame) (nodes : List NodeState) (free : ℕ) (frames : List TimedFrame)
       → told cycle_line before sofar ≡ nodes_alone layout nodes → Standing layout owners requests opening past nodes → NoTrigger layout opening past → start_of layout opening ≤ free
       → Follows (offers_of cycle_line before) sofar free (end_of_cycle layout opening) frames
-      → Follows (offered_in layout requests opening) past free (end_of_cycle layout opening) frames
+      → Follows (offered_in bytes_of layout requests opening) past free (end_of_cycle layout opening) frames
       × Standing layout owners requests opening (past ++ frames) (heard_by frames nodes)
   Follows-nodes before sofar past nodes free [] now standing none begun nothing = (
     NothingOffered-nodes before sofar past nodes free (end_of_cycle layout opening) now standing none begun (omega arith) nothing,
@@ -232,7 +232,7 @@ module _ (laws : NodeLaws) (layout : CycleLayout) (owners : List Owner) (request
   -- the frames of the cycle are those that are offered in it, and the nodes stand behind them
   pub Follows-cycle : (frames : List TimedFrame)
       → Follows (offers_of cycle_line (announcing layout opening nodes)) [] (start_of layout opening) (end_of_cycle layout opening) frames
-      → Follows (offered_in layout requests opening) past (start_of layout opening) (end_of_cycle layout opening) frames
+      → Follows (offered_in bytes_of layout requests opening) past (start_of layout opening) (end_of_cycle layout opening) frames
       × Standing layout owners requests opening (past ++ frames) (heard_by frames nodes)
   Follows-cycle frames follows =
       let long = frames_long layout.slots opening.cycle (width_of opening) opening.mask in
@@ -246,8 +246,8 @@ module _ (laws : NodeLaws) (layout : CycleLayout) (owners : List Owner) (request
       (free_after (start_of layout opening) cut.sent) cut.later cut.now (Standing-trigger cut.sent cut.are cut.known) (NoTrigger-sent layout opening past cut.sent done) late cut.follows in
       let all = Follows-left layout opening bytes_of requests asynchronous past [] (trigger_frames layout opening) (start_of layout opening) (end_of_cycle layout opening) cut.sent cut.later left
       (omega arith) (omega (arith, long)) part (frames_short layout.slots opening.cycle (width_of opening) opening.mask laws.at_most) cut.are cut.at_once behind.0 in (
-        subst (Follows (offered_in layout requests opening) past (start_of layout opening) (end_of_cycle layout opening)) (sym cut.split)
-            (subst (λ front. Follows (offered_in layout requests opening) front (start_of layout opening) (end_of_cycle layout opening) (cut.sent ++ cut.later)) (append-nil past) all),
+        subst (Follows (offered_in bytes_of layout requests opening) past (start_of layout opening) (end_of_cycle layout opening)) (sym cut.split)
+            (subst (λ front. Follows (offered_in bytes_of layout requests opening) front (start_of layout opening) (end_of_cycle layout opening) (cut.sent ++ cut.later)) (append-nil past) all),
         subst (λ fs. Standing layout owners requests opening (past ++ fs) (heard_by fs nodes)) (sym cut.split)
             (subst (λ started. Standing layout owners requests opening started (heard_by (cut.sent ++ cut.later) nodes)) (append_assoc past cut.sent cut.later)
             (subst (Standing layout owners requests opening (past ++ cut.sent ++ cut.later)) (heard-twice cut.sent cut.later nodes) behind.1)),

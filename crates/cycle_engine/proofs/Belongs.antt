@@ -7,7 +7,7 @@ use Rattle.std.proofs.lemmas.List.Elements.{All-contains, All-contains_itself, A
 use Rattle.can_frame.specs.DataFrame.{DataFrame}
 use Rattle.can_frame.specs.declared.data_frame.TimedFrame.{TimedFrame}
 use Rattle.cycle_layout.specs.Layout.{CycleLayout}
-use Rattle.requirement_table.specs.Instance.{Instance}
+use Rattle.requirement_table.specs.Instance.{Instance, bytes_of}
 use Rattle.requirement_table.specs.Slots.{contains_slot, most_slots}
 use Rattle.requirement_table.specs.Table.{IsWellPlaced, instance_in}
 use Rattle.async_window.specs.declared.request.Owner.{Owner}
@@ -75,7 +75,7 @@ module _ (layout : CycleLayout) (owners : List Owner) (requests : List Request) 
       let contains = subst (Contains (identifiers_of node.number owners)) same (Contains-identifiers node.number owners own.owner own.owns (sym found.2)) in
       (node, found.1, inl (offers, contains))
 
-  pub IsOwn-slot : HaveSenders nodes opening → (frame : DataFrame) (slot : ℕ) → OffersSlot layout opening past at frame slot → IsOwn frame
+  pub IsOwn-slot : HaveSenders nodes opening → (frame : DataFrame) (slot : ℕ) → OffersSlot bytes_of layout opening past at frame slot → IsOwn frame
   IsOwn-slot senders frame slot offers =
       let sender = senders slot offers.known offers.flagged in
       let found = Contains-from_map (λ n. n.number) nodes sender.0.placed.entry.node sender.2 in

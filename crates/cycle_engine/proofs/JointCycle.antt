@@ -75,10 +75,10 @@ module _ (layout : CycleLayout) (requests : List Request) (mask cycle : ℕ) (pl
 
   -- the same is offered
   pub same-offered : (past : List TimedFrame) (at : ℕ) (frame : DataFrame)
-      → (offered_in layout requests joint past at frame) ↔ (offered_in layout requests plain past at frame)
+      → (offered_in bytes_of layout requests joint past at frame) ↔ (offered_in bytes_of layout requests plain past at frame)
   same-offered past at frame = (to, from)
     where
-      to : offered_in layout requests joint past at frame → offered_in layout requests plain past at frame
+      to : offered_in bytes_of layout requests joint past at frame → offered_in bytes_of layout requests plain past at frame
       to (inl trigger) = inl (record {
         begun = trigger.begun;
         within = trigger.within;
@@ -104,7 +104,7 @@ module _ (layout : CycleLayout) (requests : List Request) (mask cycle : ℕ) (pl
         },
       ))
 
-      from : offered_in layout requests plain past at frame → offered_in layout requests joint past at frame
+      from : offered_in bytes_of layout requests plain past at frame → offered_in bytes_of layout requests joint past at frame
       from (inl trigger) = inl (record {
         begun = trigger.begun;
         within = trigger.within;

@@ -9,6 +9,7 @@ use Rattle.cycle_layout.specs.Layout.{CycleLayout, IsLayout}
 use Rattle.requirement_table.specs.declared.entries.Order.{Order}
 use Rattle.requirement_table.specs.declared.entries.Placed.{Placed}
 use Rattle.requirement_table.specs.Table.{IsWellPlaced}
+use Rattle.requirement_table.specs.Instance.{bytes_of}
 use Rattle.trigger_codec.specs.Bytes.{triggers_with}
 use Rattle.async_window.specs.declared.request.Owner.{Owner}
 use Rattle.async_window.specs.declared.request.Request.{Request}
@@ -158,7 +159,7 @@ module _ (taken : (id : ℕ) (mail : List Mail) (other : ℕ)
 
     -- what is offered on the bus is what is offered with the list of the joint node
     pub offered-alike : (sofar : List TimedFrame) (at : ℕ) (frame : DataFrame)
-        → (offered_in layout requests (opening_of order (joint_entries known)) sofar at frame) ↔ (offered_in layout requests (opening_of order others) sofar at frame)
+        → (offered_in bytes_of layout requests (opening_of order (joint_entries known)) sofar at frame) ↔ (offered_in bytes_of layout requests (opening_of order others) sofar at frame)
     offered-alike =
         same-offered layout requests order.mask order.cycle known others
         (alike owners known count learnt open_then is-learnt layout whose requests others past order before-then)

@@ -12,6 +12,7 @@ use Rattle.async_window.specs.declared.request.Request.{Request}
 use Rattle.bus_line.specs.Trace.{IsLeastOffered}
 use Rattle.bus_line.specs.Stations.{IsOffered}
 use Rattle.requirement_table.specs.Opening.{Opening}
+use Rattle.requirement_table.specs.Instance.{bytes_of}
 use Rattle.node_model.specs.Node.{NodeState, node_frame, node_offer}
 use Rattle.node_model.specs.Offered.{OffersTrigger}
 use Rattle.node_model.specs.Own.{OffersLeastOwn, OffersOwn}
@@ -49,11 +50,11 @@ module _ (layout : CycleLayout) (owners : List Owner) (requests : List Request) 
       let least = least_of_part Own (λ id. Own (node_frame node at id)) (node_offer node at) frame own (All-contains (OffersLeastOwn layout owners requests opening past at) nodes node parts has) in
       (least.0, Contains-filter_map (λ n. node_offer n at) nodes node least.0 has least.1, least.2)
 
-  in_cycle : (number : ℕ) (frame : DataFrame) → OffersOwn number layout owners requests opening past at frame → offered_in layout requests opening past at frame
+  in_cycle : (number : ℕ) (frame : DataFrame) → OffersOwn number layout owners requests opening past at frame → offered_in bytes_of layout requests opening past at frame
   in_cycle number frame (inl own) = inr (inl own.0)
   in_cycle number frame (inr own) = inr (inr (own.0, own.1))
 
-  offered_is_own : (id : ℕ) → Contains (offered_by_nodes nodes at) id → offered_in layout requests opening past at (frame_by_nodes nodes at id)
+  offered_is_own : (id : ℕ) → Contains (offered_by_nodes nodes at) id → offered_in bytes_of layout requests opening past at (frame_by_nodes nodes at id)
   offered_is_own id has =
       let found = find-offered (λ n. node_offer n at) nodes id has in
       let node = found.0 in
@@ -61,15 +62,15 @@ module _ (layout : CycleLayout) (owners : List Owner) (requests : List Request) 
       let part = MatchOption-at_some ((frame : DataFrame) → Own frame → ⊥) (λ id. Own (node_frame node at id) × ((frame : DataFrame) → Own frame → id ≤ frame.identifier)) id found.2
       (All-contains (OffersLeastOwn layout owners requests opening past at) nodes node parts found.1) in
       let same : frame_by_nodes nodes at id ≡ node_frame node at id = ap (λ o. option_map_or (λ n. node_frame n at id) o (record { identifier = id; bytes = [] })) found.3 in
-      subst (offered_in layout requests opening past at) (sym same) (in_cycle node.number (node_frame node at id) part.0)
+      subst (offered_in bytes_of layout requests opening past at) (sym same) (in_cycle node.number (node_frame node at id) part.0)
 
-  pub is_own : (frame : DataFrame) → offered_in layout requests opening past at frame → IsOwn layout owners requests opening past at nodes frame
+  pub is_own : (frame : DataFrame) → offered_in bytes_of layout requests opening past at frame → IsOwn layout owners requests opening past at nodes frame
   is_own frame (inl trigger) = absurd (no_trigger frame trigger)
   is_own frame (inr (inl request)) = IsOwn-request layout owners requests opening past at nodes owned frame request
   is_own frame (inr (inr (slot, offers))) = IsOwn-slot layout owners requests opening past at nodes senders frame slot offers
 
   -- where something is offered on the bus, a node offers an identifier that is not greater
-  pub some_by_nodes : (frame : DataFrame) → offered_in layout requests opening past at frame
+  pub some_by_nodes : (frame : DataFrame) → offered_in bytes_of layout requests opening past at frame
       → (one : DataFrame) × IsOffered cycle_line (nodes_alone layout nodes) at one × (one.identifier ≤ frame.identifier)
   some_by_nodes frame offers =
       let low = own_is_offered frame (is_own frame offers) in
@@ -85,8 +86,8 @@ module _ (layout : CycleLayout) (owners : List Owner) (requests : List Request) 
 
   pub least_by_nodes : (frame : DataFrame) → IsOffered cycle_line (nodes_alone layout nodes) at frame
       → ((other : DataFrame) → IsOffered cycle_line (nodes_alone layout nodes) at other → frame.identifier ≤ other.identifier)
-      → IsLeastOffered (offered_in layout requests opening) past at frame
+      → IsLeastOffered (offered_in bytes_of layout requests opening) past at frame
   least_by_nodes frame offers least = record {
-    offered = subst (offered_in layout requests opening past at) (sym offers.framed) (offered_is_own frame.identifier offers.contends);
+    offered = subst (offered_in bytes_of layout requests opening past at) (sym offers.framed) (offered_is_own frame.identifier offers.contends);
     least = λ other is. let one = some_by_nodes other is in omega (arith, least one.0 one.1, one.2);
   }

@@ -15,6 +15,7 @@ mod OneCycle
 mod OneMore
 mod OneTrace
 mod Pending
+pub mod Shared
 mod SlotSums
 mod Waking
 mod Window

@@ -7,6 +7,7 @@ use Rattle.can_frame.specs.declared.data_frame.TimedFrame.{TimedFrame}
 use Rattle.cycle_layout.specs.Layout.{CycleLayout, IsLayout}
 use Rattle.requirement_table.specs.declared.entries.Order.{Order}
 use Rattle.requirement_table.specs.declared.entries.Placed.{Placed}
+use Rattle.requirement_table.specs.Instance.{bytes_of}
 use Rattle.trigger_codec.specs.Bytes.{triggers_with}
 use Rattle.async_window.specs.declared.request.Owner.{Owner}
 use Rattle.async_window.specs.declared.request.Request.{Request}
@@ -83,14 +84,14 @@ module _ (laws : NodeLaws) (layout : CycleLayout) (order : Order) (nodes : List 
     owned = before.bus.owned;
   }
 
-  both : Follows (offered_in layout requests (opening_of order placed)) past (order.cycle * layout.cycle) ((order.cycle + 1) * layout.cycle) frames
+  both : Follows (offered_in bytes_of layout requests (opening_of order placed)) past (order.cycle * layout.cycle) ((order.cycle + 1) * layout.cycle) frames
       × Standing layout owners requests (opening_of order placed) (past ++ frames) (heard_by frames nodes)
   both =
       Follows-cycle laws layout owners requests (opening_of order placed) before.bus.are_owners before.bus.well_placed past nodes is_waiting frames
       (subst (λ l. Follows (offers_of cycle_line (announced layout (order.cycle * layout.cycle) (triggers_with layout.slots order.cycle l order.mask) nodes))
       [] (order.cycle * layout.cycle) ((order.cycle + 1) * layout.cycle) frames) before.fits.width run.runs)
 
-  pub cycle_runs : Follows (offered_in layout requests (opening_of order placed)) past (order.cycle * layout.cycle) ((order.cycle + 1) * layout.cycle) frames
+  pub cycle_runs : Follows (offered_in bytes_of layout requests (opening_of order placed)) past (order.cycle * layout.cycle) ((order.cycle + 1) * layout.cycle) frames
   cycle_runs = both.0
 
   pub cycle_stands : IsBus layout owners requests placed (past ++ frames) (order.cycle + 1) (heard_by frames nodes)

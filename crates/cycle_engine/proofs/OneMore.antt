@@ -12,8 +12,8 @@ use Rattle.async_window.specs.declared.request.Request.{Request}
 use Rattle.bus_line.specs.Trace.{AgreeAlong, Follows, IsTrace, end_of, free_after}
 use Rattle.requirement_table.specs.Opening.{Opening}
 use Rattle.node_model.specs.Opening.{start_of, end_of_cycle}
-use Rattle.cycle_engine.specs.Cycle.{FitsWindow, FollowsTraceWith, RunsCycleWith, RunsCyclesWith, cycle_of, frames_in}
-use Rattle.cycle_engine.specs.Offered.{AreAsynchronous, IsCanTraceWith, SendsWhole, offered_in_with, offered_with}
+use Rattle.cycle_engine.specs.Cycle.{FitsWindow, FollowsTrace, RunsCycle, RunsCycles, cycle_of, frames_in}
+use Rattle.cycle_engine.specs.Offered.{AreAsynchronous, IsCanTrace, SendsWhole, offered, offered_in}
 use Rattle.cycle_engine.proofs.Belongs.{some_instance}
 use Rattle.cycle_engine.proofs.Lists.{Contains-here, Contains-later}
 use Rattle.cycle_engine.proofs.OneTrace.{in_cycle}
@@ -51,22 +51,22 @@ free_after-begun low from (sent ∷ later) late begun =
 -- the laws of traces on which this stands
 pub record TraceLaws (sends : Instance → List ℕ) : Type 0 where
   pub one_by_one : (layout : CycleLayout) (requests : List Request) (openings : List Opening) (until : ℕ) (trace : List TimedFrame)
-      → IsTrace (offered_with sends layout requests openings) until trace ↔ Follows (offered_with sends layout requests openings) [] 0 until trace
+      → IsTrace (offered sends layout requests openings) until trace ↔ Follows (offered sends layout requests openings) [] 0 until trace
   pub joined : (layout : CycleLayout) (requests : List Request) (openings : List Opening) (past : List TimedFrame) (free middle until : ℕ) (front back : List TimedFrame)
-      → middle ≤ until → Follows (offered_with sends layout requests openings) past free middle front
-      → Follows (offered_with sends layout requests openings) (past ++ front) (max middle (free_after free front)) until back
-      → Follows (offered_with sends layout requests openings) past free until (front ++ back)
+      → middle ≤ until → Follows (offered sends layout requests openings) past free middle front
+      → Follows (offered sends layout requests openings) (past ++ front) (max middle (free_after free front)) until back
+      → Follows (offered sends layout requests openings) past free until (front ++ back)
   pub more : (layout : CycleLayout) (requests : List Request) (openings others : List Opening) (past other_past : List TimedFrame) (free until : ℕ) (frames : List TimedFrame)
-      → AgreeAlong (offered_with sends layout requests openings) (offered_with sends layout requests others) past other_past free until frames
-      → Follows (offered_with sends layout requests openings) past free until frames → Follows (offered_with sends layout requests others) other_past free until frames
+      → AgreeAlong (offered sends layout requests openings) (offered sends layout requests others) past other_past free until frames
+      → Follows (offered sends layout requests openings) past free until frames → Follows (offered sends layout requests others) other_past free until frames
   pub one : (layout : CycleLayout) (requests : List Request) (opening : Opening) (others : List Opening) (past other_past : List TimedFrame) (free until : ℕ) (frames : List TimedFrame)
-      → AgreeAlong (offered_in_with sends layout requests opening) (offered_with sends layout requests others) past other_past free until frames
-      → Follows (offered_in_with sends layout requests opening) past free until frames → Follows (offered_with sends layout requests others) other_past free until frames
+      → AgreeAlong (offered_in sends layout requests opening) (offered sends layout requests others) past other_past free until frames
+      → Follows (offered_in sends layout requests opening) past free until frames → Follows (offered sends layout requests others) other_past free until frames
   pub within : (layout : CycleLayout) (requests : List Request) (opening : Opening) (past : List TimedFrame) (free until : ℕ) (frames : List TimedFrame)
-      → Follows (offered_in_with sends layout requests opening) past free until frames → All (λ sent. (free ≤ sent.start) × (sent.start < until)) frames
+      → Follows (offered_in sends layout requests opening) past free until frames → All (λ sent. (free ≤ sent.start) × (sent.start < until)) frames
 
 module _ (sends : Instance → List ℕ) (layout : CycleLayout) (known : IsLayout layout) (requests : List Request) (openings : List Opening) (opening : Opening) (trace frames : List TimedFrame)
-    (behind : FollowsTraceWith sends layout requests openings opening trace frames) where
+    (behind : FollowsTrace sends layout requests openings opening trace frames) where
   abbrev with_it : List Opening
   with_it = openings ++ opening ∷ []
 
@@ -80,19 +80,19 @@ module _ (sends : Instance → List ℕ) (layout : CycleLayout) (known : IsLayou
   some_time = omega (arith, known.cycle_range.above)
 
   -- below the cycle's start, the opening offers nothing
-  pub agree-before : AgreeAlong (offered_with sends layout requests openings) (offered_with sends layout requests with_it) [] [] 0 start trace
+  pub agree-before : AgreeAlong (offered sends layout requests openings) (offered sends layout requests with_it) [] [] 0 start trace
   agree-before front back at frame split from early = (
     λ offer. (offer.0, Contains-append_left openings (opening ∷ []) offer.0 offer.1, offer.2),
     λ offer. elim (Contains-push_cases openings opening offer.0 offer.1) [
       | inl before ↦ (offer.0, before, offer.2)
       | inr is ↦
-          let time = in_cycle sends layout requests known opening front at frame (subst (λ o. offered_in_with sends layout requests o front at frame) (sym is) offer.2) in
+          let time = in_cycle sends layout requests known opening front at frame (subst (λ o. offered_in sends layout requests o front at frame) (sym is) offer.2) in
           absurd (omega (arith, time.0, early))
     ],
   )
 
   -- from its start on, no other opening offers anything
-  pub agree-after : TraceLaws sends → AgreeAlong (offered_in_with sends layout requests opening) (offered_with sends layout requests with_it) trace trace start ends frames
+  pub agree-after : TraceLaws sends → AgreeAlong (offered_in sends layout requests opening) (offered sends layout requests with_it) trace trace start ends frames
   agree-after laws front back at frame split from early = (
     λ offer. (opening, Contains-push openings opening, offer),
     λ offer. elim (Contains-push_cases openings opening offer.0 offer.1) [
@@ -104,7 +104,7 @@ module _ (sends : Instance → List ℕ) (layout : CycleLayout) (known : IsLayou
           subst (All (λ s. start ≤ s.start)) split (λ k d within. (laws.within layout requests opening trace start ends frames behind.follows k d within).0) in
           let late = free_after-begun start start front (omega arith) (All-front (λ s. start ≤ s.start) front back begun) in
           absurd (omega (arith, time.1, over, from, late))
-      | inr is ↦ subst (λ o. offered_in_with sends layout requests o (trace ++ front) at frame) (sym is) offer.2
+      | inr is ↦ subst (λ o. offered_in sends layout requests o (trace ++ front) at frame) (sym is) offer.2
     ],
   )
 
@@ -112,7 +112,7 @@ module _ (sends : Instance → List ℕ) (layout : CycleLayout) (known : IsLayou
   longer = omega arith
 
   -- the trace with the frames of the cycle is the CAN trace
-  pub more-can_trace : TraceLaws sends → IsCanTraceWith sends layout requests with_it (opening.cycle + 1) (trace ++ frames)
+  pub more-can_trace : TraceLaws sends → IsCanTrace sends layout requests with_it (opening.cycle + 1) (trace ++ frames)
   more-can_trace laws =
       let before = (laws.one_by_one layout requests openings start trace).0 behind.can_trace in
       let front = laws.more layout requests openings with_it [] [] 0 start trace agree-before before in
@@ -120,7 +120,7 @@ module _ (sends : Instance → List ℕ) (layout : CycleLayout) (known : IsLayou
       let free : max start (free_after 0 trace) ≡ start = (let early = free_after-ended 0 start trace (omega arith) behind.ended in omega arith) in
       (laws.one_by_one layout requests with_it ends (trace ++ frames)).1
       (laws.joined layout requests with_it [] 0 start ends trace frames longer front
-      (subst (λ from. Follows (offered_with sends layout requests with_it) trace from ends frames) (sym free) back))
+      (subst (λ from. Follows (offered sends layout requests with_it) trace from ends frames) (sym free) back))
 
   is_fit : AreShort → FitsWindow layout opening → IsFit layout opening
   is_fit short fits = record {
@@ -129,10 +129,10 @@ module _ (sends : Instance → List ℕ) (layout : CycleLayout) (known : IsLayou
     room = (let room = known.room in let width = fits.width in omega arith);
   }
 
-  pub more-runs : AreShort → SendsWhole sends → AreAsynchronous requests → FitsWindow layout opening → RunsCycleWith sends layout opening frames
+  pub more-runs : AreShort → SendsWhole sends → AreAsynchronous requests → FitsWindow layout opening → RunsCycle sends layout opening frames
   more-runs short whole asynchronous fits = runs_cycle sends whole layout requests opening trace frames (is_fit short fits) asynchronous behind.can_trace.within behind.follows
 
-  all-ended : RunsCycleWith sends layout opening frames → All (λ sent. end_of sent ≤ ends) frames
+  all-ended : RunsCycle sends layout opening frames → All (λ sent. end_of sent ≤ ends) frames
   all-ended runs =
       let trigger : end_of runs.trigger ≤ ends = (let e = runs.ends in omega arith) in
       subst (All (λ sent. end_of sent ≤ ends)) (sym runs.all_frames)
@@ -162,18 +162,18 @@ module _ (sends : Instance → List ℕ) (layout : CycleLayout) (known : IsLayou
   abbrev is_in : ℕ → TimedFrame → Bool
   is_in cycle sent = eqb (cycle_of layout sent) cycle
 
-  pub more-cycles : TraceLaws sends → AreShort → SendsWhole sends → AreAsynchronous requests → FitsWindow layout opening → RunsCyclesWith sends layout openings trace → RunsCyclesWith sends layout with_it (trace ++ frames)
+  pub more-cycles : TraceLaws sends → AreShort → SendsWhole sends → AreAsynchronous requests → FitsWindow layout opening → RunsCycles sends layout openings trace → RunsCycles sends layout with_it (trace ++ frames)
   more-cycles laws short whole asynchronous fits cycles =
-      All-push (λ o. RunsCycleWith sends layout o (frames_in layout o.cycle (trace ++ frames))) openings opening
+      All-push (λ o. RunsCycle sends layout o (frames_in layout o.cycle (trace ++ frames))) openings opening
       (λ k d within.
       let o : Opening = get_or openings k d in
       let below = behind.below k d within in
       let none : frames_in layout o.cycle frames ≡ [] = filter-none (is_in o.cycle) frames (λ s among. ne_eqb _ _ (λ same. let is = in-cycle laws s among in omega arith)) in
       let same : frames_in layout o.cycle (trace ++ frames) ≡ frames_in layout o.cycle trace =
       filter-append (is_in o.cycle) trace frames ∙ ap (λ l. frames_in layout o.cycle trace ++ l) none ∙ append-nil _ in
-      subst (RunsCycleWith sends layout o) (sym same) (cycles k d within))
+      subst (RunsCycle sends layout o) (sym same) (cycles k d within))
       (let none : frames_in layout opening.cycle trace ≡ [] = filter-none (is_in opening.cycle) trace (λ s among. ne_eqb _ _ (λ same. let is = before-cycle s among in omega arith)) in
       let all : frames_in layout opening.cycle frames ≡ frames = filter-all (is_in opening.cycle) frames (λ s among. eq-eqb _ _ (in-cycle laws s among)) in
       let same : frames_in layout opening.cycle (trace ++ frames) ≡ frames =
       filter-append (is_in opening.cycle) trace frames ∙ ap (λ l. l ++ frames_in layout opening.cycle frames) none ∙ all in
-      subst (RunsCycleWith sends layout opening) (sym same) (more-runs short whole asynchronous fits))
+      subst (RunsCycle sends layout opening) (sym same) (more-runs short whole asynchronous fits))

@@ -13,8 +13,8 @@ use Rattle.bus_line.specs.Trace.{IsDetermined}
 use Rattle.requirement_table.specs.Instance.{Instance}
 use Rattle.requirement_table.specs.Opening.{Opening, width_of}
 use Rattle.node_model.specs.Opening.{start_of, end_of_cycle}
-use Rattle.node_model.specs.Offered.{OffersTrigger, OffersRequest, OffersSlotWith, bytes_sent, trigger_frames}
-use Rattle.cycle_engine.specs.Offered.{AreAsynchronous, AreOfDistinctCycles, offered_in_with, offered_with}
+use Rattle.node_model.specs.Offered.{OffersTrigger, OffersRequest, OffersSlot, bytes_sent, trigger_frames}
+use Rattle.cycle_engine.specs.Offered.{AreAsynchronous, AreOfDistinctCycles, offered, offered_in}
 use Rattle.cycle_engine.proofs.Lists.{Contains-slice_get, same_by_number}
 use Rattle.cycle_engine.proofs.TriggerFrames.{low_ids, rising}
 
@@ -42,7 +42,7 @@ is_asynchronous requests past id request all first =
 module _ (sends : Instance → List ℕ) (layout : CycleLayout) (requests : List Request) where
   -- what is offered in a cycle is offered at a time of the cycle
   pub in_cycle : IsLayout layout → (opening : Opening) (past : List TimedFrame) (at : ℕ) (frame : DataFrame)
-      → offered_in_with sends layout requests opening past at frame → (start_of layout opening ≤ at) × (at < end_of_cycle layout opening)
+      → offered_in sends layout requests opening past at frame → (start_of layout opening ≤ at) × (at < end_of_cycle layout opening)
   in_cycle is opening past at frame (inl trigger) =
       let longer = add-mul opening.cycle 1 layout.cycle in
       (trigger.begun, omega (arith, trigger.within, longer, is.room))
@@ -79,15 +79,15 @@ module _ (sends : Instance → List ℕ) (layout : CycleLayout) (requests : List
       let request : is_one.request ≡ is_other.request = Some-same is_one.request is_other.request (sym first_one ∙ first_other) in
       is_one.its_frame ∙ ap (λ r. r.frame) request ∙ sym is_other.its_frame
 
-  same_slot : (opening : Opening) (past : List TimedFrame) (at : ℕ) (one other : DataFrame) (slot also : ℕ) → OffersSlotWith sends layout opening past at one slot
-      → OffersSlotWith sends layout opening past at other also → one.identifier ≡ other.identifier → one ≡ other
+  same_slot : (opening : Opening) (past : List TimedFrame) (at : ℕ) (one other : DataFrame) (slot also : ℕ) → OffersSlot sends layout opening past at one slot
+      → OffersSlot sends layout opening past at other also → one.identifier ≡ other.identifier → one ≡ other
   same_slot opening past at one other slot also is_one is_other same =
       let slots_same : slot ≡ also = omega (arith, is_one.identifier, is_other.identifier, same) in
       let bytes_other = subst (λ s. bytes_sent sends opening s ≡ Some other.bytes) (sym slots_same) is_other.bytes in
       same_frame one other same (Some-same one.bytes other.bytes (sym is_one.bytes ∙ bytes_other))
 
   same_in_cycle : AreAsynchronous requests → (opening : Opening) (past : List TimedFrame) (at : ℕ) (one other : DataFrame)
-      → offered_in_with sends layout requests opening past at one → offered_in_with sends layout requests opening past at other → one.identifier ≡ other.identifier → one ≡ other
+      → offered_in sends layout requests opening past at one → offered_in sends layout requests opening past at other → one.identifier ≡ other.identifier → one ≡ other
   same_in_cycle all opening past at one other (inl a) (inl b) same = same_trigger opening past at one other a b same
   same_in_cycle all opening past at one other (inl a) (inr (inl b)) same =
       absurd (omega (arith, same, trigger_id opening past at one a, request_id all opening past at other b))
@@ -106,10 +106,10 @@ module _ (sends : Instance → List ℕ) (layout : CycleLayout) (requests : List
 
   -- a time belongs to one opening
   pub IsDetermined-offered : IsLayout layout → AreAsynchronous requests → (openings : List Opening) → AreOfDistinctCycles openings
-      → IsDetermined (offered_with sends layout requests openings)
+      → IsDetermined (offered sends layout requests openings)
   IsDetermined-offered is all openings distinct past at one other (opening, in_one, is_one) (also, in_other, is_other) same =
       let low = in_cycle is opening past at one is_one in
       let high = in_cycle is also past at other is_other in
       let cycles = same_cycle opening.cycle also.cycle layout.cycle at low.0 low.1 high.0 high.1 in
       let openings_same = same_by_number (λ o. o.cycle) openings opening also distinct in_one in_other cycles in
-      same_in_cycle all opening past at one other is_one (subst (λ o. offered_in_with sends layout requests o past at other) (sym openings_same) is_other) same
+      same_in_cycle all opening past at one other is_one (subst (λ o. offered_in sends layout requests o past at other) (sym openings_same) is_other) same

@@ -16,7 +16,7 @@ use Rattle.requirement_table.specs.Opening.{Opening, width_of}
 use Rattle.node_model.specs.Opening.{start_of}
 use Rattle.node_model.specs.Node.{opening_identifier}
 use Rattle.node_model.specs.Offered.{OffersRequest, OffersTrigger, trigger_frames}
-use Rattle.cycle_engine.specs.Offered.{offered_in_with}
+use Rattle.cycle_engine.specs.Offered.{offered_in}
 use Rattle.cycle_engine.proofs.Lists.{AllPairs-cons, AllPairs-head, AllPairs-tail, Contains-cases, Contains-from_map, Contains-here, Contains-later, Contains-nil}
 
 -- The frames themselves
@@ -201,7 +201,7 @@ module _ (layout : CycleLayout) (opening : Opening) where
   module _ (sends : Instance → List ℕ) (requests : List Request) (past done : List TimedFrame) (frame : DataFrame) (left : List DataFrame) (sofar : AreLeft past done (frame ∷ left))
       (asynchronous : (before : List TimedFrame) (at : ℕ) (other : DataFrame) → OffersRequest layout requests opening before at other → 1 < other.identifier) where
     -- the first of those that are left has the least identifier of all frames that are offered
-    pub least_left : (at : ℕ) (other : DataFrame) → offered_in_with sends layout requests opening (past ++ done) at other → frame.identifier ≤ other.identifier
+    pub least_left : (at : ℕ) (other : DataFrame) → offered_in sends layout requests opening (past ++ done) at other → frame.identifier ≤ other.identifier
     least_left at other (inl trigger) = elim (Contains-cases frame left other (is_left past done (frame ∷ left) sofar other at trigger)) [
       | inl same ↦ omega (arith, ap (λ f. f.identifier) same)
       | inr later ↦
@@ -214,14 +214,14 @@ module _ (layout : CycleLayout) (opening : Opening) where
 
     -- it is sent at once, and no other frame
     pub next_left : (free until : ℕ) (sent : TimedFrame) → start_of layout opening ≤ free → free < start_of layout opening + trigger_part layout
-        → IsNext (offered_in_with sends layout requests opening) (past ++ done) free until sent → StartAt free sent × (sent.frame ≡ frame)
+        → IsNext (offered_in sends layout requests opening) (past ++ done) free until sent → StartAt free sent × (sent.frame ≡ frame)
     next_left free until sent late early next =
         let offer = offers_left past done (frame ∷ left) sofar frame free (Contains-here frame left) late early in
         let start : sent.start ≡ free = elim (cases_lt free sent.start) [
           | inl gap ↦ absurd (next.first free frame (omega arith) gap (inl offer))
           | inr no_gap ↦ omega (arith, no_gap, next.when_free)
         ] in
-        let low : sent.frame.identifier ≤ frame.identifier = next.least.least frame (subst (λ at. offered_in_with sends layout requests opening (past ++ done) at frame) (sym start) (inl offer)) in
+        let low : sent.frame.identifier ≤ frame.identifier = next.least.least frame (subst (λ at. offered_in sends layout requests opening (past ++ done) at frame) (sym start) (inl offer)) in
         let is_first : frame.identifier ≤ 1 = is_low past done (frame ∷ left) sofar frame (Contains-here frame left) in (
           record { start = start; whole = next.whole },
           elim next.least.offered [
@@ -241,13 +241,13 @@ module _ (layout : CycleLayout) (opening : Opening) where
 
     -- and the other way round
     pub is_next : (free until : ℕ) (sent : TimedFrame) → start_of layout opening ≤ free → free < start_of layout opening + trigger_part layout → free < until
-        → StartAt free sent → sent.frame ≡ frame → IsNext (offered_in_with sends layout requests opening) (past ++ done) free until sent
+        → StartAt free sent → sent.frame ≡ frame → IsNext (offered_in sends layout requests opening) (past ++ done) free until sent
     is_next free until sent late early within starts is = record {
       when_free = omega (arith, starts.start);
       within = omega (arith, starts.start, within);
       first = λ at other from before offered. absurd (omega (arith, from, before, starts.start));
       least = record {
-        offered = subst (λ f. offered_in_with sends layout requests opening (past ++ done) sent.start f) (sym is)
+        offered = subst (λ f. offered_in sends layout requests opening (past ++ done) sent.start f) (sym is)
             (inl (offers_left past done (frame ∷ left) sofar frame sent.start (Contains-here frame left) (omega (arith, starts.start, late)) (omega (arith, starts.start, early))));
         least = λ other offered. subst (λ f. f.identifier ≤ other.identifier) (sym is) (least_left sent.start other offered);
       };
@@ -258,7 +258,7 @@ module _ (layout : CycleLayout) (opening : Opening) where
   module _ (sends : Instance → List ℕ) (requests : List Request)
       (asynchronous : (before : List TimedFrame) (at : ℕ) (other : DataFrame) → OffersRequest layout requests opening before at other → 1 < other.identifier) where
     abbrev offers : Offers
-    offers = offered_in_with sends layout requests opening
+    offers = offered_in sends layout requests opening
 
     abbrev part_ends : ℕ
     part_ends = start_of layout opening + trigger_part layout

@@ -22,10 +22,10 @@ use Rattle.async_window.specs.declared.request.Request.{Request}
 use Rattle.bus_line.specs.Trace.{end_of, Follows, IsNext, free_after}
 use Rattle.requirement_table.specs.Opening.{Opening, width_of}
 use Rattle.node_model.specs.Opening.{start_of, end_of_cycle, window_start}
-use Rattle.node_model.specs.Offered.{OffersRequest, OffersSlotWith, bytes_sent, trigger_frames}
+use Rattle.node_model.specs.Offered.{OffersRequest, OffersSlot, bytes_sent, trigger_frames}
 use Rattle.node_model.specs.Own.{was_sent}
-use Rattle.cycle_engine.specs.Cycle.{IsRequestFrame, IsSentOnceWith, IsSlotFrame, RunsCycleWith, of_slot}
-use Rattle.cycle_engine.specs.Offered.{AreAsynchronous, SendsWhole, offered_in_with}
+use Rattle.cycle_engine.specs.Cycle.{IsRequestFrame, IsSentOnce, IsSlotFrame, RunsCycle, of_slot}
+use Rattle.cycle_engine.specs.Offered.{AreAsynchronous, SendsWhole, offered_in}
 use Rattle.cycle_engine.proofs.Lists.{All-from_map}
 use Rattle.cycle_engine.proofs.OneTrace.{is_asynchronous, request_id}
 use Rattle.cycle_engine.proofs.TriggerFrames.{AreLeft-all, AtOnce, NoTrigger, NoTrigger-more, NoTrigger-sent, cut-left, few_frames, frames_long, frames_short, free_after-later, low_ids}
@@ -143,14 +143,14 @@ of-sent P sent frames are all = All-from_map (λ s. s.frame) P sent (subst (All 
 module _ (sends : Instance → List ℕ) (whole : SendsWhole sends) where
   -- these frames, after the frames `past`, send each pending slot once and no other slot
   record SendsPending (layout : CycleLayout) (opening : Opening) (past frames : List TimedFrame) : Type 0 where
-    each : (slot : ℕ) → slot < most_slots → is_pending layout opening past slot ≡ true → IsSentOnceWith sends layout opening frames slot
+    each : (slot : ℕ) → slot < most_slots → is_pending layout opening past slot ≡ true → IsSentOnce sends layout opening frames slot
     none : (slot : ℕ) → slot < most_slots → is_pending layout opening past slot ≡ false → of_slot slot frames ≡ []
     all : AllByRecursion (IsLaterFrame layout opening) frames
 
   -- a pending slot is offered at any time in the window
   offers_pending : (layout : CycleLayout) (opening : Opening) (past : List TimedFrame) (slot at : ℕ) → IsFit layout opening
       → slot < most_slots → is_pending layout opening past slot ≡ true → window_start layout opening ≤ at → at < end_of_cycle layout opening
-      → (frame : DataFrame) × OffersSlotWith sends layout opening past at frame slot
+      → (frame : DataFrame) × OffersSlot sends layout opening past at frame slot
   offers_pending layout opening past slot at fit known pending late early =
       let parts = and_parts (contains_slot opening.mask slot) _ pending in
       let p = fit.present slot known parts.0 in (
@@ -169,7 +169,7 @@ module _ (sends : Instance → List ℕ) (whole : SendsWhole sends) where
 
   -- an offered slot is pending
   pending-offered : (layout : CycleLayout) (opening : Opening) (past : List TimedFrame) (at slot : ℕ) (frame : DataFrame)
-      → OffersSlotWith sends layout opening past at frame slot → is_pending layout opening past slot ≡ true
+      → OffersSlot sends layout opening past at frame slot → is_pending layout opening past slot ≡ true
   pending-offered layout opening past at slot frame o =
       and_from _ _ o.flagged (not_from_false _ (was_sent-from_unsent layout opening past slot o.unsent))
 
@@ -189,8 +189,8 @@ module _ (sends : Instance → List ℕ) (whole : SendsWhole sends) where
   -- the next frame of the window starts as soon as the bus is free and the window has begun
   starts_now : (layout : CycleLayout) (requests : List Request) (opening : Opening) (past : List TimedFrame) (free now : ℕ) (sent : TimedFrame) (slot : ℕ)
       → IsFit layout opening → free ≤ now → window_start layout opening ≤ now → (now ≡ free) ⊎ (now ≡ window_start layout opening)
-      → IsNext (offered_in_with sends layout requests opening) past free (end_of_cycle layout opening) sent
-      → OffersSlotWith sends layout opening past sent.start sent.frame slot → sent.start ≡ now
+      → IsNext (offered_in sends layout requests opening) past free (end_of_cycle layout opening) sent
+      → OffersSlot sends layout opening past sent.start sent.frame slot → sent.start ≡ now
   starts_now layout requests opening past free now sent slot fit is_free in_window which next offer =
       let no_later : sent.start ≤ now = elim (cases_lt now sent.start) [
         | inl gap ↦
@@ -206,7 +206,7 @@ module _ (sends : Instance → List ℕ) (whole : SendsWhole sends) where
 
   -- the frame that starts now, and those after it
   joined : (layout : CycleLayout) (opening : Opening) (past : List TimedFrame) (sent : TimedFrame) (slot : ℕ) (later : List TimedFrame)
-      → OffersSlotWith sends layout opening past sent.start sent.frame slot → is_pending layout opening past slot ≡ true
+      → OffersSlot sends layout opening past sent.start sent.frame slot → is_pending layout opening past slot ≡ true
       → start_of layout opening ≤ sent.start → end_of sent ≤ end_of_cycle layout opening
       → SendsPending layout opening (past ++ sent ∷ []) later → SendsPending layout opening past (sent ∷ later)
   joined layout opening past sent slot later offer pending late ends rest =
@@ -282,7 +282,7 @@ module _ (sends : Instance → List ℕ) (whole : SendsWhole sends) where
       → IsFit layout opening → AreAsynchronous requests → NoTrigger layout opening past → start_of layout opening ≤ free → free ≤ now → window_start layout opening ≤ now
       → (now ≡ free) ⊎ (now ≡ window_start layout opening)
       → now + pending_width layout opening past ≤ end_of_cycle layout opening
-      → Follows (offered_in_with sends layout requests opening) past free (end_of_cycle layout opening) frames
+      → Follows (offered_in sends layout requests opening) past free (end_of_cycle layout opening) frames
       → SendsPending layout opening past frames
   sends_pending layout requests opening past free now [] fit asynchronous no_trigger begun is_free in_window which room nothing = record {
     each = λ slot known pending.
@@ -310,7 +310,7 @@ module _ (sends : Instance → List ℕ) (whole : SendsWhole sends) where
               (record { identifier = frame.identifier; after = frame.after; before = (let b = frame.before in omega arith) }) rest
           | inr of_slot ↦
               let slot : ℕ = of_slot.0 in
-              let offer : OffersSlotWith sends layout opening past sent.start sent.frame slot = of_slot.1 in
+              let offer : OffersSlot sends layout opening past sent.start sent.frame slot = of_slot.1 in
               let pending = pending-offered layout opening past sent.start slot sent.frame offer in
               let wide = pending_width-positive layout opening past slot fit offer.known pending in
               let at_now : sent.start ≡ now = starts_now layout requests opening past free now sent slot fit is_free in_window which follows.0 offer in
@@ -328,8 +328,8 @@ module _ (sends : Instance → List ℕ) (whole : SendsWhole sends) where
       → All (λ x. x.start < start_of layout opening) past
       → (sent later : List TimedFrame) → frames ≡ sent ++ later → map (λ s. s.frame) sent ≡ trigger_frames layout opening → AtOnce (start_of layout opening) sent
       → NoTrigger layout opening (past ++ sent)
-      → Follows (offered_in_with sends layout requests opening) (past ++ sent) (free_after (start_of layout opening) sent) (end_of_cycle layout opening) later
-      → RunsCycleWith sends layout opening frames
+      → Follows (offered_in sends layout requests opening) (past ++ sent) (free_after (start_of layout opening) sent) (end_of_cycle layout opening) later
+      → RunsCycle sends layout opening frames
   cycle-of layout requests opening past frames fit asynchronous before [] later split are at_once no_trigger follows = absurd (cc)
   cycle-of layout requests opening past frames fit asynchronous before (trigger ∷ second) later split are at_once no_trigger follows =
       let sent : List TimedFrame = trigger ∷ second in
@@ -369,8 +369,8 @@ module _ (sends : Instance → List ℕ) (whole : SendsWhole sends) where
   pub runs_cycle : (layout : CycleLayout) (requests : List Request) (opening : Opening) (past frames : List TimedFrame) → IsFit layout opening
       → AreAsynchronous requests
       → All (λ x. x.start < start_of layout opening) past
-      → Follows (offered_in_with sends layout requests opening) past (start_of layout opening) (end_of_cycle layout opening) frames
-      → RunsCycleWith sends layout opening frames
+      → Follows (offered_in sends layout requests opening) past (start_of layout opening) (end_of_cycle layout opening) frames
+      → RunsCycle sends layout opening frames
   runs_cycle layout requests opening past frames fit asynchronous before follows =
       let high : (earlier : List TimedFrame) (at : ℕ) (other : DataFrame) → OffersRequest layout requests opening earlier at other → 1 < other.identifier =
       λ earlier at other request. omega (arith, request_id sends layout requests asynchronous opening earlier at other request) in
@@ -378,5 +378,5 @@ module _ (sends : Instance → List ℕ) (whole : SendsWhole sends) where
       let long = frames_long layout.slots opening.cycle (width_of opening) opening.mask in
       let cut = cut-left layout opening sends requests high past [] (trigger_frames layout opening) (start_of layout opening) (end_of_cycle layout opening) frames
       (AreLeft-all layout opening past before) (omega arith) (omega (arith, long)) (omega (arith, fit.room)) short
-      (subst (λ front. Follows (offered_in_with sends layout requests opening) front (start_of layout opening) (end_of_cycle layout opening) frames) (sym (append-nil past)) follows) in
+      (subst (λ front. Follows (offered_in sends layout requests opening) front (start_of layout opening) (end_of_cycle layout opening) frames) (sym (append-nil past)) follows) in
       cycle-of layout requests opening past frames fit asynchronous before cut.sent cut.later cut.split cut.are cut.at_once (NoTrigger-sent layout opening past cut.sent cut.sofar) cut.follows

@@ -9,11 +9,11 @@ use Rattle.requirement_table.specs.Table.{instance_in}
 use Rattle.trigger_codec.specs.Bytes.{trigger_frame}
 use Rattle.async_window.specs.declared.request.Request.{Request}
 use Rattle.bus_line.specs.Trace.{Follows, end_of}
-use Rattle.requirement_table.specs.Instance.{Instance, bytes_of}
+use Rattle.requirement_table.specs.Instance.{Instance}
 use Rattle.requirement_table.specs.Opening.{Opening, width_of}
 use Rattle.node_model.specs.Opening.{start_of, end_of_cycle, window_start}
 use Rattle.node_model.specs.Offered.{bytes_sent, trigger_frames}
-use Rattle.cycle_engine.specs.Offered.{IsCanTraceWith, offered_in_with}
+use Rattle.cycle_engine.specs.Offered.{IsCanTrace, offered_in}
 
 -- the cycle in which a frame starts
 abbrev pub cycle_of : CycleLayout → TimedFrame → ℕ
@@ -29,7 +29,7 @@ of_slot slot frames = filter (λ sent. sent.frame.identifier == first_identifier
 
 -- exactly one frame of the slot is among these; it lies in the cycle's synchronous window, and carries the bytes that the
 -- instance sends which may be sent in the cycle
-pub record IsSentOnceWith (sends : Instance → List ℕ) (layout : CycleLayout) (opening : Opening) (frames : List TimedFrame) (slot : ℕ) : Type 0 where
+pub record IsSentOnce (sends : Instance → List ℕ) (layout : CycleLayout) (opening : Opening) (frames : List TimedFrame) (slot : ℕ) : Type 0 where
   pub sent : TimedFrame
   pub once : of_slot slot frames ≡ sent ∷ []
   pub after : window_start layout opening ≤ sent.start
@@ -56,7 +56,7 @@ pub record IsRequestFrame (layout : CycleLayout) (opening : Opening) (sent : Tim
 -- the frames of a cycle: its trigger frames, the first at its start and the second, where there is one, at once behind
 -- that, ended before the synchronous window; behind them only frames of requests in the asynchronous window and frames
 -- of flagged slots in the synchronous window, and of each flagged slot exactly one
-pub record RunsCycleWith (sends : Instance → List ℕ) (layout : CycleLayout) (opening : Opening) (frames : List TimedFrame) : Type 0 where
+pub record RunsCycle (sends : Instance → List ℕ) (layout : CycleLayout) (opening : Opening) (frames : List TimedFrame) : Type 0 where
   pub trigger : TimedFrame
   pub second : List TimedFrame
   pub later : List TimedFrame
@@ -68,24 +68,14 @@ pub record RunsCycleWith (sends : Instance → List ℕ) (layout : CycleLayout) 
   pub at_once : All (λ sent. sent.start ≡ end_of trigger) second
   pub second_ends : All (λ sent. end_of sent ≤ window_start layout opening) second
   pub each : (slot : ℕ) → slot < most_slots → contains_slot opening.mask slot ≡ true
-      → IsSentOnceWith sends layout opening later slot
+      → IsSentOnce sends layout opening later slot
   pub none : (slot : ℕ) → slot < most_slots → contains_slot opening.mask slot ≡ false → of_slot slot later ≡ []
   pub all : All (λ sent. IsRequestFrame layout opening sent ⊎ IsSlotFrame layout opening sent) later
 
 -- in each of the opened cycles the frames of the trace are those of the cycle
-abbrev pub RunsCyclesWith : (Instance → List ℕ) → CycleLayout → List Opening → List TimedFrame → Type 0
-RunsCyclesWith sends layout openings trace =
-    All (λ opening. RunsCycleWith sends layout opening (frames_in layout opening.cycle trace)) openings
-
--- the same where each instance sends its number
-abbrev pub IsSentOnce : CycleLayout → Opening → List TimedFrame → ℕ → Type 0
-IsSentOnce = IsSentOnceWith bytes_of
-
-abbrev pub RunsCycle : CycleLayout → Opening → List TimedFrame → Type 0
-RunsCycle = RunsCycleWith bytes_of
-
-abbrev pub RunsCycles : CycleLayout → List Opening → List TimedFrame → Type 0
-RunsCycles = RunsCyclesWith bytes_of
+abbrev pub RunsCycles : (Instance → List ℕ) → CycleLayout → List Opening → List TimedFrame → Type 0
+RunsCycles sends layout openings trace =
+    All (λ opening. RunsCycle sends layout opening (frames_in layout opening.cycle trace)) openings
 
 -- each flagged slot has an instance that may be sent in the cycle, and together they fit into the largest synchronous
 -- window
@@ -95,14 +85,10 @@ pub record FitsWindow (layout : CycleLayout) (opening : Opening) : Type 0 where
   pub width : width_of opening ≤ layout.window
 
 -- in an opened cycle these frames follow the CAN trace of the cycles below it, which has ended by the cycle's start
-pub record FollowsTraceWith (sends : Instance → List ℕ) (layout : CycleLayout) (requests : List Request) (openings : List Opening)
+pub record FollowsTrace (sends : Instance → List ℕ) (layout : CycleLayout) (requests : List Request) (openings : List Opening)
     (opening : Opening) (trace frames : List TimedFrame) : Type 0 where
   pub below : All (λ earlier. earlier.cycle < opening.cycle) openings
-  pub can_trace : IsCanTraceWith sends layout requests openings opening.cycle trace
+  pub can_trace : IsCanTrace sends layout requests openings opening.cycle trace
   pub ended : All (λ sent. end_of sent ≤ start_of layout opening) trace
-  pub follows : Follows (offered_in_with sends layout requests opening) trace
+  pub follows : Follows (offered_in sends layout requests opening) trace
       (start_of layout opening) (end_of_cycle layout opening) frames
-
--- the same where each instance sends its number
-abbrev pub FollowsTrace : CycleLayout → List Request → List Opening → Opening → List TimedFrame → List TimedFrame → Type 0
-FollowsTrace = FollowsTraceWith bytes_of

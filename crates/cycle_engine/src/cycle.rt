@@ -6,6 +6,7 @@ ghost use Rattle.profile.specs.Limits.{cycles_end, shortest_frame};
 ghost use Rattle.can_frame.specs.declared.data_frame.TimedFrame.{TimedFrame};
 ghost use Rattle.requirement_table.specs.declared.entries.Placed.{Placed};
 ghost use Rattle.requirement_table.specs.Table.{IsWellPlaced};
+ghost use Rattle.requirement_table.specs.Instance.{bytes_of};
 ghost use Rattle.async_window.specs.declared.request.Owner.{Owner};
 ghost use Rattle.async_window.specs.declared.request.Request.{Request};
 ghost use Rattle.bus_line.specs.Trace.{Follows};
@@ -44,7 +45,7 @@ pub fn run_cycle(alloc: Global, order: &Order, nodes: &mut Nodes) -> Result<Segm
         (λ segment. (owners : List Owner) (requests : List Request) (placed : List Placed) (past : List TimedFrame)
         → IsBefore nodes.old.layout owners requests placed past order.now
         (learnt_by order.now.learned (states_of nodes.old.nodes))
-        → Follows (offered_in nodes.old.layout requests (opening_of order.now placed)) past
+        → Follows (offered_in bytes_of nodes.old.layout requests (opening_of order.now placed)) past
         (order.now.cycle * nodes.old.layout.cycle) ((order.now.cycle + 1) * nodes.old.layout.cycle) segment) }
     // Afterwards they stand for that bus before the next cycle.
     ensures stand { IfOk result
@@ -79,7 +80,7 @@ pub fn run_cycle_in(order: &Order, nodes: &mut Nodes, segment: &mut Segment)
     ensures runs { (owners : List Owner) (requests : List Request) (placed : List Placed) (past : List TimedFrame)
         → IsBefore nodes.old.layout owners requests placed past order.now
         (learnt_by order.now.learned (states_of nodes.old.nodes))
-        → Follows (offered_in nodes.old.layout requests (opening_of order.now placed)) past
+        → Follows (offered_in bytes_of nodes.old.layout requests (opening_of order.now placed)) past
         (order.now.cycle * nodes.old.layout.cycle) ((order.now.cycle + 1) * nodes.old.layout.cycle) segment.new }
     ensures stand { (owners : List Owner) (requests : List Request) (placed : List Placed) (past : List TimedFrame)
         → IsBefore nodes.old.layout owners requests placed past order.now
@@ -111,7 +112,7 @@ pub fn run_cycle_into(order: &Order, nodes: &mut Nodes, frames: &mut Vec<TimedFr
     ensures runs { (owners : List Owner) (requests : List Request) (placed : List Placed) (past : List TimedFrame)
         → IsBefore nodes.old.layout owners requests placed past order.now
         (learnt_by order.now.learned (states_of nodes.old.nodes))
-        → Follows (offered_in nodes.old.layout requests (opening_of order.now placed)) past
+        → Follows (offered_in bytes_of nodes.old.layout requests (opening_of order.now placed)) past
         (order.now.cycle * nodes.old.layout.cycle) ((order.now.cycle + 1) * nodes.old.layout.cycle) frames.new.items }
     ensures stand { (owners : List Owner) (requests : List Request) (placed : List Placed) (past : List TimedFrame)
         → IsBefore nodes.old.layout owners requests placed past order.now

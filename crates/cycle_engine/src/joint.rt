@@ -5,6 +5,7 @@ ghost use Rattle.std.specs.List.{cons_option};
 ghost use Rattle.profile.specs.Limits.{cycles_end, shortest_frame};
 ghost use Rattle.can_frame.specs.declared.data_frame.TimedFrame.{TimedFrame};
 ghost use Rattle.requirement_table.specs.declared.entries.Placed.{Placed};
+ghost use Rattle.requirement_table.specs.Instance.{bytes_of};
 ghost use Rattle.async_window.specs.declared.request.Owner.{Owner};
 ghost use Rattle.async_window.specs.declared.request.Request.{Request};
 ghost use Rattle.trigger_codec.specs.Bytes.{trigger_frame, triggers_with};
@@ -52,7 +53,7 @@ pub fn run_cycle(order: &Order, stations: &mut NodeStations, frames: &mut Vec<Ti
     ensures opens { BeginsWithTriggers stations.old.layout order.now frames.new.items }
     ensures runs { (owners : List Owner) (requests : List Request) (placed : List Placed) (past : List TimedFrame)
         → IsBefore stations.old.layout owners requests placed past order.now (stations.old.node.state ∷ [])
-        → Follows (offered_in stations.old.layout requests (opening_of order.now placed)) past
+        → Follows (offered_in bytes_of stations.old.layout requests (opening_of order.now placed)) past
         (order.now.cycle * stations.old.layout.cycle)
         ((order.now.cycle + 1) * stations.old.layout.cycle) frames.new.items }
     ensures stand { (owners : List Owner) (requests : List Request) (placed : List Placed) (past : List TimedFrame)

@@ -9,9 +9,9 @@ ghost use Rattle.bus_line.specs.Trace.{end_of};
 ghost use Rattle.requirement_table.specs.Instance.{Instance, bytes_of};
 ghost use Rattle.requirement_table.specs.Opening.{Opening};
 ghost use Rattle.node_model.specs.Opening.{end_of_cycle};
-ghost use Rattle.cycle_engine.specs.Cycle.{FitsWindow, FollowsTraceWith, RunsCycleWith, RunsCyclesWith};
-ghost use Rattle.cycle_engine.specs.Offered.{AreAsynchronous, AreOfDistinctCycles, IsCanTraceWith, SendsWhole};
-ghost use Rattle.cycle_engine.specs.Offered.{offered_in_with, offered_with};
+ghost use Rattle.cycle_engine.specs.Cycle.{FitsWindow, FollowsTrace, RunsCycle, RunsCycles};
+ghost use Rattle.cycle_engine.specs.Offered.{AreAsynchronous, AreOfDistinctCycles, IsCanTrace, SendsWhole};
+ghost use Rattle.cycle_engine.specs.Offered.{offered, offered_in};
 
 use bus_line::laws::{Offering, same_along, trace_laws};
 use can_frame::laws::wire_lengths;
@@ -23,7 +23,7 @@ pub struct OpenedCycles;
 impl Offering for OpenedCycles {
     ghost Setting = { (Instance → List ℕ) × CycleLayout × List Request × List Opening };
 
-    ghost offers = { λ setting. offered_with setting.0 setting.1 setting.2 setting.3 };
+    ghost offers = { λ setting. offered setting.0 setting.1 setting.2 setting.3 };
 }
 
 /// What is offered on the bus in one opened cycle, as the laws of the bus speak of it. A setting begins with the bytes
@@ -33,7 +33,7 @@ pub struct OneCycle;
 impl Offering for OneCycle {
     ghost Setting = { (Instance → List ℕ) × CycleLayout × List Request × Opening };
 
-    ghost offers = { λ setting. offered_in_with setting.0 setting.1 setting.2 setting.3 };
+    ghost offers = { λ setting. offered_in setting.0 setting.1 setting.2 setting.3 };
 }
 
 /// An instance that sends its number sends as many bytes as its entry's length.
@@ -46,8 +46,8 @@ pub fn one_can_trace()
     ensures only_one { (sends : Instance → List ℕ) (layout : CycleLayout) (requests : List Request)
         → (openings : List Opening) (count : ℕ) (one other : List TimedFrame)
         → IsLayout layout → AreAsynchronous requests → AreOfDistinctCycles openings
-        → IsCanTraceWith sends layout requests openings count one
-        → IsCanTraceWith sends layout requests openings count other → one ≡ other }
+        → IsCanTrace sends layout requests openings count one
+        → IsCanTrace sends layout requests openings count other → one ≡ other }
 {
     trace_laws::<OpenedCycles>();
 }
@@ -60,24 +60,24 @@ pub fn one_can_trace()
 pub fn next_cycle()
     ensures can_trace { (sends : Instance → List ℕ) (layout : CycleLayout) (requests : List Request)
         → (openings : List Opening) (opening : Opening) (trace frames : List TimedFrame) → IsLayout layout
-        → FollowsTraceWith sends layout requests openings opening trace frames
-        → IsCanTraceWith sends layout requests (openings ++ opening ∷ []) (opening.cycle + 1) (trace ++ frames) }
+        → FollowsTrace sends layout requests openings opening trace frames
+        → IsCanTrace sends layout requests (openings ++ opening ∷ []) (opening.cycle + 1) (trace ++ frames) }
     ensures ended { (sends : Instance → List ℕ) (layout : CycleLayout) (requests : List Request)
         → (openings : List Opening) (opening : Opening) (trace frames : List TimedFrame) → IsLayout layout
-        → FollowsTraceWith sends layout requests openings opening trace frames
+        → FollowsTrace sends layout requests openings opening trace frames
         → SendsWhole sends → AreAsynchronous requests → FitsWindow layout opening
         → All (λ sent. end_of sent ≤ end_of_cycle layout opening) (trace ++ frames) }
     ensures runs { (sends : Instance → List ℕ) (layout : CycleLayout) (requests : List Request)
         → (openings : List Opening) (opening : Opening) (trace frames : List TimedFrame) → IsLayout layout
-        → FollowsTraceWith sends layout requests openings opening trace frames
+        → FollowsTrace sends layout requests openings opening trace frames
         → SendsWhole sends → AreAsynchronous requests → FitsWindow layout opening
-        → RunsCycleWith sends layout opening frames }
+        → RunsCycle sends layout opening frames }
     ensures all_run { (sends : Instance → List ℕ) (layout : CycleLayout) (requests : List Request)
         → (openings : List Opening) (opening : Opening) (trace frames : List TimedFrame) → IsLayout layout
-        → FollowsTraceWith sends layout requests openings opening trace frames
+        → FollowsTrace sends layout requests openings opening trace frames
         → SendsWhole sends → AreAsynchronous requests → FitsWindow layout opening
-        → RunsCyclesWith sends layout openings trace
-        → RunsCyclesWith sends layout (openings ++ opening ∷ []) (trace ++ frames) }
+        → RunsCycles sends layout openings trace
+        → RunsCycles sends layout (openings ++ opening ∷ []) (trace ++ frames) }
 {
     wire_lengths();
     trace_laws::<OpenedCycles>();

@@ -7,6 +7,7 @@ ghost use Rattle.can_frame.specs.declared.data_frame.TimedFrame.{TimedFrame};
 ghost use Rattle.cycle_layout.specs.Layout.{IsLayout};
 ghost use Rattle.requirement_table.specs.declared.entries.Placed.{Placed};
 ghost use Rattle.requirement_table.specs.Table.{IsWellPlaced};
+ghost use Rattle.requirement_table.specs.Instance.{bytes_of};
 ghost use Rattle.async_window.specs.declared.request.Owner.{Owner};
 ghost use Rattle.async_window.specs.declared.request.Request.{Request};
 ghost use Rattle.async_window.specs.Owners.{AreOwners};
@@ -177,7 +178,7 @@ impl Nodes {
         ensures runs { (owners : List Owner) (requests : List Request) (placed : List Placed) (past : List TimedFrame)
             → IsBefore self.old.layout owners requests placed past order.now
             (learnt_by order.now.learned (states_of self.old.nodes))
-            → Follows (offered_in self.old.layout requests (opening_of order.now placed)) past
+            → Follows (offered_in bytes_of self.old.layout requests (opening_of order.now placed)) past
             (order.now.cycle * self.old.layout.cycle)
             ((order.now.cycle + 1) * self.old.layout.cycle) frames.new.items }
         ensures stand { (owners : List Owner) (requests : List Request) (placed : List Placed) (past : List TimedFrame)

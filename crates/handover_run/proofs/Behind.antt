@@ -16,7 +16,8 @@ use Rattle.master_core.specs.Orders.{IsOrder}
 use Rattle.cycle_layout.specs.Layout.{IsSlots}
 use Rattle.system_file.specs.SystemFile.{IsSystem}
 use Rattle.system_file.specs.declared.system.System.{System}
-use Rattle.kept_run.specs.Progress.{AreReady, IsUnderWay, Setting}
+use Rattle.kept_run.specs.Progress.{AreReady, IsUnderWay}
+use Rattle.kept_run.specs.Setting.{Setting}
 use Rattle.replay_run.specs.declared.bus.Bus.{Bus}
 use Rattle.replay_run.specs.Progress.{GoesStill, IsGoing}
 use Rattle.standby.specs.Core.{core_of}
@@ -43,16 +44,17 @@ module _ (laws : OneCore) where
       let openings : openings_of one ≡ openings_of other = laws.openings one other same in
       record {
         legal = legal;
-        can_trace = subst (λ (l : List Opening). IsCanTrace setting.layout setting.requests l (next_of other) trace) openings
-            (subst (λ (n : ℕ). IsCanTrace setting.layout setting.requests (openings_of one) n trace) next way.can_trace);
+        can_trace = subst (λ (l : List Opening). IsCanTrace setting.sends setting.layout setting.requests l (next_of other) trace) openings
+            (subst (λ (n : ℕ). IsCanTrace setting.sends setting.layout setting.requests (openings_of one) n trace) next way.can_trace);
         ended = subst (λ (n : ℕ). All (λ sent. end_of sent ≤ n * setting.layout.cycle) trace) next way.ended;
-        cycles = subst (λ (l : List Opening). RunsCycles setting.layout l trace) openings way.cycles;
+        cycles = subst (λ (l : List Opening). RunsCycles setting.sends setting.layout l trace) openings way.cycles;
       }
 
   ready-behind : (setting : Setting) (one other : List Event) (trace : List TimedFrame) (nodes : NodesView) → core_of one ≡ core_of other
       → AreReady setting one trace nodes → AreReady setting other trace nodes
   ready-behind setting one other trace nodes same ready = record {
     same_layout = ready.same_layout;
+    same_bytes = ready.same_bytes;
     numbers = ready.numbers;
     known = ready.known;
     bus = subst (λ (n : ℕ). IsBus setting.layout setting.owners setting.requests ready.known trace n (states_of nodes.nodes)) (laws.next one other same) ready.bus;

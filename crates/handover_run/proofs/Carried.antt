@@ -11,7 +11,7 @@ use Rattle.master_core.specs.Calls.{Call, asked, call_of, opens}
 use Rattle.master_core.specs.declared.event.Event.{Event}
 use Rattle.master_core.specs.declared.event.Event.TheVariants.{Open}
 use Rattle.master_core.specs.History.{IsLegal, IsPlainlyLegal, IsRight}
-use Rattle.kept_run.specs.Progress.{Setting}
+use Rattle.kept_run.specs.Setting.{Setting}
 use Rattle.kept_run.proofs.Shared.{AllAfter-parts}
 use Rattle.master_core.specs.Accepted.{all_accepted, refuses_nothing}
 use Rattle.replay_run.specs.Progress.{IsBroughtOn}

@@ -5,8 +5,7 @@ use Rattle.async_window.specs.declared.request.Request.{Request}
 use Rattle.steps_file.specs.declared.steps.Step.{Step}
 use Rattle.system_file.specs.declared.system.System.{System}
 use Rattle.kept_run.proofs.Shared.{Promises}
-use Rattle.replay_run.specs.Progress.{setting_of}
-use Rattle.replay_run.specs.Run.{calls_of}
+use Rattle.replay_run.specs.Run.{calls_of, setting_of}
 use Rattle.replay_run.specs.Runs.{IsLogHeard}
 use Rattle.replay_run.proofs.Shared.{run-of}
 use Rattle.handover_run.specs.declared.handed.Handed.{Handed}

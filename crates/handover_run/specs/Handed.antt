@@ -3,7 +3,8 @@ use Rattle.std.specs.Prelude.{◌≡◌, List}
 use Rattle.can_frame.specs.declared.data_frame.TimedFrame.{TimedFrame}
 use Rattle.master_core.specs.declared.event.Event.{Event}
 use Rattle.master_core.specs.History.{IsPlainlyLegal}
-use Rattle.kept_run.specs.Progress.{IsUnderWay, Setting}
+use Rattle.kept_run.specs.Progress.{IsUnderWay}
+use Rattle.kept_run.specs.Setting.{Setting}
 use Rattle.master_core.specs.Accepted.{all_accepted}
 use Rattle.replay_run.specs.Progress.{IsGoing, IsOnBus}
 use Rattle.standby.specs.Core.{core_of}

@@ -6,7 +6,8 @@ ghost use Rattle.system_file.specs.SystemFile.{IsSystem};
 ghost use Rattle.requests_file.specs.RequestsFile.{AreLegal};
 ghost use Rattle.master_core.specs.Calls.{asked, opens};
 ghost use Rattle.master_core.specs.History.{next_of};
-ghost use Rattle.replay_run.specs.Progress.{CanTellLast, setting_of};
+ghost use Rattle.replay_run.specs.Progress.{CanTellLast};
+ghost use Rattle.replay_run.specs.Run.{setting_of};
 ghost use Rattle.replay_run.specs.Runs.{CanRun, RunsOn, RunsStill};
 ghost use Rattle.handover_run.specs.Handed.{IsHanded};
 
@@ -79,7 +80,7 @@ impl Handed {
 }
 
 impl Runs for Handed {
-    ghost use Rattle.kept_run.specs.Progress.{Setting};
+    ghost use Rattle.kept_run.specs.Setting.{Setting};
     ghost use Rattle.replay_run.specs.Progress.{IsOnBus};
     ghost use Rattle.handover_run.specs.Handed.{IsHanded, on-bus};
 

@@ -7,7 +7,7 @@ use Rattle.can_frame.specs.declared.data_frame.TimedFrame.{TimedFrame}
 use Rattle.cycle_layout.specs.Layout.{CycleLayout}
 use Rattle.requirement_table.specs.declared.entries.Order.{Order}
 use Rattle.requirement_table.specs.declared.entries.Placed.{Placed}
-use Rattle.requirement_table.specs.Instance.{Instance, MaySend}
+use Rattle.requirement_table.specs.Instance.{Instance, MaySend, bytes_of}
 use Rattle.requirement_table.specs.Slots.{contains_slot}
 use Rattle.requirement_table.specs.Table.{IsWellPlaced, instance_in, width_in}
 use Rattle.requirement_table.proofs.Shared.{instance_in-sound}
@@ -24,7 +24,8 @@ use Rattle.node_model.specs.Own.{Stands}
 use Rattle.node_model.proofs.Shared.{instance-of_own}
 use Rattle.cycle_engine.specs.Cycle.{FitsWindow}
 use Rattle.cycle_engine.specs.Nodes.{CanLearn, FitsOrder, HaveSpare, IsBefore, IsBus, IsKnown, IsNumber, IsOwned, NodesView, heard_by, learnt_by, opening_of, states_of}
-use Rattle.kept_run.specs.Progress.{AreReady, IsSetting, IsUnderWay, Setting}
+use Rattle.kept_run.specs.Progress.{AreReady, IsUnderWay}
+use Rattle.kept_run.specs.Setting.{IsSetting, Setting}
 use Rattle.kept_run.proofs.Histories.{next_of-closed, next_of-push, placed_of-push, unchanged-closed}
 use Rattle.kept_run.proofs.Lists.{Contains-from_map}
 use Rattle.kept_run.proofs.Numbers.{IsOfNode, legal-of_nodes}
@@ -104,11 +105,12 @@ well-learned placed false well = tt
 
 -- The first cycle
 
-pub ready-at_first : (setting : Setting) (nodes : NodesView) → nodes.layout ≡ setting.layout
+pub ready-at_first : (setting : Setting) (nodes : NodesView) → nodes.layout ≡ setting.layout → setting.sends ≡ bytes_of
     → IsBus setting.layout setting.owners setting.requests [] [] 0 (states_of nodes.nodes)
     → ((number : ℕ) → number < setting.rules.nodes → IsNumber (states_of nodes.nodes) number) → AreReady setting [] [] nodes
-ready-at_first setting nodes same bus numbers = record {
+ready-at_first setting nodes same bytes bus numbers = record {
   same_layout = same;
+  same_bytes = bytes;
   numbers = numbers;
   known = [];
   bus = bus;
@@ -121,6 +123,7 @@ pub ready-answered : (setting : Setting) (trace : List TimedFrame) (nodes : Node
     → AreReady setting history trace nodes → AreReady setting (history ++ event ∷ []) trace nodes
 ready-answered setting trace nodes history event closed ready = record {
   same_layout = ready.same_layout;
+  same_bytes = ready.same_bytes;
   numbers = ready.numbers;
   known = ready.known;
   bus = subst (λ n. IsBus setting.layout setting.owners setting.requests ready.known trace n (states_of nodes.nodes)) (sym (next_of-closed history event closed)) ready.bus;
@@ -238,6 +241,7 @@ module _ (setting : Setting) (history : List Event) (trace : List TimedFrame) (n
       let next : order.cycle + 1 ≡ next_of (history ++ event ∷ []) = ap (λ n. n + 1) is.cycle ∙ sym (next_of-push history event) in
       record {
         same_layout = same ∙ ready.same_layout;
+        same_bytes = ready.same_bytes;
         numbers = λ number few. subst (λ l. Contains l number) (sym numbers) (ready.numbers number few);
         known = placed_of history;
         bus = subst (λ n. IsBus setting.layout setting.owners setting.requests (placed_of history) (trace ++ frames) n (states_of new.nodes)) next

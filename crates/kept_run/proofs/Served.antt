@@ -20,8 +20,8 @@ use Rattle.planner_policies.specs.Plan.{Planning, flags_of, mask_at}
 use Rattle.admission_rules.specs.declared.Rules.{Rules}
 use Rattle.master_core.specs.History.{plan_of}
 use Rattle.trigger_codec.specs.Bytes.{second_frame, trigger_frame}
-use Rattle.cycle_engine.specs.Cycle.{IsRequestFrame, IsSentOnceWith, IsSlotFrame, RunsCycleWith, RunsCyclesWith, cycle_of, frames_in, of_slot}
-use Rattle.kept_run.specs.Served.{AllGuarded, AllServedWith, ForgetsEnds, IsInWindow, NoStrangers, frames_of}
+use Rattle.cycle_engine.specs.Cycle.{IsRequestFrame, IsSentOnce, IsSlotFrame, RunsCycle, RunsCycles, cycle_of, frames_in, of_slot}
+use Rattle.kept_run.specs.Served.{AllGuarded, AllServed, ForgetsEnds, IsInWindow, NoStrangers, frames_of}
 use Rattle.kept_run.proofs.Lists.{Contains-cases, Contains-filter, Contains-nil, filter-filter, filter-none, filter-same, place-of}
 use Rattle.kept_run.proofs.Opened.{AreOpenedBy}
 use Rattle.kept_run.proofs.Plans.{PlanLaws, mask-planned, mask-sendable, planned_once}
@@ -41,7 +41,7 @@ ids-second false first second sent (x ∷ []) id are =
     All-cons (λ s. s.frame.identifier ≡ 1) x [] (ap (λ f. f.identifier) same ∙ id) (All-nil (λ s. s.frame.identifier ≡ 1))
 ids-second false first second sent (x ∷ y ∷ ys) id are = absurd (cc)
 
-module _ {sends : Instance → List ℕ} (layout : CycleLayout) (opening : Opening) (frames : List TimedFrame) (runs : RunsCycleWith sends layout opening frames) where
+module _ {sends : Instance → List ℕ} (layout : CycleLayout) (opening : Opening) (frames : List TimedFrame) (runs : RunsCycle sends layout opening frames) where
   -- the first trigger frame has identifier 0, and the second one identifier 1
   pub trigger_identifier : runs.trigger.frame.identifier ≡ 0
   trigger_identifier = ap (λ f. f.identifier) runs.is_trigger
@@ -81,7 +81,7 @@ module _ {sends : Instance → List ℕ} (layout : CycleLayout) (opening : Openi
 
   -- the frame that a slot sends in the cycle lies in its window
   in_window : (openings : List Opening) (slot : ℕ) → 0 < layout.cycle → Contains openings opening
-      → (sent : IsSentOnceWith sends layout opening runs.later slot) → IsInWindow layout openings sent.sent
+      → (sent : IsSentOnce sends layout opening runs.later slot) → IsInWindow layout openings sent.sent
   in_window openings slot some_time opened sent =
       let early = sent.within in
       let after = sent.after in
@@ -119,7 +119,7 @@ pub record IsRunOf (sends : Instance → List ℕ) (rules : Rules) (layout : Cyc
   pub some_time : 0 < layout.cycle
   pub opened : AreOpenedBy rules placed next openings
   pub within : All (λ sent. sent.start < next * layout.cycle) trace
-  pub cycles : RunsCyclesWith sends layout openings trace
+  pub cycles : RunsCycles sends layout openings trace
 
 module _ (sends : Instance → List ℕ) (laws : PlanLaws) (rules : Rules) (layout : CycleLayout) (placed : List Placed) (next : ℕ) (openings : List Opening) (trace : List TimedFrame)
     (run : IsRunOf sends rules layout placed next openings trace) where
@@ -127,8 +127,8 @@ module _ (sends : Instance → List ℕ) (laws : PlanLaws) (rules : Rules) (layo
   plan = plan_of rules placed
 
   -- an opened cycle is run
-  runs-opening : (o : Opening) → Contains openings o → RunsCycleWith sends layout o (frames_in layout o.cycle trace)
-  runs-opening o opened = All-contains (λ x. RunsCycleWith sends layout x (frames_in layout x.cycle trace)) openings o run.cycles opened
+  runs-opening : (o : Opening) → Contains openings o → RunsCycle sends layout o (frames_in layout o.cycle trace)
+  runs-opening o opened = All-contains (λ x. RunsCycle sends layout x (frames_in layout x.cycle trace)) openings o run.cycles opened
 
   -- the flags of an opened cycle are those of the plan
   flagged-as_planned : (o : Opening) (slot : ℕ) → Contains openings o → slot < most_slots → contains_slot o.mask slot ≡ flags_of plan o.cycle slot
@@ -186,7 +186,7 @@ module _ (sends : Instance → List ℕ) (laws : PlanLaws) (rules : Rules) (layo
       ∙ ap (option_map sends) found
 
   -- every instance whose last cycle was run is served
-  pub all_served : ForgetsEnds sends → AllServedWith sends layout placed openings next trace
+  pub all_served : ForgetsEnds sends → AllServed sends layout placed openings next trace
   all_served forgets p k last stands exists is_last early =
       let known = (All-contains IsInRange placed p run.opened.well.in_range stands).entry.slot in
       let slot : ℕ = p.entry.slot in

@@ -6,6 +6,7 @@ use Rattle.async_window.specs.declared.request.Owner.{Owner}
 use Rattle.async_window.specs.declared.request.Request.{Request}
 use Rattle.requirement_table.specs.declared.entries.Order.{Order}
 use Rattle.requirement_table.specs.declared.entries.Placed.{Placed}
+use Rattle.requirement_table.specs.Instance.{bytes_of}
 use Rattle.bus_line.specs.Trace.{Follows}
 use Rattle.cycle_engine.specs.Nodes.{IsBefore, IsBus, IsNumber, NodesView, heard_by, learnt_by, opening_of, states_of}
 use Rattle.cycle_engine.specs.Offered.{offered_in}
@@ -14,15 +15,17 @@ use Rattle.master_core.specs.declared.event.Event.TheVariants.{Open}
 use Rattle.master_core.specs.History.{IsLegal, is_open, next_of, placed_of}
 use Rattle.master_core.specs.Orders.{IsOrder}
 use Rattle.kept_run.specs.Kept.{Kept}
-use Rattle.kept_run.specs.Progress.{AreReady, IsOnTheWay, IsSetting, IsUnderWay, Setting}
+use Rattle.kept_run.specs.Progress.{AreReady, IsOnTheWay, IsUnderWay}
+use Rattle.kept_run.specs.Setting.{IsSetting, Setting}
+use Rattle.kept_run.specs.Served.{ForgetsEnds}
 pub use Rattle.kept_run.proofs.Histories.{AllAfter-parts, next_of-push}
 pub use Rattle.kept_run.proofs.Lists.{Contains-filter, number-below}
-pub use Rattle.kept_run.proofs.Served.{second_identifiers}
+pub use Rattle.kept_run.proofs.Served.{bytes_of-forgets, second_identifiers}
 
 -- a run that is under way keeps what is promised
 pub record Promises : Type 0 where
-  pub kept : (setting : Setting) (history : List Event) (trace : List TimedFrame) → IsSetting setting → IsUnderWay setting history trace
-      → Kept setting.rules setting.layout setting.requests history trace
+  pub kept : (setting : Setting) (history : List Event) (trace : List TimedFrame) → IsSetting setting → ForgetsEnds setting.sends
+      → IsUnderWay setting history trace → Kept setting history trace
 
 -- calls that open no cycle keep a run under way and its nodes ready
 pub record CallsBetween : Type 0 where
@@ -52,6 +55,7 @@ way-same setting history trace nodes new layout states way =
       under_way = way.under_way;
       ready = record {
         same_layout = layout ∙ ready.same_layout;
+        same_bytes = ready.same_bytes;
         numbers = λ number below. subst (λ known. IsNumber known number) (sym states) (ready.numbers number below);
         known = ready.known;
         bus = subst (λ known. IsBus setting.layout setting.owners setting.requests ready.known trace (next_of history) known) (sym states) ready.bus;
@@ -66,7 +70,7 @@ pub record CyclesRun : Type 0 where
       → IsBefore nodes.layout setting.owners setting.requests (placed_of history) trace order (learnt_by order.learned (states_of nodes.nodes))
   pub under_way : (setting : Setting) (history : List Event) (trace frames : List TimedFrame) (nodes : NodesView) (order : Order)
       → IsSetting setting → IsUnderWay setting history trace → AreReady setting history trace nodes → IsOrder setting.rules history order
-      → Follows (offered_in nodes.layout setting.requests (opening_of order (placed_of history)))
+      → Follows (offered_in bytes_of nodes.layout setting.requests (opening_of order (placed_of history)))
       trace (order.cycle * nodes.layout.cycle) ((order.cycle + 1) * nodes.layout.cycle) frames
       → IsUnderWay setting (history ++ Open order.cycle order.mask ∷ []) (trace ++ frames)
   pub ready : (setting : Setting) (history : List Event) (trace frames : List TimedFrame) (nodes new : NodesView) (order : Order)
@@ -81,7 +85,7 @@ pub record RanOrder (order : Order) (nodes new : NodesView) (frames : List Timed
   pub heard : states_of new.nodes ≡ heard_by frames (learnt_by order.learned (states_of nodes.nodes))
   pub runs : (owners : List Owner) (requests : List Request) (placed : List Placed) (past : List TimedFrame)
       → IsBefore nodes.layout owners requests placed past order (learnt_by order.learned (states_of nodes.nodes))
-      → Follows (offered_in nodes.layout requests (opening_of order placed)) past
+      → Follows (offered_in bytes_of nodes.layout requests (opening_of order placed)) past
       (order.cycle * nodes.layout.cycle) ((order.cycle + 1) * nodes.layout.cycle) frames
   pub stand : (owners : List Owner) (requests : List Request) (placed : List Placed) (past : List TimedFrame)
       → IsBefore nodes.layout owners requests placed past order (learnt_by order.learned (states_of nodes.nodes))

@@ -17,10 +17,11 @@ use Rattle.master_core.specs.Openings.{openings_of}
 use Rattle.async_window.specs.declared.request.Request.{Request}
 use Rattle.bus_line.specs.Trace.{Follows, end_of}
 use Rattle.node_model.specs.Opening.{end_of_cycle}
-use Rattle.cycle_engine.specs.Cycle.{FitsWindow, FollowsTraceWith, RunsCycleWith, RunsCyclesWith}
-use Rattle.cycle_engine.specs.Offered.{AreAsynchronous, AreOfDistinctCycles, IsCanTraceWith, SendsWhole, offered_in_with}
-use Rattle.kept_run.specs.Kept.{KeptWith}
-use Rattle.kept_run.specs.Progress.{IsSetting, IsUnderWayWith, Setting}
+use Rattle.cycle_engine.specs.Cycle.{FitsWindow, FollowsTrace, RunsCycle, RunsCycles}
+use Rattle.cycle_engine.specs.Offered.{AreAsynchronous, AreOfDistinctCycles, IsCanTrace, SendsWhole, offered_in}
+use Rattle.kept_run.specs.Kept.{Kept}
+use Rattle.kept_run.specs.Progress.{IsUnderWay}
+use Rattle.kept_run.specs.Setting.{IsSetting, Setting}
 use Rattle.kept_run.specs.Served.{ForgetsEnds}
 use Rattle.kept_run.proofs.Histories.{legal-but_last, next_of-closed, next_of-push, openings_of-closed, openings_of-push}
 use Rattle.kept_run.proofs.Master.{MasterLaws}
@@ -31,28 +32,28 @@ use Rattle.kept_run.proofs.Served.{IsRunOf, all_guarded, all_served, no_stranger
 -- the laws of opened cycles
 pub record CycleLaws : Type 0 where
   pub can_trace : (sends : Instance → List ℕ) (layout : CycleLayout) (requests : List Request) (openings : List Opening) (opening : Opening) (trace frames : List TimedFrame)
-      → IsLayout layout → FollowsTraceWith sends layout requests openings opening trace frames
-      → IsCanTraceWith sends layout requests (openings ++ opening ∷ []) (opening.cycle + 1) (trace ++ frames)
+      → IsLayout layout → FollowsTrace sends layout requests openings opening trace frames
+      → IsCanTrace sends layout requests (openings ++ opening ∷ []) (opening.cycle + 1) (trace ++ frames)
   pub ended : (sends : Instance → List ℕ) (layout : CycleLayout) (requests : List Request) (openings : List Opening) (opening : Opening) (trace frames : List TimedFrame)
-      → IsLayout layout → FollowsTraceWith sends layout requests openings opening trace frames → SendsWhole sends → AreAsynchronous requests → FitsWindow layout opening
+      → IsLayout layout → FollowsTrace sends layout requests openings opening trace frames → SendsWhole sends → AreAsynchronous requests → FitsWindow layout opening
       → All (λ sent. end_of sent ≤ end_of_cycle layout opening) (trace ++ frames)
   pub runs : (sends : Instance → List ℕ) (layout : CycleLayout) (requests : List Request) (openings : List Opening) (opening : Opening) (trace frames : List TimedFrame)
-      → IsLayout layout → FollowsTraceWith sends layout requests openings opening trace frames → SendsWhole sends → AreAsynchronous requests → FitsWindow layout opening
-      → RunsCycleWith sends layout opening frames
+      → IsLayout layout → FollowsTrace sends layout requests openings opening trace frames → SendsWhole sends → AreAsynchronous requests → FitsWindow layout opening
+      → RunsCycle sends layout opening frames
   pub all_run : (sends : Instance → List ℕ) (layout : CycleLayout) (requests : List Request) (openings : List Opening) (opening : Opening) (trace frames : List TimedFrame)
-      → IsLayout layout → FollowsTraceWith sends layout requests openings opening trace frames → SendsWhole sends → AreAsynchronous requests → FitsWindow layout opening
-      → RunsCyclesWith sends layout openings trace → RunsCyclesWith sends layout (openings ++ opening ∷ []) (trace ++ frames)
+      → IsLayout layout → FollowsTrace sends layout requests openings opening trace frames → SendsWhole sends → AreAsynchronous requests → FitsWindow layout opening
+      → RunsCycles sends layout openings trace → RunsCycles sends layout (openings ++ opening ∷ []) (trace ++ frames)
 
 -- there is only one trace that arbitration decides
 pub record IsTheOnlyTrace : Type 0 where
   pub is : (sends : Instance → List ℕ) (layout : CycleLayout) (requests : List Request) (openings : List Opening) (count : ℕ) (one other : List TimedFrame)
       → IsLayout layout → AreAsynchronous requests → AreOfDistinctCycles openings
-      → IsCanTraceWith sends layout requests openings count one → IsCanTraceWith sends layout requests openings count other → one ≡ other
+      → IsCanTrace sends layout requests openings count one → IsCanTrace sends layout requests openings count other → one ≡ other
 
 -- Nothing was called
 
-pub begins : (sends : Instance → List ℕ) (setting : Setting) → IsUnderWayWith sends setting [] []
-begins sends setting = record {
+pub begins : (setting : Setting) → IsUnderWay setting [] []
+begins setting = record {
   legal = tt;
   can_trace = record {
     ordered = record { lengths = All-nil _; apart = λ i j d before within. absurd (omega arith) };
@@ -66,17 +67,17 @@ begins sends setting = record {
 
 -- A call that opens no cycle
 
-pub answered : (sends : Instance → List ℕ) (setting : Setting) (trace : List TimedFrame) (history : List Event) (event : Event) → is_open event ≡ false
-    → IsLegal setting.rules (history ++ event ∷ []) → IsUnderWayWith sends setting history trace → IsUnderWayWith sends setting (history ++ event ∷ []) trace
-answered sends setting trace history event closed legal way =
+pub answered : (setting : Setting) (trace : List TimedFrame) (history : List Event) (event : Event) → is_open event ≡ false
+    → IsLegal setting.rules (history ++ event ∷ []) → IsUnderWay setting history trace → IsUnderWay setting (history ++ event ∷ []) trace
+answered setting trace history event closed legal way =
     let openings = openings_of-closed history event closed in
     let next = next_of-closed history event closed in
     record {
       legal = legal;
-      can_trace = subst (λ os. IsCanTraceWith sends setting.layout setting.requests os (next_of (history ++ event ∷ [])) trace) (sym openings)
-          (subst (λ n. IsCanTraceWith sends setting.layout setting.requests (openings_of history) n trace) (sym next) way.can_trace);
+      can_trace = subst (λ os. IsCanTrace setting.sends setting.layout setting.requests os (next_of (history ++ event ∷ [])) trace) (sym openings)
+          (subst (λ n. IsCanTrace setting.sends setting.layout setting.requests (openings_of history) n trace) (sym next) way.can_trace);
       ended = subst (λ n. All (λ sent. end_of sent ≤ n * setting.layout.cycle) trace) (sym next) way.ended;
-      cycles = subst (λ os. RunsCyclesWith sends setting.layout os trace) (sym openings) way.cycles;
+      cycles = subst (λ os. RunsCycles setting.sends setting.layout os trace) (sym openings) way.cycles;
     }
 
 -- A cycle is opened and run
@@ -112,50 +113,50 @@ module _ (master : MasterLaws) (plans : PlanLaws) (setting : Setting) (history :
       let by = opened-legal master setting.rules history so_far in
       fits-window plans setting.rules setting.layout (placed_of history) cycle mask by.well by.in_time known.same_window right.1
 
-  module _ (cycles : CycleLaws) (sends : Instance → List ℕ) (whole : SendsWhole sends) (trace frames : List TimedFrame)
-      (way : IsUnderWayWith sends setting history trace)
-      (follows : Follows (offered_in_with sends setting.layout setting.requests opening) trace (cycle * setting.layout.cycle) ((cycle + 1) * setting.layout.cycle) frames) where
-    behind : FollowsTraceWith sends setting.layout setting.requests openings opening trace frames
+  module _ (cycles : CycleLaws) (whole : SendsWhole setting.sends) (trace frames : List TimedFrame)
+      (way : IsUnderWay setting history trace)
+      (follows : Follows (offered_in setting.sends setting.layout setting.requests opening) trace (cycle * setting.layout.cycle) ((cycle + 1) * setting.layout.cycle) frames) where
+    behind : FollowsTrace setting.sends setting.layout setting.requests openings opening trace frames
     behind = record {
       below = subst (λ n. All (λ earlier. earlier.cycle < n) openings) (sym now) (opened-legal master setting.rules history so_far).below;
-      can_trace = subst (λ n. IsCanTraceWith sends setting.layout setting.requests openings n trace) (sym now) way.can_trace;
+      can_trace = subst (λ n. IsCanTrace setting.sends setting.layout setting.requests openings n trace) (sym now) way.can_trace;
       ended = subst (λ n. All (λ sent. end_of sent ≤ n * setting.layout.cycle) trace) (sym now) way.ended;
       follows = follows;
     }
 
-    pub opened-runs : RunsCycleWith sends setting.layout opening frames
-    opened-runs = cycles.runs sends setting.layout setting.requests openings opening trace frames known.known behind whole known.asynchronous opened-fits
+    pub opened-runs : RunsCycle setting.sends setting.layout opening frames
+    opened-runs = cycles.runs setting.sends setting.layout setting.requests openings opening trace frames known.known behind whole known.asynchronous opened-fits
 
-    pub opened : IsUnderWayWith sends setting (history ++ Open cycle mask ∷ []) (trace ++ frames)
+    pub opened : IsUnderWay setting (history ++ Open cycle mask ∷ []) (trace ++ frames)
     opened =
         let more : openings_of (history ++ Open cycle mask ∷ []) ≡ openings ++ opening ∷ [] = openings_of-push history (Open cycle mask) in
         let next : next_of (history ++ Open cycle mask ∷ []) ≡ cycle + 1 = next_of-push history (Open cycle mask) ∙ ap (λ n. n + 1) (sym now) in
-        let can_trace = cycles.can_trace sends setting.layout setting.requests openings opening trace frames known.known behind in
-        let ended = cycles.ended sends setting.layout setting.requests openings opening trace frames known.known behind whole known.asynchronous opened-fits in
-        let run = cycles.all_run sends setting.layout setting.requests openings opening trace frames known.known behind whole known.asynchronous opened-fits way.cycles in
+        let can_trace = cycles.can_trace setting.sends setting.layout setting.requests openings opening trace frames known.known behind in
+        let ended = cycles.ended setting.sends setting.layout setting.requests openings opening trace frames known.known behind whole known.asynchronous opened-fits in
+        let run = cycles.all_run setting.sends setting.layout setting.requests openings opening trace frames known.known behind whole known.asynchronous opened-fits way.cycles in
         record {
           legal = legal;
-          can_trace = subst (λ os. IsCanTraceWith sends setting.layout setting.requests os (next_of (history ++ Open cycle mask ∷ [])) (trace ++ frames)) (sym more)
-              (subst (λ n. IsCanTraceWith sends setting.layout setting.requests (openings ++ opening ∷ []) n (trace ++ frames)) (sym next) can_trace);
+          can_trace = subst (λ os. IsCanTrace setting.sends setting.layout setting.requests os (next_of (history ++ Open cycle mask ∷ [])) (trace ++ frames)) (sym more)
+              (subst (λ n. IsCanTrace setting.sends setting.layout setting.requests (openings ++ opening ∷ []) n (trace ++ frames)) (sym next) can_trace);
           ended = subst (λ n. All (λ sent. end_of sent ≤ n * setting.layout.cycle) (trace ++ frames)) (sym next) ended;
-          cycles = subst (λ os. RunsCyclesWith sends setting.layout os (trace ++ frames)) (sym more) run;
+          cycles = subst (λ os. RunsCycles setting.sends setting.layout os (trace ++ frames)) (sym more) run;
         }
 
 -- A run that is under way keeps what is promised
 
-pub keeps : (master : MasterLaws) (plans : PlanLaws) (only : IsTheOnlyTrace) (sends : Instance → List ℕ) (setting : Setting) (history : List Event) (trace : List TimedFrame)
-    → IsSetting setting → ForgetsEnds sends → IsUnderWayWith sends setting history trace → KeptWith sends setting.rules setting.layout setting.requests history trace
-keeps master plans only sends setting history trace known forgets way =
+pub keeps : (master : MasterLaws) (plans : PlanLaws) (only : IsTheOnlyTrace) (setting : Setting) (history : List Event) (trace : List TimedFrame)
+    → IsSetting setting → ForgetsEnds setting.sends → IsUnderWay setting history trace → Kept setting history trace
+keeps master plans only setting history trace known forgets way =
     let by = opened-legal master setting.rules history way.legal in
     let range = known.known.cycle_range.above in
-    let run : IsRunOf sends setting.rules setting.layout (placed_of history) (next_of history) (openings_of history) trace =
+    let run : IsRunOf setting.sends setting.rules setting.layout (placed_of history) (next_of history) (openings_of history) trace =
     record { some_time = omega arith; opened = by; within = way.can_trace.within; cycles = way.cycles } in
     record {
       legal = way.legal;
       can_trace = way.can_trace;
       only_trace = λ other is.
-          only.is sends setting.layout setting.requests (openings_of history) (next_of history) other trace known.known known.asynchronous by.each_once is way.can_trace;
-      served = all_served sends plans setting.rules setting.layout (placed_of history) (next_of history) (openings_of history) trace run forgets;
-      no_strangers = no_strangers sends plans setting.rules setting.layout (placed_of history) (next_of history) (openings_of history) trace run;
-      guarded = all_guarded sends plans setting.rules setting.layout (placed_of history) (next_of history) (openings_of history) trace run;
+          only.is setting.sends setting.layout setting.requests (openings_of history) (next_of history) other trace known.known known.asynchronous by.each_once is way.can_trace;
+      served = all_served setting.sends plans setting.rules setting.layout (placed_of history) (next_of history) (openings_of history) trace run forgets;
+      no_strangers = no_strangers setting.sends plans setting.rules setting.layout (placed_of history) (next_of history) (openings_of history) trace run;
+      guarded = all_guarded setting.sends plans setting.rules setting.layout (placed_of history) (next_of history) (openings_of history) trace run;
     }

@@ -13,8 +13,9 @@ use Rattle.requirement_table.specs.Opening.{Opening}
 use Rattle.master_core.specs.declared.event.Event.{Event}
 use Rattle.master_core.specs.History.{next_of}
 use Rattle.master_core.specs.Openings.{openings_of}
-use Rattle.cycle_engine.specs.Cycle.{IsRequestFrame, IsSlotFrame, RunsCycleWith, cycle_of, frames_in}
-use Rattle.kept_run.specs.Progress.{IsSetting, IsUnderWayWith, Setting}
+use Rattle.cycle_engine.specs.Cycle.{IsRequestFrame, IsSlotFrame, RunsCycle, cycle_of, frames_in}
+use Rattle.kept_run.specs.Progress.{IsUnderWay}
+use Rattle.kept_run.specs.Setting.{IsSetting, Setting}
 use Rattle.kept_run.proofs.Lists.{Contains-filter, filter-none, of-number}
 use Rattle.kept_run.proofs.Served.{second_identifiers, trigger_identifier}
 
@@ -159,7 +160,7 @@ not-trigger : (layout : CycleLayout) (opening : Opening) (sent : TimedFrame) →
 not-trigger layout opening sent (inl request) = λ none. let high = request.identifier in omega arith
 not-trigger layout opening sent (inr slot) = λ none. let high = slot.identifier in omega arith
 
-begins-of : {sends : Instance → List ℕ} (layout : CycleLayout) (opening : Opening) (frames : List TimedFrame) → RunsCycleWith sends layout opening frames → BeginsWithTrigger frames
+begins-of : {sends : Instance → List ℕ} (layout : CycleLayout) (opening : Opening) (frames : List TimedFrame) → RunsCycle sends layout opening frames → BeginsWithTrigger frames
 begins-of layout opening frames runs = record {
   trigger = runs.trigger;
   later = runs.second ++ runs.later;
@@ -170,11 +171,11 @@ begins-of layout opening frames runs = record {
       (λ k d within. not-trigger layout opening (get_or runs.later k d) (runs.all k d within));
 }
 
-pub triggers-counted : (sends : Instance → List ℕ) (setting : Setting) (history : List Event) (trace : List TimedFrame)
-    → map (λ o. o.cycle) (openings_of history) ≡ range_with_len 0 (next_of history) → IsSetting setting → IsUnderWayWith sends setting history trace
+pub triggers-counted : (setting : Setting) (history : List Event) (trace : List TimedFrame)
+    → map (λ o. o.cycle) (openings_of history) ≡ range_with_len 0 (next_of history) → IsSetting setting → IsUnderWay setting history trace
     → (front later : List TimedFrame) (sent : TimedFrame) → trace ≡ front ++ sent ∷ later
     → length (filter is_trigger (front ++ sent ∷ [])) ≡ cycle_of setting.layout sent + 1
-triggers-counted sends setting history trace cycles known way front later sent split =
+triggers-counted setting history trace cycles known way front later sent split =
     let layout = setting.layout in
     let range = known.known.cycle_range.above in
     let some_time : 0 < setting.layout.cycle = omega arith in
@@ -190,7 +191,7 @@ triggers-counted sends setting history trace cycles known way front later sent s
       old = λ k d within none. absurd (omega arith);
       each = λ c after below.
           let opened = of-number (λ o. o.cycle) (openings_of history) (next_of history) cycles c below in
-          let runs = All-contains (λ o. RunsCycleWith sends setting.layout o (frames_in setting.layout o.cycle trace)) (openings_of history) opened.0 way.cycles opened.1 in
+          let runs = All-contains (λ o. RunsCycle setting.sends setting.layout o (frames_in setting.layout o.cycle trace)) (openings_of history) opened.0 way.cycles opened.1 in
           subst (λ n. BeginsWithTrigger (frames_in setting.layout n trace)) opened.2
           (begins-of setting.layout opened.0 (frames_in setting.layout opened.0.cycle trace) runs);
     } in

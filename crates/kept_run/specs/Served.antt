@@ -6,7 +6,7 @@ use Rattle.profile.specs.Limits.{first_identifier, least_asynchronous}
 use Rattle.can_frame.specs.declared.data_frame.TimedFrame.{TimedFrame}
 use Rattle.cycle_layout.specs.Layout.{CycleLayout, async_open}
 use Rattle.requirement_table.specs.declared.entries.Placed.{Placed}
-use Rattle.requirement_table.specs.Instance.{Exists, Instance, IsLastCycle, MaySend, bytes_of, release_of}
+use Rattle.requirement_table.specs.Instance.{Exists, Instance, IsLastCycle, MaySend, release_of}
 use Rattle.requirement_table.specs.Opening.{Opening}
 use Rattle.requirement_table.specs.Slots.{most_slots}
 use Rattle.change_protocol.specs.Applied.{without_end}
@@ -36,7 +36,7 @@ ForgetsEnds sends = (instance : Instance) → sends (without_end instance) ≡ s
 -- *Served*: of the instance `k` of an entry, whose last cycle is `last`, exactly one frame of the slot starts in the
 -- cycles from the instance's release to its last one, within the synchronous window of its cycle, and it carries the
 -- bytes that the instance sends
-pub record IsServedWith (sends : Instance → List ℕ) (layout : CycleLayout) (openings : List Opening) (trace : List TimedFrame)
+pub record IsServed (sends : Instance → List ℕ) (layout : CycleLayout) (openings : List Opening) (trace : List TimedFrame)
     (placed : Placed) (k last : ℕ) : Type 0 where
   pub sent : TimedFrame
   pub once : frames_of layout (first_identifier + placed.entry.slot) (release_of placed k) last trace ≡ sent ∷ []
@@ -44,16 +44,9 @@ pub record IsServedWith (sends : Instance → List ℕ) (layout : CycleLayout) (
   pub carries : sent.frame.bytes ≡ sends (record { placed = placed; number = k })
 
 -- every instance of these entries whose last cycle is below `next` is served
-abbrev pub AllServedWith : (Instance → List ℕ) → CycleLayout → List Placed → List Opening → ℕ → List TimedFrame → Type 0
-AllServedWith sends layout placed openings next trace = (p : Placed) (k last : ℕ) → Contains placed p
-    → Exists p (release_of p k) → IsLastCycle p k last → last < next → IsServedWith sends layout openings trace p k last
-
--- the same where each instance sends its number
-abbrev pub IsServed : CycleLayout → List Opening → List TimedFrame → Placed → ℕ → ℕ → Type 0
-IsServed = IsServedWith bytes_of
-
-abbrev pub AllServed : CycleLayout → List Placed → List Opening → ℕ → List TimedFrame → Type 0
-AllServed = AllServedWith bytes_of
+abbrev pub AllServed : (Instance → List ℕ) → CycleLayout → List Placed → List Opening → ℕ → List TimedFrame → Type 0
+AllServed sends layout placed openings next trace = (p : Placed) (k last : ℕ) → Contains placed p
+    → Exists p (release_of p k) → IsLastCycle p k last → last < next → IsServed sends layout openings trace p k last
 
 -- the frame starts in a cycle in which an instance of the slot may be sent
 pub record IsOwed (layout : CycleLayout) (placed : List Placed) (slot : ℕ) (sent : TimedFrame) : Type 0 where

@@ -1,14 +1,14 @@
 //! Laws about runs. Each function has an empty body but for calls of other laws, and its contract is the law.
 //!
 //! A run keeps two things between its steps: its history and its trace are under way, and its nodes are ready. It
-//! begins so, each step keeps it, and whatever is under way keeps what is promised. The history and a trace may be
-//! under way whatever bytes an instance sends; where nothing is said of them, each instance sends its number.
+//! begins so, each step keeps it, and whatever is under way keeps what is promised. The setting says what bytes an
+//! instance sends; where nodes are ready, each instance sends its number.
 
 ghost use Rattle.std.specs.Prelude.{◌≡◌, ℕ, ◌+◌, ◌*◌, ◌^◌, ◌<◌, ◌≤◌, ◌↔◌, ◌==◌, false, List, [], ◌∷◌, ◌++◌, All, Any, IfSome};
 ghost use Rattle.std.specs.Prelude.{filter, length};
 ghost use Rattle.can_frame.specs.declared.data_frame.TimedFrame.{TimedFrame};
 ghost use Rattle.requirement_table.specs.declared.entries.Order.{Order};
-ghost use Rattle.requirement_table.specs.Instance.{Instance};
+ghost use Rattle.requirement_table.specs.Instance.{bytes_of};
 ghost use Rattle.requirement_table.specs.Table.{IsWellPlaced};
 ghost use Rattle.admission_rules.specs.declared.Rules.{Rules};
 ghost use Rattle.master_core.specs.declared.event.Event.{Event};
@@ -19,15 +19,16 @@ ghost use Rattle.async_window.specs.declared.request.Owner.{Owner};
 ghost use Rattle.async_window.specs.declared.request.Request.{Request};
 ghost use Rattle.async_window.specs.Owners.{AreOwners};
 ghost use Rattle.bus_line.specs.Trace.{Follows};
-ghost use Rattle.cycle_engine.specs.Cycle.{FitsWindow, RunsCycleWith, cycle_of};
+ghost use Rattle.cycle_engine.specs.Cycle.{FitsWindow, RunsCycle, cycle_of};
 ghost use Rattle.cycle_engine.specs.Nodes.{CanLearn, HaveSpare, IsBefore, IsBus, IsNumber, NodesView};
 ghost use Rattle.cycle_engine.specs.Nodes.{heard_by, learnt_by, opening_of, states_of};
-ghost use Rattle.cycle_engine.specs.Offered.{AreAsynchronous, SendsWhole, offered_in, offered_in_with};
-ghost use Rattle.kept_run.specs.Kept.{Kept, KeptWith};
-ghost use Rattle.kept_run.specs.Progress.{AreReady, IsSetting, IsUnderWay, IsUnderWayWith, Setting};
+ghost use Rattle.cycle_engine.specs.Offered.{AreAsynchronous, SendsWhole, offered_in};
+ghost use Rattle.kept_run.specs.Kept.{Kept};
+ghost use Rattle.kept_run.specs.Progress.{AreReady, IsUnderWay};
+ghost use Rattle.kept_run.specs.Setting.{IsSetting, Setting};
 ghost use Rattle.kept_run.specs.Served.{ForgetsEnds};
 
-use cycle_engine::laws::{next_cycle, numbers_are_whole, one_can_trace};
+use cycle_engine::laws::{next_cycle, one_can_trace};
 use master_core::laws::{legal_histories, opened_cycles};
 use planner_policies::laws::{keeping, planned_slots, states, valid_states};
 use requirement_table::laws::flagged_once;
@@ -36,12 +37,8 @@ use requirement_table::laws::flagged_once;
 /// entry gets an end.
 pub fn promise()
     ensures kept { (setting : Setting) (history : List Event) (trace : List TimedFrame)
-        → IsSetting setting → IsUnderWay setting history trace
-        → Kept setting.rules setting.layout setting.requests history trace }
-    ensures kept_with { (sends : Instance → List ℕ) (setting : Setting) (history : List Event)
-        → (trace : List TimedFrame) → IsSetting setting → ForgetsEnds sends
-        → IsUnderWayWith sends setting history trace
-        → KeptWith sends setting.rules setting.layout setting.requests history trace }
+        → IsSetting setting → ForgetsEnds setting.sends → IsUnderWay setting history trace
+        → Kept setting history trace }
 {
     legal_histories();
     opened_cycles();
@@ -63,8 +60,7 @@ pub fn requests_of_owners()
 /// A run begins with no calls, no frames, and nodes that know no entries.
 pub fn beginning()
     ensures under_way { (setting : Setting) → IsUnderWay setting [] [] }
-    ensures under_way_with { (sends : Instance → List ℕ) (setting : Setting) → IsUnderWayWith sends setting [] [] }
-    ensures ready { (setting : Setting) (nodes : NodesView) → nodes.layout ≡ setting.layout
+    ensures ready { (setting : Setting) (nodes : NodesView) → nodes.layout ≡ setting.layout → setting.sends ≡ bytes_of
         → IsBus setting.layout setting.owners setting.requests [] [] 0 (states_of nodes.nodes)
         → ((number : ℕ) → number < setting.rules.nodes → IsNumber (states_of nodes.nodes) number)
         → AreReady setting [] [] nodes }
@@ -85,10 +81,6 @@ pub fn calls_between()
         → All (λ call. is_open call ≡ false) calls
         → IsLegal setting.rules (history ++ calls) → IsUnderWay setting history trace
         → IsUnderWay setting (history ++ calls) trace }
-    ensures under_way_with { (sends : Instance → List ℕ) (setting : Setting) (history calls : List Event)
-        → (trace : List TimedFrame) → All (λ call. is_open call ≡ false) calls
-        → IsLegal setting.rules (history ++ calls) → IsUnderWayWith sends setting history trace
-        → IsUnderWayWith sends setting (history ++ calls) trace }
     ensures ready { (setting : Setting) (history calls : List Event) (trace : List TimedFrame) (nodes : NodesView)
         → All (λ call. is_open call ≡ false) calls → IsLegal setting.rules (history ++ calls)
         → AreReady setting history trace nodes → AreReady setting (history ++ calls) trace nodes }
@@ -137,25 +129,20 @@ pub fn orders()
 /// The run of an order on the bus keeps a run under way and leaves its nodes ready.
 pub fn cycles_run()
     ensures opened { (setting : Setting) (history : List Event) (cycle mask : ℕ) (trace frames : List TimedFrame)
-        → IsSetting setting → IsUnderWay setting history trace → IsLegal setting.rules (history ++ Open cycle mask ∷ [])
-        → Follows (offered_in setting.layout setting.requests
+        → IsSetting setting → SendsWhole setting.sends
+        → IsUnderWay setting history trace → IsLegal setting.rules (history ++ Open cycle mask ∷ [])
+        → Follows (offered_in setting.sends setting.layout setting.requests
         (record { cycle = cycle; mask = mask; placed = placed_of history }))
         trace (cycle * setting.layout.cycle) ((cycle + 1) * setting.layout.cycle) frames
         → IsUnderWay setting (history ++ Open cycle mask ∷ []) (trace ++ frames) }
-    ensures opened_with { (sends : Instance → List ℕ) (setting : Setting) (history : List Event) (cycle mask : ℕ)
-        → (trace frames : List TimedFrame) → IsSetting setting → SendsWhole sends
-        → IsUnderWayWith sends setting history trace → IsLegal setting.rules (history ++ Open cycle mask ∷ [])
-        → Follows (offered_in_with sends setting.layout setting.requests
+    ensures runs { (setting : Setting) (history : List Event) (cycle mask : ℕ) (trace frames : List TimedFrame)
+        → IsSetting setting → SendsWhole setting.sends
+        → IsUnderWay setting history trace → IsLegal setting.rules (history ++ Open cycle mask ∷ [])
+        → Follows (offered_in setting.sends setting.layout setting.requests
         (record { cycle = cycle; mask = mask; placed = placed_of history }))
         trace (cycle * setting.layout.cycle) ((cycle + 1) * setting.layout.cycle) frames
-        → IsUnderWayWith sends setting (history ++ Open cycle mask ∷ []) (trace ++ frames) }
-    ensures runs_with { (sends : Instance → List ℕ) (setting : Setting) (history : List Event) (cycle mask : ℕ)
-        → (trace frames : List TimedFrame) → IsSetting setting → SendsWhole sends
-        → IsUnderWayWith sends setting history trace → IsLegal setting.rules (history ++ Open cycle mask ∷ [])
-        → Follows (offered_in_with sends setting.layout setting.requests
-        (record { cycle = cycle; mask = mask; placed = placed_of history }))
-        trace (cycle * setting.layout.cycle) ((cycle + 1) * setting.layout.cycle) frames
-        → RunsCycleWith sends setting.layout (record { cycle = cycle; mask = mask; placed = placed_of history }) frames }
+        → RunsCycle setting.sends setting.layout (record { cycle = cycle; mask = mask; placed = placed_of history })
+        frames }
     ensures fits { (setting : Setting) (history : List Event) (cycle mask : ℕ)
         → IsSetting setting → IsLegal setting.rules (history ++ Open cycle mask ∷ [])
         → FitsWindow setting.layout (record { cycle = cycle; mask = mask; placed = placed_of history }) }
@@ -163,7 +150,7 @@ pub fn cycles_run()
         (nodes : NodesView) (order : Order)
         → IsSetting setting → IsUnderWay setting history trace
         → AreReady setting history trace nodes → IsOrder setting.rules history order
-        → Follows (offered_in nodes.layout setting.requests (opening_of order (placed_of history)))
+        → Follows (offered_in bytes_of nodes.layout setting.requests (opening_of order (placed_of history)))
         trace (order.cycle * nodes.layout.cycle) ((order.cycle + 1) * nodes.layout.cycle) frames
         → IsUnderWay setting (history ++ Open order.cycle order.mask ∷ []) (trace ++ frames) }
     ensures ready { (setting : Setting) (history : List Event) (trace frames : List TimedFrame)
@@ -178,7 +165,6 @@ pub fn cycles_run()
     legal_histories();
     opened_cycles();
     next_cycle();
-    numbers_are_whole();
     flagged_once();
     keeping();
     planned_slots();
@@ -191,11 +177,6 @@ pub fn cycles_run()
 pub fn triggers_count_cycles()
     ensures counted { (setting : Setting) (history : List Event) (trace : List TimedFrame)
         → IsSetting setting → IsUnderWay setting history trace
-        → (front later : List TimedFrame) (sent : TimedFrame) → trace ≡ front ++ sent ∷ later
-        → length (filter (λ other. other.frame.identifier == 0) (front ++ sent ∷ []))
-        ≡ cycle_of setting.layout sent + 1 }
-    ensures counted_with { (sends : Instance → List ℕ) (setting : Setting) (history : List Event)
-        → (trace : List TimedFrame) → IsSetting setting → IsUnderWayWith sends setting history trace
         → (front later : List TimedFrame) (sent : TimedFrame) → trace ≡ front ++ sent ∷ later
         → length (filter (λ other. other.frame.identifier == 0) (front ++ sent ∷ []))
         ≡ cycle_of setting.layout sent + 1 }

@@ -8,7 +8,8 @@ use Rattle.master_core.specs.declared.event.Event.{Event}
 use Rattle.master_core.specs.declared.event.Event.TheVariants.{Open}
 use Rattle.master_core.specs.Orders.{IsOrder}
 use Rattle.master_core.specs.History.{IsLegal}
-use Rattle.kept_run.specs.Progress.{IsOnTheWay, Setting}
+use Rattle.kept_run.specs.Progress.{IsOnTheWay}
+use Rattle.kept_run.specs.Setting.{Setting}
 use Rattle.kept_run.proofs.Shared.{CallsBetween, CyclesRun, RanOrder, way-called, way-run}
 use Rattle.live_run.specs.declared.dispatching.Bus.{Bus}
 use Rattle.live_run.specs.Running.{CanRun, HasOpened, IsBeforeOrder, IsRunning}

@@ -11,7 +11,8 @@ use Rattle.master_core.specs.declared.event.Event.TheVariants.{Open}
 use Rattle.master_core.specs.History.{IsLegal, is_open, next_of}
 use Rattle.master_core.specs.Orders.{IsOrder}
 use Rattle.kept_run.proofs.Shared.{CallsBetween, way-called, way-same}
-use Rattle.kept_run.specs.Progress.{IsOnTheWay, Setting}
+use Rattle.kept_run.specs.Progress.{IsOnTheWay}
+use Rattle.kept_run.specs.Setting.{Setting}
 use Rattle.live_master.specs.Callers.{number_of}
 use Rattle.live_master.specs.Calls.{AfterWaiting, GaveBack}
 use Rattle.live_master.specs.Within.{OpenedWithin}

@@ -7,11 +7,14 @@ use Rattle.turn_lock.specs.History.{own}
 use Rattle.admission_rules.specs.declared.Rules.{Rules}
 use Rattle.turn_lock.specs.declared.view.View.{View}
 use Rattle.turn_lock.specs.Passes.{Facts, Known, Lock}
+use Rattle.requirement_table.specs.Instance.{bytes_of}
 use Rattle.cycle_engine.specs.Nodes.{IsBus, IsNumber, NodesView, left_in, states_of}
 use Rattle.master_core.specs.declared.event.Event.{Event}
 use Rattle.master_core.specs.History.{IsLegal, is_open, next_of}
-use Rattle.kept_run.specs.Progress.{AreReady, IsOnTheWay, IsSetting, IsUnderWay, Setting}
-use Rattle.kept_run.proofs.Shared.{CallsBetween, Promises, way-called}
+use Rattle.kept_run.specs.Progress.{AreReady, IsOnTheWay, IsUnderWay}
+use Rattle.kept_run.specs.Setting.{IsSetting, Setting}
+use Rattle.kept_run.specs.Served.{ForgetsEnds}
+use Rattle.kept_run.proofs.Shared.{CallsBetween, Promises, bytes_of-forgets, way-called}
 use Rattle.live_master.specs.Callers.{number_of}
 use Rattle.live_master.specs.Passes.{IsPassOf}
 use Rattle.live_run.specs.declared.crew.Operator.{Operator}
@@ -25,7 +28,7 @@ use Rattle.live_run.specs.Running.{CanRun, IsRunning}
 -- a run begins with no calls, no frames, and nodes as they were made
 pub record Beginning : Type 0 where
   pub under_way : (setting : Setting) → IsUnderWay setting [] []
-  pub ready : (setting : Setting) (nodes : NodesView) → nodes.layout ≡ setting.layout
+  pub ready : (setting : Setting) (nodes : NodesView) → nodes.layout ≡ setting.layout → setting.sends ≡ bytes_of
       → IsBus setting.layout setting.owners setting.requests [] [] 0 (states_of nodes.nodes)
       → ((number : ℕ) → number < setting.rules.nodes → IsNumber (states_of nodes.nodes) number)
       → AreReady setting [] [] nodes
@@ -39,7 +42,7 @@ begun laws setting shared seen bus known rules none fresh empty = record {
     known = known;
     under_way = subst (λ h. IsUnderWay setting h bus.trace.items) (sym none) (subst (λ t. IsUnderWay setting [] t) (sym empty) (laws.under_way setting));
     ready = subst (λ h. AreReady setting h bus.trace.items bus.nodes) (sym none) (subst (λ t. AreReady setting [] t bus.nodes) (sym empty)
-        (laws.ready setting bus.nodes fresh.same_layout fresh.bus fresh.numbers));
+        (laws.ready setting bus.nodes fresh.same_layout fresh.same_bytes fresh.bus fresh.numbers));
   };
 }
 
@@ -137,7 +140,7 @@ left-behind laws setting shared cycles scripts operators before after bus run kn
     (way-called laws.between setting seen later bus.trace.items bus.nodes closed legal running.way)) in
     let counted = retired.facts.counted in
     record {
-      kept = laws.promises.kept setting after.view.seen run.trace known way.under_way;
+      kept = laws.promises.kept setting after.view.seen run.trace known (subst ForgetsEnds (sym way.ready.same_bytes) bytes_of-forgets) way.under_way;
       opened = laws.cycles after.view retired.facts last ∙ (ap (λ (l : List Event). next_of l) mine ∙ count);
       dispatcher = last;
       openings = openings;

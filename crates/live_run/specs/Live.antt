@@ -4,12 +4,14 @@ use Rattle.admission_rules.specs.declared.Rules.{Rules}
 use Rattle.turn_lock.specs.declared.view.View.{View}
 use Rattle.turn_lock.specs.History.{own}
 use Rattle.turn_lock.specs.Passes.{Known, Lock, first_view}
+use Rattle.requirement_table.specs.Instance.{bytes_of}
 use Rattle.change_protocol.specs.declared.operations.Act.{Act}
 use Rattle.cycle_engine.specs.Nodes.{IsBus, IsNumber, NodesView, left_in, states_of}
 use Rattle.master_core.specs.declared.event.Event.{Event}
 use Rattle.master_core.specs.History.{is_open, next_of}
 use Rattle.kept_run.specs.Kept.{Kept}
-use Rattle.kept_run.specs.Progress.{AreReady, Setting}
+use Rattle.kept_run.specs.Progress.{AreReady}
+use Rattle.kept_run.specs.Setting.{Setting}
 use Rattle.live_master.specs.Callers.{number_of}
 use Rattle.live_master.specs.Passes.{IsPassOf}
 use Rattle.live_run.specs.declared.frames.Run.{Run}
@@ -21,9 +23,11 @@ pub record IsFirst (shared : Lock Rules) (pass : Known Event Rules) : Type 0 whe
   pub is : pass ≡ record { table = shared.table; view = first_view shared.fixed }
   pub standing : IsPassOf shared pass
 
--- nodes as they were made for a setting: one of each number, before cycle 0
+-- nodes as they were made for a setting: they send the number of an instance, and there is one of each number, before
+-- cycle 0
 pub record AreFresh (setting : Setting) (nodes : NodesView) : Type 0 where
   pub same_layout : nodes.layout ≡ setting.layout
+  pub same_bytes : setting.sends ≡ bytes_of
   pub bus : IsBus setting.layout setting.owners setting.requests [] [] 0 (states_of nodes.nodes)
   pub numbers : (number : ℕ) → number < setting.rules.nodes → IsNumber (states_of nodes.nodes) number
 
@@ -46,7 +50,7 @@ pub record IsLeft (setting : Setting) (history : List Event) (run : Run) : Type 
 -- its operator, which is one above its place, and of no other operator
 pub record IsLiveRun (setting : Setting) (cycles : ℕ) (scripts : List Script) (v : View Event Rules) (run : Run)
     : Type 0 where
-  pub kept : Kept setting.rules setting.layout setting.requests v.seen run.trace
+  pub kept : Kept setting v.seen run.trace
   pub opened : next_of v.seen ≡ cycles
   pub dispatcher : v.number ≡ 0
   pub openings : filter is_open v.seen ≡ v.mine

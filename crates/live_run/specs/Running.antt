@@ -10,7 +10,8 @@ use Rattle.master_core.specs.declared.event.Event.{Event}
 use Rattle.master_core.specs.declared.event.Event.TheVariants.{Open}
 use Rattle.master_core.specs.History.{IsLegal, is_open}
 use Rattle.master_core.specs.Orders.{IsOrder}
-use Rattle.kept_run.specs.Progress.{IsOnTheWay, Setting}
+use Rattle.kept_run.specs.Progress.{IsOnTheWay}
+use Rattle.kept_run.specs.Setting.{Setting}
 use Rattle.live_run.specs.declared.dispatching.Bus.{Bus}
 
 -- history and bus are on the way in this setting, before a cycle is run by this order, which is that of the history

@@ -4,7 +4,7 @@ use Rattle.turn_lock.specs.History.{own}
 use Rattle.master_core.specs.declared.event.Event.{Event}
 use Rattle.master_core.specs.History.{next_of}
 use Rattle.kept_run.specs.Kept.{Kept}
-use Rattle.kept_run.specs.Progress.{Setting}
+use Rattle.kept_run.specs.Setting.{Setting}
 use Rattle.live_master.specs.Callers.{number_of}
 use Rattle.live_run.specs.declared.closing.Ended.{Ended}
 use Rattle.live_run.specs.declared.script.Script.{Script}
@@ -24,6 +24,6 @@ pub record AnswersScripts (cycles : ℕ) (scripts : List Script) (history : List
 -- are not sent
 pub record IsWholeRun (setting : Setting) (cycles : ℕ) (scripts : List Script) (ended : Ended) : Type 0 where
   pub rules : ended.master.rules ≡ setting.rules
-  pub kept : Kept setting.rules setting.layout setting.requests ended.master.history ended.run.trace
+  pub kept : Kept setting ended.master.history ended.run.trace
   pub answers : AnswersScripts cycles scripts ended.master.history
   pub left : IsLeft setting ended.master.history ended.run

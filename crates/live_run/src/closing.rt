@@ -2,9 +2,10 @@
 
 ghost use Rattle.std.specs.Prelude.{◌≡◌, ◌<◌, ◌≤◌, All, AllPairs, Any, IfOk, length};
 ghost use Rattle.profile.specs.Limits.{arrivals_end, openings_end};
+ghost use Rattle.requirement_table.specs.Instance.{bytes_of};
 ghost use Rattle.admission.specs.Verdict.{IsRules};
 ghost use Rattle.async_window.specs.Owners.{AreOwners};
-ghost use Rattle.kept_run.specs.Progress.{Setting};
+ghost use Rattle.kept_run.specs.Setting.{Setting};
 ghost use Rattle.live_run.specs.Left.{left_of};
 ghost use Rattle.live_run.specs.Whole.{IsWholeRun};
 
@@ -55,7 +56,13 @@ pub fn run_whole<T: Threads + Wait + Sync, G: Gate>(
     gate: &G,
 ) -> Result<Ended, AllocError>
     ghost setting: { Setting }
-    requires given { setting ≡ record { rules = rules; layout = layout; owners = owners.now; requests = requests.now } }
+    requires given { setting ≡ record {
+      rules = rules;
+      layout = layout;
+      owners = owners.now;
+      requests = requests.now;
+      sends = bytes_of;
+    } }
     requires rules { IsRules rules }
     requires window { rules.window ≡ layout.window }
     requires slots { rules.slots ≡ layout.slots }

@@ -2,7 +2,7 @@
 
 ghost use Rattle.std.specs.Prelude.{◌≡◌, ◌<◌, ◌≤◌, IfOk, length};
 ghost use Rattle.profile.specs.Limits.{openings_end};
-ghost use Rattle.kept_run.specs.Progress.{IsSetting, Setting};
+ghost use Rattle.kept_run.specs.Setting.{IsSetting, Setting};
 ghost use Rattle.live_master.specs.Passes.{IsPassOf};
 ghost use Rattle.live_run.specs.Live.{AreFresh, IsFirst, IsLiveRun};
 ghost use Rattle.live_run.specs.Left.{left_at, numbers_of};

@@ -3,7 +3,7 @@
 ghost use Rattle.std.specs.Prelude.{◌≡◌, ◌+◌, ◌<◌, length, OnOk};
 ghost use Rattle.profile.specs.Limits.{openings_end};
 ghost use Rattle.master_core.specs.History.{next_of};
-ghost use Rattle.kept_run.specs.Progress.{Setting};
+ghost use Rattle.kept_run.specs.Setting.{Setting};
 ghost use Rattle.live_master.specs.Passes.{IsPassOf};
 ghost use Rattle.live_run.specs.Crew.{AreDone, AreHired, IsHired};
 ghost use Rattle.live_run.specs.Running.{CanRun, IsRunning, Stays};

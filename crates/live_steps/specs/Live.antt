@@ -13,6 +13,7 @@ use Rattle.master_core.specs.declared.event.Event.{Event}
 use Rattle.master_core.specs.History.{next_of}
 use Rattle.live_master.specs.Callers.{is_called_by, number_of}
 use Rattle.live_run.specs.Answers.{AnswersActs}
+use Rattle.replay_run.specs.Run.{setting_of}
 
 -- what a step asks of this operator, if anything
 abbrev pub act_of : ℕ → Step → Option Act
@@ -36,4 +37,4 @@ pub record AnswersOperators (history : List Event) (steps : List Step) : Type 0 
 pub record IsLive (system : System) (steps : List Step) (requests : List Request)
     (history : List Event) (trace : List TimedFrame) : Type 0 where
   pub answers : AnswersOperators history steps
-  pub kept : Kept system.rules system.layout requests history trace
+  pub kept : Kept (setting_of system requests) history trace

@@ -5,7 +5,7 @@ use Rattle.profile.specs.Limits.{first_identifier}
 use Rattle.can_frame.specs.DataFrame.{DataFrame}
 use Rattle.can_frame.specs.declared.data_frame.TimedFrame.{TimedFrame}
 use Rattle.cycle_layout.specs.Layout.{CycleLayout, trigger_part}
-use Rattle.requirement_table.specs.Instance.{Instance, bytes_of}
+use Rattle.requirement_table.specs.Instance.{Instance}
 use Rattle.requirement_table.specs.Slots.{contains_slot, most_slots}
 use Rattle.requirement_table.specs.Table.{instance_in}
 use Rattle.trigger_codec.specs.Bytes.{triggers_with}
@@ -52,7 +52,7 @@ bytes_sent sends opening slot = option_map sends (instance_in opening.placed slo
 -- in the cycle, from the synchronous window's start on, which lies behind the trigger part where the window is at most
 -- the largest one, each flagged slot is offered that has not been sent in the cycle: with its identifier, and the bytes
 -- that the instance sends which may be sent in the cycle
-pub record OffersSlotWith (sends : Instance → List ℕ) (layout : CycleLayout) (opening : Opening) (past : List TimedFrame)
+pub record OffersSlot (sends : Instance → List ℕ) (layout : CycleLayout) (opening : Opening) (past : List TimedFrame)
     (at : ℕ) (frame : DataFrame) (slot : ℕ) : Type 0 where
   pub begun : start_of layout opening ≤ at
   pub late_enough : window_start layout opening ≤ at
@@ -62,7 +62,3 @@ pub record OffersSlotWith (sends : Instance → List ℕ) (layout : CycleLayout)
   pub unsent : IsUnsent layout opening slot past
   pub identifier : frame.identifier ≡ first_identifier + slot
   pub bytes : bytes_sent sends opening slot ≡ Some frame.bytes
-
--- so where each instance sends its number
-abbrev pub OffersSlot : CycleLayout → Opening → List TimedFrame → ℕ → DataFrame → ℕ → Type 0
-OffersSlot = OffersSlotWith bytes_of

@@ -9,7 +9,7 @@ use Rattle.can_frame.specs.declared.data_frame.TimedFrame.{TimedFrame}
 use Rattle.cycle_layout.specs.Layout.{CycleLayout}
 use Rattle.requirement_table.specs.declared.entries.Placed.{Placed}
 use Rattle.requirement_table.specs.Slots.{contains_slot, most_slots}
-use Rattle.requirement_table.specs.Instance.{Instance}
+use Rattle.requirement_table.specs.Instance.{Instance, bytes_of}
 use Rattle.requirement_table.specs.Table.{instance_in}
 use Rattle.async_window.specs.declared.request.Owner.{Owner}
 use Rattle.async_window.specs.declared.request.Request.{Request}
@@ -24,7 +24,7 @@ use Rattle.node_model.specs.Node.{NodeState, Opened, counted, entries_of, identi
 abbrev pub OffersOwn : ℕ → CycleLayout → List Owner → List Request → Opening → List TimedFrame → ℕ → DataFrame → Type 0
 OffersOwn number layout owners requests opening past at frame =
     (OffersRequest layout requests opening past at frame × Contains (identifiers_of number owners) frame.identifier)
-    ⊎ ((slot : ℕ) × OffersSlot layout opening past at frame slot × ((instance : Instance)
+    ⊎ ((slot : ℕ) × OffersSlot bytes_of layout opening past at frame slot × ((instance : Instance)
     × (instance_in opening.placed slot opening.cycle ≡ Some instance) × (instance.placed.entry.node ≡ number)))
 
 -- what a node offers at a time is the least of its own part, and nothing where nothing of it is offered

@@ -9,7 +9,7 @@ use Rattle.requirement_table.specs.Opening.{Opening}
 use Rattle.requirement_table.specs.Slots.{most_slots}
 use Rattle.requirement_table.specs.Table.{instance_in}
 use Rattle.admission_rules.specs.declared.Rules.{Rules}
-use Rattle.cycle_engine.specs.Offered.{AreOfDistinctCycles, IsCanTraceWith, SendsWhole}
+use Rattle.cycle_engine.specs.Offered.{AreOfDistinctCycles, IsCanTrace, SendsWhole}
 use Rattle.steps_file.specs.declared.steps.Step.{Step}
 use Rattle.system_file.specs.SystemFile.{IsSystem}
 use Rattle.system_file.specs.declared.system.System.{System}
@@ -17,15 +17,16 @@ use Rattle.master_core.specs.Calls.{Call, call_of}
 use Rattle.master_core.specs.declared.event.Event.{Event}
 use Rattle.master_core.specs.History.{IsLegal, IsPlainlyLegal, next_of}
 use Rattle.master_core.specs.Openings.{openings_after, openings_of}
-use Rattle.kept_run.specs.Progress.{IsSetting, IsUnderWayWith, Setting}
+use Rattle.kept_run.specs.Progress.{IsUnderWay}
+use Rattle.kept_run.specs.Setting.{IsSetting, Setting}
 use Rattle.kept_run.proofs.Shared.{number-below}
-use Rattle.replay_run.specs.Progress.{setting_of}
+use Rattle.replay_run.specs.Run.{setting_of}
 use Rattle.replay_run.proofs.Shared.{distinct, openings_of-append}
 use Rattle.sporadic_poll.specs.declared.stream.Stream.{Stream}
 use Rattle.sporadic_poll.specs.Polled.{AreRides, is_polled, lengths_of, payload_at, polled_bytes}
 use Rattle.sporadic_poll.specs.Ride.{IsRide, IsTakenBefore, Takes, bytes_with}
 use Rattle.sporadic_poll.specs.Rides.{AreRidesAt}
-use Rattle.poll_run.specs.PolledRun.{IsPolledBegun, IsPolledRun, IsPolledTrace}
+use Rattle.poll_run.specs.PolledRun.{IsPolledBegun, IsPolledRun, IsPolledTrace, polled_setting}
 use Rattle.poll_run.proofs.Bytes.{polled-whole}
 use Rattle.poll_run.proofs.OneRun.{same-trace}
 use Rattle.poll_run.proofs.Openings.{opening-at}
@@ -105,9 +106,9 @@ pub record BegunLaws : Type 0 where
   pub sound : (placed : List Placed) (slot c : ℕ)
       → IfSome (instance_in placed slot c) (λ i. Contains placed i.placed × (i.placed.entry.slot ≡ slot) × MaySend i.placed i.number c)
   pub whole : SendsWhole bytes_of
-  pub under_way : (sends : Instance → List ℕ) (setting : Setting) (history : List Event) (trace : List TimedFrame) → IsSetting setting → SendsWhole sends
-      → IsLegal setting.rules history → IsCanTraceWith sends setting.layout setting.requests (openings_of history) (next_of history) trace
-      → IsUnderWayWith sends setting history trace
+  pub under_way : (setting : Setting) (history : List Event) (trace : List TimedFrame) → IsSetting setting → SendsWhole setting.sends
+      → IsLegal setting.rules history → IsCanTrace setting.sends setting.layout setting.requests (openings_of history) (next_of history) trace
+      → IsUnderWay setting history trace
 
 -- the events of a run of the first calls are the first ones
 pub begun-history : BegunLaws → (system : System) (steps : List Step) (streams : List Stream) (history whole : List Event) (carried again : ℕ → ℕ → Option ℕ)
@@ -148,16 +149,14 @@ module _ (laws : BegunLaws) (system : System) (steps : List Step) (streams : Lis
       (carried slot) (again slot) (begun.polled.rides slot known) (all.rides slot known) (next_of history)
       (λ k before. same-lengths slot k known before) (next_of history) (omega arith) cycle early
 
+  -- the setting of the whole run
   abbrev setting : Setting
-  setting = setting_of system []
-
-  abbrev sends : Instance → List ℕ
-  sends = polled_bytes streams again
+  setting = polled_setting (setting_of system []) streams again
 
   -- so its trace is a CAN trace with the bytes of the whole run
-  begun-can_trace : IsCanTraceWith sends system.layout [] (openings_of history) (next_of history) trace
+  begun-can_trace : IsCanTrace setting.sends system.layout [] (openings_of history) (next_of history) trace
   begun-can_trace =
-      same-trace (polled_bytes streams carried) sends system.layout (openings_of history) (next_of history) trace
+      same-trace (polled_bytes streams carried) setting.sends system.layout (openings_of history) (next_of history) trace
       (λ k d within slot known.
       let o : Opening = get_or (openings_of history) k d in
       sent-too streams carried again (next_of history) begun-rides o.placed slot o.cycle (instance_in o.placed slot o.cycle) known
@@ -173,11 +172,11 @@ module _ (laws : BegunLaws) (system : System) (steps : List Step) (streams : Lis
     asynchronous = All-nil (λ request. (0x200 ≤ request.frame.identifier) × (request.frame.identifier ≤ 0x7EF));
   }
 
-  -- both runs are under way with these bytes
-  pub begun-under_way : IsSystem system → IsUnderWayWith sends setting history trace
+  -- both runs are under way in it
+  pub begun-under_way : IsSystem system → IsUnderWay setting history trace
   begun-under_way is =
-      laws.under_way sends setting history trace (known-setting is) (polled-whole laws.whole streams again) begun.polled.plain.legal begun-can_trace
+      laws.under_way setting history trace (known-setting is) (polled-whole laws.whole streams again) begun.polled.plain.legal begun-can_trace
 
-  pub all-under_way : IsSystem system → IsUnderWayWith sends setting (history ++ rest) frames
+  pub all-under_way : IsSystem system → IsUnderWay setting (history ++ rest) frames
   all-under_way is =
-      laws.under_way sends setting (history ++ rest) frames (known-setting is) (polled-whole laws.whole streams again) all.plain.legal all.kept.can_trace
+      laws.under_way setting (history ++ rest) frames (known-setting is) (polled-whole laws.whole streams again) all.plain.legal all.kept.can_trace

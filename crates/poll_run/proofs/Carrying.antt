@@ -13,14 +13,15 @@ use Rattle.requirement_table.specs.declared.entries.Placed.{Placed}
 use Rattle.admission_rules.specs.declared.Rules.{Rules}
 use Rattle.async_window.specs.declared.request.Request.{Request}
 use Rattle.bus_line.specs.Trace.{Follows}
-use Rattle.cycle_engine.specs.Cycle.{FitsWindow, RunsCycleWith}
-use Rattle.cycle_engine.specs.Offered.{AreOfDistinctCycles, SendsWhole, offered_in, offered_in_with}
+use Rattle.cycle_engine.specs.Cycle.{FitsWindow, RunsCycle}
+use Rattle.cycle_engine.specs.Offered.{AreOfDistinctCycles, SendsWhole, offered_in}
 use Rattle.master_core.specs.Calls.{Call, asked, call_of, opens}
 use Rattle.master_core.specs.declared.event.Event.{Event}
 use Rattle.master_core.specs.declared.event.Event.TheVariants.{Open}
 use Rattle.master_core.specs.History.{IsLegal, is_open, next_of, placed_of}
 use Rattle.master_core.specs.Openings.{openings_of}
-use Rattle.kept_run.specs.Progress.{IsSetting, IsUnderWayWith, Setting}
+use Rattle.kept_run.specs.Progress.{IsUnderWay}
+use Rattle.kept_run.specs.Setting.{IsSetting, Setting}
 use Rattle.kept_run.proofs.Shared.{next_of-push}
 use Rattle.bus_trace.specs.EventRows.{BeginsCycle, rows_of_event, width_told_in}
 use Rattle.bus_trace.specs.Log.{events_rows, triggers_in}
@@ -35,6 +36,7 @@ use Rattle.sporadic_poll.specs.Ride.{IsRide}
 use Rattle.sporadic_poll.specs.Rides.{AreFates, AreRidesAt, HaveRidden, IsPlainCycle, Riding}
 use Rattle.sporadic_poll.specs.Waiting.{ride_of}
 use Rattle.poll_run.specs.declared.polled.Polled.{Polled}
+use Rattle.poll_run.specs.PolledRun.{polled_setting}
 use Rattle.poll_run.specs.Polling.{CanPoll, IsPolled, IsPolledAt, IsPolledOn, PollsOn, SoFar}
 use Rattle.poll_run.proofs.Bytes.{polled-whole}
 use Rattle.poll_run.proofs.Calls.{closed-by, quiet-opened, quiet-push}
@@ -49,6 +51,11 @@ pub record RideLaws : Type 0 where
       → AreRidesAt layout_cycle streams opening (lengths_of openings) carried
   pub cycles : (rules : Rules) (history : List Event) → IsLegal rules history
       → map (λ o. o.cycle) (openings_of history) ≡ range_with_len 0 (next_of history)
+
+-- a setting in its ranges is so whatever its instances carry
+pub known-polled : (setting : Setting) (streams : List Stream) (carried : ℕ → ℕ → Option ℕ) → IsSetting setting → IsSetting (polled_setting setting streams carried)
+known-polled setting streams carried is =
+    record { known = is.known; same_window = is.same_window; same_slots = is.same_slots; asynchronous = is.asynchronous }
 
 -- what instances take by *Ride*
 abbrev pub some_rides : ℕ → List Stream → List Opening → ℕ → ℕ → Option ℕ
@@ -69,23 +76,23 @@ module _ (laws : RideLaws) (setting : Setting) (streams : List Stream) (history 
 -- what laws of the crates below say of a cycle that is opened
 pub record CycleLaws : Type 0 where
   pub rides : RideLaws
-  pub opened_with : (sends : Instance → List ℕ) (setting : Setting) (history : List Event) (cycle mask : ℕ) (trace frames : List TimedFrame)
-      → IsSetting setting → SendsWhole sends → IsUnderWayWith sends setting history trace → IsLegal setting.rules (history ++ Open cycle mask ∷ [])
-      → Follows (offered_in_with sends setting.layout setting.requests (record { cycle = cycle; mask = mask; placed = placed_of history }))
+  pub opened : (setting : Setting) (history : List Event) (cycle mask : ℕ) (trace frames : List TimedFrame)
+      → IsSetting setting → SendsWhole setting.sends → IsUnderWay setting history trace → IsLegal setting.rules (history ++ Open cycle mask ∷ [])
+      → Follows (offered_in setting.sends setting.layout setting.requests (record { cycle = cycle; mask = mask; placed = placed_of history }))
       trace (cycle * setting.layout.cycle) ((cycle + 1) * setting.layout.cycle) frames
-      → IsUnderWayWith sends setting (history ++ Open cycle mask ∷ []) (trace ++ frames)
-  pub runs_with : (sends : Instance → List ℕ) (setting : Setting) (history : List Event) (cycle mask : ℕ) (trace frames : List TimedFrame)
-      → IsSetting setting → SendsWhole sends → IsUnderWayWith sends setting history trace → IsLegal setting.rules (history ++ Open cycle mask ∷ [])
-      → Follows (offered_in_with sends setting.layout setting.requests (record { cycle = cycle; mask = mask; placed = placed_of history }))
+      → IsUnderWay setting (history ++ Open cycle mask ∷ []) (trace ++ frames)
+  pub runs : (setting : Setting) (history : List Event) (cycle mask : ℕ) (trace frames : List TimedFrame)
+      → IsSetting setting → SendsWhole setting.sends → IsUnderWay setting history trace → IsLegal setting.rules (history ++ Open cycle mask ∷ [])
+      → Follows (offered_in setting.sends setting.layout setting.requests (record { cycle = cycle; mask = mask; placed = placed_of history }))
       trace (cycle * setting.layout.cycle) ((cycle + 1) * setting.layout.cycle) frames
-      → RunsCycleWith sends setting.layout (record { cycle = cycle; mask = mask; placed = placed_of history }) frames
+      → RunsCycle setting.sends setting.layout (record { cycle = cycle; mask = mask; placed = placed_of history }) frames
   pub fits : (setting : Setting) (history : List Event) (cycle mask : ℕ) → IsSetting setting → IsLegal setting.rules (history ++ Open cycle mask ∷ [])
       → FitsWindow setting.layout (record { cycle = cycle; mask = mask; placed = placed_of history })
   pub whole : SendsWhole bytes_of
   pub begin : (sends : Instance → List ℕ) (layout : CycleLayout) (opening : Opening) (frames : List TimedFrame) → IsLayout layout
-      → FitsWindow layout opening → RunsCycleWith sends layout opening frames → BeginsCycle opening.cycle opening.mask frames
+      → FitsWindow layout opening → RunsCycle sends layout opening frames → BeginsCycle opening.cycle opening.mask frames
   pub width : (sends : Instance → List ℕ) (layout : CycleLayout) (opening : Opening) (frames : List TimedFrame)
-      → RunsCycleWith sends layout opening frames → width_told_in frames ≡ width_of opening
+      → RunsCycle sends layout opening frames → width_told_in frames ≡ width_of opening
   pub rows : (rules : Rules) (trace frames : List TimedFrame) (history : List Event) (cycle mask : ℕ) → IsLegal rules history
       → triggers_in trace ≡ next_of history → cycle ≡ next_of history → BeginsCycle cycle mask frames
       → width_told_in frames ≡ width_of (record { cycle = cycle; mask = mask; placed = placed_of history })
@@ -104,7 +111,7 @@ pub record Carries (layout : CycleLayout) (streams : List Stream) (cycle : ℕ) 
   pub frames_are : (mask : ℕ) (lengths carried : ℕ → ℕ → Option ℕ) (past : List TimedFrame)
       → AreRidesAt layout.cycle streams (record { cycle = cycle; mask = mask; placed = placed }) lengths carried → HaveRidden carried cycle old
       → IsPlainCycle layout (record { cycle = cycle; mask = mask; placed = placed }) plain → All (λ sent. sent.start < cycle * layout.cycle) past
-      → Follows (offered_in_with (polled_bytes streams carried) layout [] (record { cycle = cycle; mask = mask; placed = placed })) past
+      → Follows (offered_in (polled_bytes streams carried) layout [] (record { cycle = cycle; mask = mask; placed = placed })) past
       (cycle * layout.cycle) ((cycle + 1) * layout.cycle) frames
 
 -- a cycle is opened after the history of a polled run, and run on the bus without requests
@@ -114,10 +121,10 @@ pub record IsOpened (setting : Setting) (streams : List Stream) (history : List 
   pub none : setting.requests ≡ []
   pub legal : IsLegal setting.rules (history ++ Open cycle mask ∷ [])
   pub before : All (λ sent. sent.start < next_of history * setting.layout.cycle) plain_trace
-  pub follows : Follows (offered_in setting.layout setting.requests (record { cycle = cycle; mask = mask; placed = placed_of history }))
+  pub follows : Follows (offered_in bytes_of setting.layout setting.requests (record { cycle = cycle; mask = mask; placed = placed_of history }))
       plain_trace (cycle * setting.layout.cycle) ((cycle + 1) * setting.layout.cycle) plain
   pub carries : Carries setting.layout streams cycle (placed_of history) plain frames old new
-  pub under_way : SoFar setting streams history (λ carried. IsUnderWayWith (polled_bytes streams carried) setting history trace)
+  pub under_way : SoFar setting streams history (λ carried. IsUnderWay (polled_setting setting streams carried) history trace)
   pub ridden : SoFar setting streams history (λ carried. HaveRidden carried (next_of history) old)
   pub are : SoFar setting streams history (λ carried. AreFates streams (openings_of history) carried old.fates)
   pub triggers : triggers_in trace ≡ next_of history
@@ -144,7 +151,7 @@ module _ (laws : CycleLaws) (setting : Setting) (streams : List Stream) (history
     past = plain_trace;
     before = subst (λ (n : ℕ). All (λ sent. sent.start < n * E) plain_trace) (sym parts.1) opened.before;
     fits = laws.fits setting history cycle mask opened.known opened.legal;
-    follows = subst (λ (requests : List Request). Follows (offered_in setting.layout requests opening) plain_trace (cycle * E) ((cycle + 1) * E) plain) opened.none opened.follows;
+    follows = subst (λ (requests : List Request). Follows (offered_in bytes_of setting.layout requests opening) plain_trace (cycle * E) ((cycle + 1) * E) plain) opened.none opened.follows;
   }
 
   openings-now : openings_of after ≡ openings_of history ++ opening ∷ []
@@ -163,18 +170,18 @@ module _ (laws : CycleLaws) (setting : Setting) (streams : List Stream) (history
     rode : HaveRidden carried cycle old
     rode = subst (λ (n : ℕ). HaveRidden carried n old) (sym parts.1) (opened.ridden lengths carried earlier)
 
-    way : IsUnderWayWith (polled_bytes streams carried) setting history trace
+    way : IsUnderWay (polled_setting setting streams carried) history trace
     way = opened.under_way lengths carried earlier
 
-    follows-on : Follows (offered_in_with (polled_bytes streams carried) setting.layout setting.requests opening) trace (cycle * E) ((cycle + 1) * E) frames
+    follows-on : Follows (offered_in (polled_bytes streams carried) setting.layout setting.requests opening) trace (cycle * E) ((cycle + 1) * E) frames
     follows-on =
-        subst (λ (requests : List Request). Follows (offered_in_with (polled_bytes streams carried) setting.layout requests opening) trace (cycle * E) ((cycle + 1) * E) frames)
+        subst (λ (requests : List Request). Follows (offered_in (polled_bytes streams carried) setting.layout requests opening) trace (cycle * E) ((cycle + 1) * E) frames)
         (sym opened.none)
         (opened.carries.frames_are mask lengths carried trace here rode plain-cycle
         (subst (λ (n : ℕ). All (λ sent. sent.start < n * E) trace) (sym parts.1) way.can_trace.within))
 
-    pub way-on : IsUnderWayWith (polled_bytes streams carried) setting after (trace ++ frames)
-    way-on = laws.opened_with (polled_bytes streams carried) setting history cycle mask trace frames opened.known (polled-whole laws.whole streams carried) way opened.legal follows-on
+    pub way-on : IsUnderWay (polled_setting setting streams carried) after (trace ++ frames)
+    way-on = laws.opened (polled_setting setting streams carried) history cycle mask trace frames (known-polled setting streams carried opened.known) (polled-whole laws.whole streams carried) way opened.legal follows-on
 
     pub rode-on : HaveRidden carried (next_of after) new
     rode-on = subst (λ (n : ℕ). HaveRidden carried n new) (sym next-now) (opened.carries.taken mask lengths carried here rode)
@@ -183,15 +190,15 @@ module _ (laws : CycleLaws) (setting : Setting) (streams : List Stream) (history
     fates-on = subst (λ (l : List Opening). AreFates streams l carried new.fates) (sym openings-now)
         (opened.carries.fates (openings_of history) mask lengths carried here rode plain-cycle (opened.are lengths carried earlier))
 
-    runs-on : RunsCycleWith (polled_bytes streams carried) setting.layout opening frames
-    runs-on = laws.runs_with (polled_bytes streams carried) setting history cycle mask trace frames opened.known (polled-whole laws.whole streams carried) way opened.legal follows-on
+    runs-on : RunsCycle (polled_bytes streams carried) setting.layout opening frames
+    runs-on = laws.runs (polled_setting setting streams carried) history cycle mask trace frames (known-polled setting streams carried opened.known) (polled-whole laws.whole streams carried) way opened.legal follows-on
 
   -- the frames begin with the cycle's trigger frame
-  some-run : (carried : ℕ → ℕ → Option ℕ) × RunsCycleWith (polled_bytes streams carried) setting.layout opening frames
+  some-run : (carried : ℕ → ℕ → Option ℕ) × RunsCycle (polled_bytes streams carried) setting.layout opening frames
   some-run =
       let carried = some_rides E streams (openings_of after) in (
         carried,
-        of-rides laws.rides setting streams after opened.legal (λ c. RunsCycleWith (polled_bytes streams c) setting.layout opening frames) carried runs-on
+        of-rides laws.rides setting streams after opened.legal (λ c. RunsCycle (polled_bytes streams c) setting.layout opening frames) carried runs-on
             (are-some laws.rides setting streams after opened.legal),
       )
 
@@ -249,7 +256,7 @@ module _ (laws : CycleLaws) (run : Polled) (between : Bus) (after : Polled) (cyc
       none = is.no_requests;
       legal = legal-now;
       before = is.going.way.under_way.can_trace.within;
-      follows = subst (λ (h : List Event). Follows (offered_in setting.layout setting.requests (record { cycle = next.cycle; mask = next.mask; placed = placed_of h }))
+      follows = subst (λ (h : List Event). Follows (offered_in bytes_of setting.layout setting.requests (record { cycle = next.cycle; mask = next.mask; placed = placed_of h }))
           is.plain_trace (next.cycle * setting.layout.cycle) ((next.cycle + 1) * setting.layout.cycle) after.bus.segment) still.same next.follows;
       carries = carries-on;
       under_way = is.under_way;
@@ -283,7 +290,7 @@ module _ (laws : CycleLaws) (run : Polled) (between : Bus) (after : Polled) (cyc
             same_layout = layout ∙ is.same_layout;
             same_streams = same_streams ∙ is.same_streams;
             all_slots = slots ∙ is.all_slots;
-            under_way = subst (λ (h : List Event). SoFar setting streams h (λ carried. IsUnderWayWith (polled_bytes streams carried) setting h (trace ++ frames))) back
+            under_way = subst (λ (h : List Event). SoFar setting streams h (λ carried. IsUnderWay (polled_setting setting streams carried) h (trace ++ frames))) back
                 (way-on laws setting streams history next.cycle next.mask trace is.plain_trace after.bus.segment frames run.rides after.rides opened);
             ridden = subst (λ (h : List Event). SoFar setting streams h (λ carried. HaveRidden carried (next_of h) after.rides)) back
                 (rode-on laws setting streams history next.cycle next.mask trace is.plain_trace after.bus.segment frames run.rides after.rides opened);
@@ -309,9 +316,9 @@ module _ (laws : CycleLaws) (run : Polled) (between : Bus) (after : Polled) (cyc
 
 -- what laws of the crates below say of a call that opens no cycle
 pub record CallLaws : Type 0 where
-  pub under_way : (sends : Instance → List ℕ) (setting : Setting) (history calls : List Event) (trace : List TimedFrame)
-      → All (λ call. is_open call ≡ false) calls → IsLegal setting.rules (history ++ calls) → IsUnderWayWith sends setting history trace
-      → IsUnderWayWith sends setting (history ++ calls) trace
+  pub under_way : (setting : Setting) (history calls : List Event) (trace : List TimedFrame)
+      → All (λ call. is_open call ≡ false) calls → IsLegal setting.rules (history ++ calls) → IsUnderWay setting history trace
+      → IsUnderWay setting (history ++ calls) trace
   pub rows : (trace : List TimedFrame) (history : List Event) (event : Event) → is_open event ≡ false
       → events_rows trace [] (history ++ event ∷ []) ≡ events_rows trace [] history ++ rows_of_event event []
 
@@ -347,10 +354,10 @@ answered-on laws setting streams trace run after caller act brings calls layout 
         same_layout = layout ∙ is.same_layout;
         same_streams = ap (λ (r : Riding). r.queued.streams) rides ∙ is.same_streams;
         all_slots = ap (λ (r : Riding). length r.queued.next) rides ∙ is.all_slots;
-        under_way = subst (λ (h : List Event). SoFar setting streams h (λ carried. IsUnderWayWith (polled_bytes streams carried) setting h (trace ++ []))) back
-            (reach (λ carried. IsUnderWayWith (polled_bytes streams carried) setting whole (trace ++ []))
-            (λ lengths carried all. subst (IsUnderWayWith (polled_bytes streams carried) setting whole) same
-            (laws.under_way (polled_bytes streams carried) setting own (event ∷ []) trace one legal (is.under_way lengths carried all))));
+        under_way = subst (λ (h : List Event). SoFar setting streams h (λ carried. IsUnderWay (polled_setting setting streams carried) h (trace ++ []))) back
+            (reach (λ carried. IsUnderWay (polled_setting setting streams carried) whole (trace ++ []))
+            (λ lengths carried all. subst (IsUnderWay (polled_setting setting streams carried) whole) same
+            (laws.under_way (polled_setting setting streams carried) own (event ∷ []) trace one legal (is.under_way lengths carried all))));
         ridden = subst (λ (h : List Event). SoFar setting streams h (λ carried. HaveRidden carried (next_of h) after.rides)) back
             (reach (λ carried. HaveRidden carried (next_of whole) after.rides)
             (λ lengths carried all. subst (λ (r : Riding). HaveRidden carried (next_of whole) r) (sym rides)
@@ -370,7 +377,7 @@ answered-on laws setting streams trace run after caller act brings calls layout 
 -- a run of no calls yet
 pub begins-polled : (setting : Setting) (streams : List Stream) (run : Polled) → IsGoing setting [] run.bus → run.bus.master.history ≡ []
     → setting.requests ≡ [] → run.layout ≡ setting.layout → run.rides.queued.streams ≡ streams → length run.rides.queued.next ≡ setting.rules.slots
-    → ((sends : Instance → List ℕ) → IsUnderWayWith sends setting [] []) → ((carried : ℕ → ℕ → Option ℕ) → HaveRidden carried 0 run.rides)
+    → ((carried : ℕ → ℕ → Option ℕ) → IsUnderWay (polled_setting setting streams carried) [] []) → ((carried : ℕ → ℕ → Option ℕ) → HaveRidden carried 0 run.rides)
     → ((carried : ℕ → ℕ → Option ℕ) → AreFates streams [] carried run.rides.fates) → 2128 ≤ vec_capacity run.frames → run.quiet ≡ true
     → IsPolled setting streams [] run
 begins-polled setting streams run going empty none layout same_streams slots way fresh are room quiet =
@@ -382,8 +389,8 @@ begins-polled setting streams run going empty none layout same_streams slots way
       same_layout = layout;
       same_streams = same_streams;
       all_slots = slots;
-      under_way = subst (λ (h : List Event). SoFar setting streams h (λ carried. IsUnderWayWith (polled_bytes streams carried) setting h [])) back
-          (λ lengths carried all. way (polled_bytes streams carried));
+      under_way = subst (λ (h : List Event). SoFar setting streams h (λ carried. IsUnderWay (polled_setting setting streams carried) h [])) back
+          (λ lengths carried all. way carried);
       ridden = subst (λ (h : List Event). SoFar setting streams h (λ carried. HaveRidden carried (next_of h) run.rides)) back (λ lengths carried all. fresh carried);
       fates = subst (λ (h : List Event). SoFar setting streams h (λ carried. AreFates streams (openings_of h) carried run.rides.fates)) back
           (λ lengths carried all. are carried);

@@ -2,36 +2,34 @@
 use Rattle.std.proofs.Common.{ℕ, List, [], Option, map, refl, sym, ap, ◌∙◌, subst}
 use Rattle.std.specs.List.{flat_map}
 use Rattle.can_frame.specs.declared.data_frame.TimedFrame.{TimedFrame}
-use Rattle.requirement_table.specs.Instance.{Instance}
 use Rattle.steps_file.specs.declared.steps.Step.{Step}
 use Rattle.system_file.specs.declared.system.System.{System}
 use Rattle.master_core.specs.Calls.{call_of}
 use Rattle.master_core.specs.declared.event.Event.{Event}
 use Rattle.master_core.specs.History.{IsPlainlyLegal}
 use Rattle.master_core.specs.Openings.{openings_of}
-use Rattle.kept_run.specs.Kept.{KeptWith}
-use Rattle.kept_run.specs.Progress.{IsSetting, IsUnderWayWith, Setting}
+use Rattle.kept_run.specs.Kept.{Kept}
+use Rattle.kept_run.specs.Progress.{IsUnderWay}
+use Rattle.kept_run.specs.Setting.{IsSetting, Setting}
 use Rattle.kept_run.specs.Served.{ForgetsEnds}
 use Rattle.bus_trace.specs.Log.{log_text}
-use Rattle.replay_run.specs.Progress.{setting_of}
-use Rattle.replay_run.specs.Run.{calls_of}
+use Rattle.replay_run.specs.Run.{calls_of, setting_of}
 use Rattle.replay_run.specs.Runs.{AnswersAll, AnswersFirst, IsLogHeard}
 use Rattle.sporadic_poll.specs.declared.fate.Fate.{Fate}
 use Rattle.sporadic_poll.specs.declared.stream.Stream.{Stream}
-use Rattle.sporadic_poll.specs.Polled.{polled_bytes}
 use Rattle.sporadic_poll.specs.Rides.{AreFates}
 use Rattle.poll_run.specs.declared.polled.Polled.{Polled}
-use Rattle.poll_run.specs.PolledRun.{IsPolledTrace}
+use Rattle.poll_run.specs.PolledRun.{IsPolledTrace, polled_setting}
 use Rattle.poll_run.specs.Polling.{IsPolledAt, IsPolledOnBus, PollSetting, SoFar}
 use Rattle.poll_run.specs.Whole.{IsBegun, IsHeard, IsRun}
 use Rattle.poll_run.proofs.Bytes.{polled-forgets}
-use Rattle.poll_run.proofs.Carrying.{RideLaws, are-some, of-rides, some_rides}
+use Rattle.poll_run.proofs.Carrying.{RideLaws, are-some, known-polled, of-rides, some_rides}
 
 -- what laws of the crates below say of a run that is under way, and of *Ride*
 pub record EndLaws : Type 0 where
   pub rides : RideLaws
-  pub kept : (sends : Instance → List ℕ) (setting : Setting) (history : List Event) (trace : List TimedFrame) → IsSetting setting → ForgetsEnds sends
-      → IsUnderWayWith sends setting history trace → KeptWith sends setting.rules setting.layout setting.requests history trace
+  pub kept : (setting : Setting) (history : List Event) (trace : List TimedFrame) → IsSetting setting → ForgetsEnds setting.sends
+      → IsUnderWay setting history trace → Kept setting history trace
 
 module _ (laws : EndLaws) (system : System) (steps : List Step) (streams : List Stream) where
   abbrev pub start : PollSetting
@@ -43,27 +41,27 @@ module _ (laws : EndLaws) (system : System) (steps : List Step) (streams : List 
 
   -- history and trace keep what is promised
   polled-trace : (history : List Event) (trace : List TimedFrame) → IsSetting start.setting → IsPlainlyLegal start.setting.rules history
-      → SoFar start.setting streams history (λ carried. IsUnderWayWith (polled_bytes streams carried) start.setting history trace)
+      → SoFar start.setting streams history (λ carried. IsUnderWay (polled_setting start.setting streams carried) history trace)
       → IsPolledTrace system streams history (taken history) trace
   polled-trace history trace known plain way =
       let rides = are-some laws.rides start.setting streams history plain.legal in
       record {
         plain = plain;
         rides = rides;
-        kept = laws.kept (polled_bytes streams (taken history)) start.setting history trace known (polled-forgets streams (taken history))
+        kept = laws.kept (polled_setting start.setting streams (taken history)) history trace (known-polled start.setting streams (taken history) known) (polled-forgets streams (taken history))
             (of-rides laws.rides start.setting streams history plain.legal
-            (λ carried. IsUnderWayWith (polled_bytes streams carried) start.setting history trace) (taken history) way rides);
+            (λ carried. IsUnderWay (polled_setting start.setting streams carried) history trace) (taken history) way rides);
       }
 
   -- a polled run that could not begin
-  pub begun-at_once : IsSetting start.setting → ((sends : Instance → List ℕ) → IsUnderWayWith sends start.setting [] [])
+  pub begun-at_once : IsSetting start.setting → ((carried : ℕ → ℕ → Option ℕ) → IsUnderWay (polled_setting start.setting streams carried) [] [])
       → IsBegun system steps streams [] []
   begun-at_once known way = record {
     carried = taken [];
     begun = record {
       later = flat_map calls_of steps;
       answers = refl;
-      polled = polled-trace [] [] known (record { legal = tt; now = tt }) (λ lengths carried all. way (polled_bytes streams carried));
+      polled = polled-trace [] [] known (record { legal = tt; now = tt }) (λ lengths carried all. way carried);
     };
   }
 

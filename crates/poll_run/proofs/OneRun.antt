@@ -10,8 +10,8 @@ use Rattle.requirement_table.specs.Instance.{Instance, bytes_of, release_of}
 use Rattle.requirement_table.specs.Opening.{Opening}
 use Rattle.requirement_table.specs.Slots.{most_slots}
 use Rattle.bus_line.specs.Trace.{IsLeastOffered, IsTrace, Offers, started_before}
-use Rattle.node_model.specs.Offered.{OffersSlotWith, bytes_sent}
-use Rattle.cycle_engine.specs.Offered.{IsCanTraceWith, offered_with}
+use Rattle.node_model.specs.Offered.{OffersSlot, bytes_sent}
+use Rattle.cycle_engine.specs.Offered.{IsCanTrace, offered}
 use Rattle.system_file.specs.declared.system.System.{System}
 use Rattle.master_core.specs.declared.event.Event.{Event}
 use Rattle.master_core.specs.History.{next_of}
@@ -54,8 +54,8 @@ same-sent one other same (Some i) = ap Some (same i)
 module _ (one other : Instance → List ℕ) (layout : CycleLayout) (openings : List Opening)
     (same : All (λ o. (slot : ℕ) → slot < most_slots → bytes_sent one o slot ≡ bytes_sent other o slot) openings) where
   slot-too : (opening : Opening) → Contains openings opening → (past : List TimedFrame) (at : ℕ) (frame : DataFrame) (slot : ℕ)
-      → OffersSlotWith one layout opening past at frame slot
-      → OffersSlotWith other layout opening past at frame slot
+      → OffersSlot one layout opening past at frame slot
+      → OffersSlot other layout opening past at frame slot
   slot-too opening opened past at frame slot offers = record {
     begun = offers.begun;
     late_enough = offers.late_enough;
@@ -68,8 +68,8 @@ module _ (one other : Instance → List ℕ) (layout : CycleLayout) (openings : 
         ∙ offers.bytes;
   }
 
-  offered-too : (past : List TimedFrame) (at : ℕ) (frame : DataFrame) → offered_with one layout [] openings past at frame
-      → offered_with other layout [] openings past at frame
+  offered-too : (past : List TimedFrame) (at : ℕ) (frame : DataFrame) → offered one layout [] openings past at frame
+      → offered other layout [] openings past at frame
   offered-too past at frame (opening, opened, inl trigger) = (opening, opened, inl trigger)
   offered-too past at frame (opening, opened, inr (inl request)) = (opening, opened, inr (inl request))
   offered-too past at frame (opening, opened, inr (inr slot)) = (opening, opened, inr (inr (slot.0, slot-too opening opened past at frame slot.0 slot.1)))
@@ -95,9 +95,9 @@ trace-too offers others until trace there back is = record {
 -- so the CAN trace is the same where the instances that may be sent in the opened cycles send the same bytes
 pub same-trace : (one other : Instance → List ℕ) (layout : CycleLayout) (openings : List Opening) (count : ℕ) (trace : List TimedFrame)
     → All (λ o. (slot : ℕ) → slot < most_slots → bytes_sent one o slot ≡ bytes_sent other o slot) openings
-    → IsCanTraceWith one layout [] openings count trace → IsCanTraceWith other layout [] openings count trace
+    → IsCanTrace one layout [] openings count trace → IsCanTrace other layout [] openings count trace
 same-trace one other layout openings count trace same is =
-    trace-too (offered_with one layout [] openings) (offered_with other layout [] openings) (count * layout.cycle) trace
+    trace-too (offered one layout [] openings) (offered other layout [] openings) (count * layout.cycle) trace
     (offered-too one other layout openings same)
     (offered-too other one layout openings (λ k d within slot known. sym (same k d within slot known)))
     is

@@ -14,7 +14,7 @@ use Rattle.requirement_table.specs.Table.{IsInRange, IsWellPlaced, instance_in}
 use Rattle.change_protocol.specs.Applied.{without_end}
 use Rattle.admission_rules.specs.declared.Rules.{Rules}
 use Rattle.cycle_engine.specs.Cycle.{cycle_of}
-use Rattle.kept_run.specs.Served.{IsServedWith}
+use Rattle.kept_run.specs.Served.{IsServed}
 use Rattle.system_file.specs.declared.system.System.{System}
 use Rattle.master_core.specs.declared.event.Event.{Event}
 use Rattle.master_core.specs.History.{IsLegal, next_of, placed_of}
@@ -105,7 +105,7 @@ module _ (laws : HistoryLaws) (system : System) (streams : List Stream) (history
     abbrev last : ℕ
     last = release + q.entry.deadline - 1
 
-    served : IsServedWith (polled_bytes streams carried) system.layout (openings_of history) trace q carries.number last
+    served : IsServed (polled_bytes streams carried) system.layout (openings_of history) trace q carries.number last
     served =
         let some = carries.some_time in
         let by = carries.last in

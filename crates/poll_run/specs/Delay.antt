@@ -6,7 +6,7 @@ use Rattle.requirement_table.specs.declared.entries.Placed.{Placed}
 use Rattle.requirement_table.specs.Instance.{Exists, IsLastCycle, release_of, released_by}
 use Rattle.requirement_table.specs.Opening.{Opening}
 use Rattle.cycle_engine.specs.Cycle.{cycle_of}
-use Rattle.kept_run.specs.Served.{IsServedWith}
+use Rattle.kept_run.specs.Served.{IsServed}
 use Rattle.sporadic_poll.specs.declared.stream.Stream.{Stream}
 use Rattle.sporadic_poll.specs.Polled.{polled_bytes}
 use Rattle.sporadic_poll.specs.Polling.{IsPolled, arrival_cycle}
@@ -39,7 +39,7 @@ pub record IsSentInTime (layout : CycleLayout) (streams : List Stream) (placed :
   pub room : length request.payload < entry.entry.length
   pub last : ℕ
   pub is_last : IsLastCycle entry number last
-  pub served : IsServedWith (polled_bytes streams carried) layout openings trace entry number last
+  pub served : IsServed (polled_bytes streams carried) layout openings trace entry number last
   pub carries : served.sent.frame.bytes ≡ bytes_with entry.entry.length (Some request.payload)
   pub behind : arrival_cycle layout.cycle request < cycle_of layout served.sent
   pub by : cycle_of layout served.sent + 1 ≤ arrival_cycle layout.cycle request + p.entry.period + p.entry.deadline

@@ -10,8 +10,13 @@ use Rattle.master_core.specs.Calls.{Call, call_of}
 use Rattle.master_core.specs.declared.event.Event.{Event}
 use Rattle.master_core.specs.History.{IsPlainlyLegal}
 use Rattle.master_core.specs.Openings.{openings_of}
-use Rattle.kept_run.specs.Kept.{KeptWith}
-use Rattle.replay_run.specs.Run.{AnswersSteps, calls_of}
+use Rattle.kept_run.specs.Kept.{Kept}
+use Rattle.kept_run.specs.Setting.{Setting}
+use Rattle.replay_run.specs.Run.{AnswersSteps, calls_of, setting_of}
+
+-- a setting, where the instances of polled slots carry these requests, by slot and release
+abbrev pub polled_setting : Setting → List Stream → (ℕ → ℕ → Option ℕ) → Setting
+polled_setting setting streams carried = record setting { sends = polled_bytes streams carried }
 
 -- what a history and a trace keep where the instances of polled slots carry these requests, by slot and release. Each
 -- change is planned when it is answered, and the requests are carried by *Ride*. *Kept* holds with their bytes, where no
@@ -20,7 +25,7 @@ pub record IsPolledTrace (system : System) (streams : List Stream) (history : Li
     (trace : List TimedFrame) : Type 0 where
   pub plain : IsPlainlyLegal system.rules history
   pub rides : AreRides system.layout.cycle streams (openings_of history) carried
-  pub kept : KeptWith (polled_bytes streams carried) system.rules system.layout [] history trace
+  pub kept : Kept (polled_setting (setting_of system []) streams carried) history trace
 
 -- *Polled run*: the history answers the steps, and history and trace keep what is promised
 pub record IsPolledRun (system : System) (steps : List Step) (streams : List Stream) (history : List Event)

@@ -6,16 +6,17 @@ use Rattle.master_core.specs.Calls.{Call, call_of}
 use Rattle.master_core.specs.declared.event.Event.{Event}
 use Rattle.master_core.specs.History.{IsPlainlyLegal, next_of}
 use Rattle.master_core.specs.Openings.{openings_of}
-use Rattle.kept_run.specs.Progress.{IsSetting, IsUnderWayWith, Setting}
+use Rattle.kept_run.specs.Progress.{IsUnderWay}
+use Rattle.kept_run.specs.Setting.{IsSetting, Setting}
 use Rattle.bus_trace.specs.EventRows.{rows_of_event}
 use Rattle.bus_trace.specs.Log.{events_rows, triggers_in}
 use Rattle.master_core.specs.Accepted.{all_accepted}
 use Rattle.replay_run.specs.Progress.{IsGoing}
 use Rattle.sporadic_poll.specs.declared.fate.Fate.{Fate}
 use Rattle.sporadic_poll.specs.declared.stream.Stream.{Stream}
-use Rattle.sporadic_poll.specs.Polled.{polled_bytes}
 use Rattle.sporadic_poll.specs.Rides.{AreFates, AreRidesAt, HaveRidden}
 use Rattle.poll_run.specs.declared.polled.Polled.{Polled}
+use Rattle.poll_run.specs.PolledRun.{polled_setting}
 
 -- so it is with whatever requests the instances take, by slot and release, if those of the cycles that the history opens
 -- take theirs by *Ride*. Later instances may take what they will
@@ -32,7 +33,7 @@ pub record IsPolled (setting : Setting) (streams : List Stream) (trace : List Ti
   pub same_streams : polled.rides.queued.streams ≡ streams
   pub all_slots : length polled.rides.queued.next ≡ setting.rules.slots
   pub under_way : SoFar setting streams polled.bus.master.history
-      (λ carried. IsUnderWayWith (polled_bytes streams carried) setting polled.bus.master.history trace)
+      (λ carried. IsUnderWay (polled_setting setting streams carried) polled.bus.master.history trace)
   pub ridden : SoFar setting streams polled.bus.master.history
       (λ carried. HaveRidden carried (next_of polled.bus.master.history) polled.rides)
   pub fates : SoFar setting streams polled.bus.master.history
@@ -78,7 +79,7 @@ pub record IsPolledOnBus (on : PollSetting) (history : List Event) (trace : List
   pub no_requests : on.setting.requests ≡ []
   pub plain : IsPlainlyLegal on.setting.rules history
   pub under_way : SoFar on.setting on.streams history
-      (λ carried. IsUnderWayWith (polled_bytes on.streams carried) on.setting history trace)
+      (λ carried. IsUnderWay (polled_setting on.setting on.streams carried) history trace)
   pub fates : List Fate
   pub are : SoFar on.setting on.streams history (λ carried. AreFates on.streams (openings_of history) carried fates)
 

@@ -5,7 +5,8 @@ ghost use Rattle.profile.specs.Limits.{most_cycles};
 ghost use Rattle.system_file.specs.SystemFile.{IsSystem};
 ghost use Rattle.master_core.specs.Calls.{asked, opens};
 ghost use Rattle.master_core.specs.History.{next_of};
-ghost use Rattle.replay_run.specs.Progress.{CanTellLast, setting_of};
+ghost use Rattle.replay_run.specs.Progress.{CanTellLast};
+ghost use Rattle.replay_run.specs.Run.{setting_of};
 ghost use Rattle.sporadic_poll.specs.StreamsFile.{AreLegal};
 ghost use Rattle.poll_run.specs.Polling.{CanPoll, IsPolled, PollsOn};
 

@@ -14,7 +14,7 @@ use Rattle.master_core.specs.History.{AllAfter, IsLegal, IsRight, is_open, next_
 use Rattle.master_core.specs.Openings.{opening_of, openings_after, openings_of}
 use Rattle.async_window.specs.declared.request.Request.{Request}
 use Rattle.bus_line.specs.Trace.{started_before}
-use Rattle.cycle_engine.specs.Offered.{IsCanTrace, IsCanTraceWith}
+use Rattle.cycle_engine.specs.Offered.{IsCanTrace}
 use Rattle.kept_run.proofs.Shared.{AllAfter-parts}
 use Rattle.system_file.specs.SystemFile.{IsSystem}
 use Rattle.steps_file.specs.declared.steps.Step.{Step}
@@ -66,7 +66,7 @@ cycles-between rules before (event ∷ events) right =
 module _ (sends : Instance → List ℕ) (layout : CycleLayout) (known : IsLayout layout) (requests : List Request) (rules : Rules) where
   -- the trace of the opened cycles of a history
   abbrev IsTraceOf : List Event → List TimedFrame → Type 0
-  IsTraceOf history trace = IsCanTraceWith sends layout requests (openings_of history) (next_of history) trace
+  IsTraceOf history trace = IsCanTrace sends layout requests (openings_of history) (next_of history) trace
 
   -- what the trace of a legal history sends in the cycles that a front of the history opens is the trace of that front
   pub front-trace : (history later : List Event) (trace : List TimedFrame) → IsLegal rules (history ++ later)
@@ -78,7 +78,7 @@ module _ (sends : Instance → List ℕ) (layout : CycleLayout) (known : IsLayou
       let count : next_of (history ++ later) ≡ next_of history + next_of later = next_of-append history later in
       front-can_trace sends layout known requests (openings_of history) (openings_after history later) (next_of history)
       (λ k d within. (between k d within).0) (next_of (history ++ later)) trace (omega arith)
-      (subst (λ os. IsCanTraceWith sends layout requests os (next_of (history ++ later)) trace) (openings_of-append history later) is)
+      (subst (λ os. IsCanTrace sends layout requests os (next_of (history ++ later)) trace) (openings_of-append history later) is)
 
 -- The run of the first calls of steps
 
@@ -99,7 +99,7 @@ begun-trace verdicts system steps requests history whole trace frames is begun r
     let (rest, all) = begun-history verdicts system steps requests history whole trace frames begun run in
     let legal : IsLegal system.rules (history ++ rest) = subst (IsLegal system.rules) all run.plain.legal in
     let trace_of : IsTraceOf bytes_of system.layout is.layout requests system.rules (history ++ rest) frames =
-    subst (λ h. IsCanTrace system.layout requests (openings_of h) (next_of h) frames) all run.kept.can_trace in
+    subst (λ h. IsCanTrace bytes_of system.layout requests (openings_of h) (next_of h) frames) all run.kept.can_trace in
     let front = front-trace bytes_of system.layout is.layout requests system.rules history rest frames legal trace_of in
     let until : ℕ = next_of history * system.layout.cycle in
     let same : started_before until frames ≡ trace = begun.kept.only_trace (started_before until frames) front in

@@ -10,7 +10,7 @@ use Rattle.cycle_layout.specs.Layout.{CycleLayout, IsLayout}
 use Rattle.requirement_table.specs.Instance.{Instance}
 use Rattle.requirement_table.specs.Opening.{Opening, width_of}
 use Rattle.trigger_codec.specs.Bytes.{trigger_bytes, width_told}
-use Rattle.cycle_engine.specs.Cycle.{FitsWindow, IsRequestFrame, IsSlotFrame, RunsCycleWith}
+use Rattle.cycle_engine.specs.Cycle.{FitsWindow, IsRequestFrame, IsSlotFrame, RunsCycle}
 use Rattle.admission_rules.specs.declared.Rules.{Rules}
 use Rattle.master_core.specs.declared.event.Event.{Event}
 use Rattle.master_core.specs.declared.event.Event.TheVariants.{Submit, Look, Open}
@@ -150,7 +150,7 @@ width-told cycle l mask = omega arith
 
 -- they begin with the cycle's first trigger frame, and no other has its identifier
 pub begins-cycle : {sends : Instance → List ℕ} (layout : CycleLayout) (opening : Opening) (frames : List TimedFrame) → IsLayout layout
-    → FitsWindow layout opening → RunsCycleWith sends layout opening frames → BeginsCycle opening.cycle opening.mask frames
+    → FitsWindow layout opening → RunsCycle sends layout opening frames → BeginsCycle opening.cycle opening.mask frames
 begins-cycle layout opening frames known fits run =
     let within = fits.width in
     let range = known.window_range.below in
@@ -168,7 +168,7 @@ begins-cycle layout opening frames known fits run =
 
 -- that frame says the length of the synchronous window
 pub says-its_width : {sends : Instance → List ℕ} (layout : CycleLayout) (opening : Opening) (frames : List TimedFrame)
-    → RunsCycleWith sends layout opening frames → width_told_in frames ≡ width_of opening
+    → RunsCycle sends layout opening frames → width_told_in frames ≡ width_of opening
 says-its_width layout opening frames run =
     ap width_told_in run.all_frames ∙ ap (λ f. width_told f.bytes) run.is_trigger ∙ width-told opening.cycle (width_of opening) opening.mask
 

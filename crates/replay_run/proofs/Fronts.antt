@@ -14,7 +14,7 @@ use Rattle.requirement_table.specs.Opening.{Opening}
 use Rattle.async_window.specs.declared.request.Request.{Request}
 use Rattle.bus_line.specs.Trace.{IsLeastOffered, end_of, started_before}
 use Rattle.node_model.specs.Opening.{end_of_cycle, start_of}
-use Rattle.cycle_engine.specs.Offered.{IsCanTraceWith, offered_in_with, offered_with}
+use Rattle.cycle_engine.specs.Offered.{IsCanTrace, offered, offered_in}
 use Rattle.kept_run.proofs.Shared.{Contains-filter}
 
 -- what starts before a time, and what starts from it on
@@ -93,7 +93,7 @@ cut-at at (sent ∷ more) apart = elim (cases_lt sent.start at) [
 module _ (sends : Instance → List ℕ) (layout : CycleLayout) (known : IsLayout layout) (requests : List Request) where
   -- what is offered in a cycle is offered at a time of the cycle
   pub in_cycle : (opening : Opening) (past : List TimedFrame) (at : ℕ) (frame : DataFrame)
-      → offered_in_with sends layout requests opening past at frame
+      → offered_in sends layout requests opening past at frame
       → (start_of layout opening ≤ at) × (at < end_of_cycle layout opening)
   in_cycle opening past at frame (inl trigger) =
       let longer = add-mul opening.cycle 1 layout.cycle in
@@ -106,12 +106,12 @@ module _ (sends : Instance → List ℕ) (layout : CycleLayout) (known : IsLayou
   module _ (openings more : List Opening) (n : ℕ) (later : All (λ o. n ≤ o.cycle) more) where
     -- before the start of cycle n, openings of cycles from n on offer nothing
     offered-more : (past : List TimedFrame) (at : ℕ) (frame : DataFrame)
-        → offered_with sends layout requests openings past at frame
-        → offered_with sends layout requests (openings ++ more) past at frame
+        → offered sends layout requests openings past at frame
+        → offered sends layout requests (openings ++ more) past at frame
     offered-more past at frame offer = (offer.0, Contains-append_left openings more offer.0 offer.1, offer.2)
 
     offered-before : (past : List TimedFrame) (at : ℕ) (frame : DataFrame) → at < n * layout.cycle
-        → offered_with sends layout requests (openings ++ more) past at frame → offered_with sends layout requests openings past at frame
+        → offered sends layout requests (openings ++ more) past at frame → offered sends layout requests openings past at frame
     offered-before past at frame early offer = elim (Contains-append_cases openings more offer.0 offer.1) [
       | inl among ↦ (offer.0, among, offer.2)
       | inr behind ↦
@@ -123,8 +123,8 @@ module _ (sends : Instance → List ℕ) (layout : CycleLayout) (known : IsLayou
     ]
 
     pub front-can_trace : (count : ℕ) (frames : List TimedFrame) → n ≤ count
-        → IsCanTraceWith sends layout requests (openings ++ more) count frames
-        → IsCanTraceWith sends layout requests openings n (started_before (n * layout.cycle) frames)
+        → IsCanTrace sends layout requests (openings ++ more) count frames
+        → IsCanTrace sends layout requests openings n (started_before (n * layout.cycle) frames)
     front-can_trace count frames few trace =
         let until : ℕ = n * layout.cycle in
         let is_early : TimedFrame → Bool = λ sent. nat_lt sent.start until in
@@ -139,9 +139,9 @@ module _ (sends : Instance → List ℕ) (layout : CycleLayout) (known : IsLayou
           least = λ k d here.
               let sent : TimedFrame = get_or front k d in
               let early : sent.start < until = started-early until frames k d here in
-              let least : IsLeastOffered (offered_with sends layout requests (openings ++ more)) (started_before sent.start frames) sent.start sent.frame =
-              All-filter is_early (λ s. IsLeastOffered (offered_with sends layout requests (openings ++ more)) (started_before s.start frames) s.start s.frame) frames trace.least k d here in
-              subst (λ past. IsLeastOffered (offered_with sends layout requests openings) past sent.start sent.frame)
+              let least : IsLeastOffered (offered sends layout requests (openings ++ more)) (started_before sent.start frames) sent.start sent.frame =
+              All-filter is_early (λ s. IsLeastOffered (offered sends layout requests (openings ++ more)) (started_before s.start frames) s.start s.frame) frames trace.least k d here in
+              subst (λ past. IsLeastOffered (offered sends layout requests openings) past sent.start sent.frame)
               (sym (started-within sent.start until frames (omega arith)))
               (record {
                 offered = offered-before (started_before sent.start frames) sent.start sent.frame early least.offered;
@@ -150,7 +150,7 @@ module _ (sends : Instance → List ℕ) (layout : CycleLayout) (known : IsLayou
           busy = λ at frame early offers.
               let past = started-within at until frames (omega arith) in
               let (k, sent, within, same, covers) = trace.busy at frame (omega arith)
-              (offered-more (started_before at frames) at frame (subst (λ p. offered_with sends layout requests openings p at frame) past offers)) in
+              (offered-more (started_before at frames) at frame (subst (λ p. offered sends layout requests openings p at frame) past offers)) in
               let (j, here, is) = Contains-filter is_early frames sent (k, within, same) (lt-ltb sent.start until (omega (arith, covers.0))) in
               (j, sent, here, is, covers);
         }

@@ -12,6 +12,7 @@ use Rattle.requirement_table.specs.Slots.{contains_slot}
 use Rattle.requirement_table.specs.Table.{width_in}
 use Rattle.requirement_table.specs.declared.entries.Order.{Order}
 use Rattle.requirement_table.specs.declared.entries.Placed.{Placed}
+use Rattle.requirement_table.specs.Instance.{bytes_of}
 use Rattle.async_window.specs.declared.request.Request.{Request}
 use Rattle.admission_rules.specs.declared.Rules.{Rules}
 use Rattle.bus_line.specs.Trace.{Follows, end_of}
@@ -23,7 +24,8 @@ use Rattle.master_core.specs.declared.event.Event.TheVariants.{Open}
 use Rattle.master_core.specs.History.{IsLegal, IsPlainlyLegal, is_open, next_of, placed_of}
 use Rattle.master_core.specs.Openings.{openings_of}
 use Rattle.master_core.specs.Orders.{IsOrder}
-use Rattle.kept_run.specs.Progress.{AreReady, IsOnTheWay, IsSetting, IsUnderWay, Setting}
+use Rattle.kept_run.specs.Progress.{AreReady, IsOnTheWay, IsUnderWay}
+use Rattle.kept_run.specs.Setting.{IsSetting, Setting}
 use Rattle.kept_run.proofs.Shared.{CallsBetween, CyclesRun, RanOrder, next_of-push, number-below, second_identifiers, way-called, way-run, way-same}
 use Rattle.node_model.specs.Node.{NodeView}
 use Rattle.node_model.specs.Offered.{trigger_frames}
@@ -75,8 +77,8 @@ pub record CyclesSent : Type 0 where
       → FitsWindow setting.layout (opening_of order (placed_of history))
   pub cycles : (rules : Rules) (history : List Event) → IsLegal rules history → map (λ o. o.cycle) (openings_of history) ≡ range_with_len 0 (next_of history)
   pub sends : (layout : CycleLayout) (requests : List Request) (openings : List Opening) (opening : Opening) (trace frames : List TimedFrame)
-      → IsLayout layout → FollowsTrace layout requests openings opening trace frames → AreAsynchronous requests → FitsWindow layout opening
-      → RunsCycle layout opening frames
+      → IsLayout layout → FollowsTrace bytes_of layout requests openings opening trace frames → AreAsynchronous requests → FitsWindow layout opening
+      → RunsCycle bytes_of layout opening frames
 
 -- The frames of an opened cycle
 
@@ -91,7 +93,7 @@ pub record Sends (placed : List Placed) (order : Order) (frames : List TimedFram
 
 -- a cycle that was run by the master's order runs as its opening says
 runs : CyclesSent → (setting : Setting) (history : List Event) (trace frames : List TimedFrame) (nodes new : NodesView) (order : Order)
-    → IsOrder setting.rules history order → RanOrder order nodes new frames → IsOnTheWay setting history trace nodes → RunsCycle setting.layout (opening_of order (placed_of history)) frames
+    → IsOrder setting.rules history order → RanOrder order nodes new frames → IsOnTheWay setting history trace nodes → RunsCycle bytes_of setting.layout (opening_of order (placed_of history)) frames
 runs laws setting history trace frames nodes new order ordered did way =
     let layout = setting.layout in
     let so_far = way.under_way in
@@ -102,11 +104,12 @@ runs laws setting history trace frames nodes new order ordered did way =
     let follows = did.runs setting.owners setting.requests (placed_of history) trace before in
     let fits = laws.fits setting history order known ordered in
     let now : order.cycle ≡ next_of history = ordered.cycle in
-    let behind : FollowsTrace layout setting.requests openings opening trace frames = record {
+    let behind : FollowsTrace bytes_of layout setting.requests openings opening trace frames = record {
       below = subst (λ n. All (λ o. o.cycle < n) openings) (sym now) (number-below (λ (o : Opening). o.cycle) openings (next_of history) (laws.cycles setting.rules history so_far.legal));
-      can_trace = subst (λ n. IsCanTrace layout setting.requests openings n trace) (sym now) so_far.can_trace;
+      can_trace = subst (λ n. IsCanTrace bytes_of layout setting.requests openings n trace) (sym now)
+          (subst (λ s. IsCanTrace s layout setting.requests openings (next_of history) trace) way.ready.same_bytes so_far.can_trace);
       ended = subst (λ n. All (λ sent. end_of sent ≤ n * layout.cycle) trace) (sym now) so_far.ended;
-      follows = subst (λ l. Follows (offered_in l setting.requests opening) trace (order.cycle * l.cycle) ((order.cycle + 1) * l.cycle) frames) way.ready.same_layout follows;
+      follows = subst (λ l. Follows (offered_in bytes_of l setting.requests opening) trace (order.cycle * l.cycle) ((order.cycle + 1) * l.cycle) frames) way.ready.same_layout follows;
     } in
     laws.sends layout setting.requests openings opening trace frames known.known behind known.asynchronous fits
 

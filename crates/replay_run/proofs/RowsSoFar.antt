@@ -13,25 +13,24 @@ use Rattle.std.proofs.lemmas.List.Sums.{fold-append}
 use Rattle.can_frame.specs.DataFrame.{DataFrame}
 use Rattle.can_frame.specs.Wire.{wire_length}
 use Rattle.can_frame.specs.declared.data_frame.TimedFrame.{TimedFrame}
-use Rattle.requirement_table.specs.Instance.{Instance, bytes_of}
 use Rattle.requirement_table.specs.Opening.{Opening}
 use Rattle.bus_line.specs.Trace.{end_of, started_before}
 use Rattle.admission_rules.specs.declared.Rules.{Rules}
 use Rattle.master_core.specs.declared.event.Event.{Event}
 use Rattle.master_core.specs.History.{IsLegal, next_of}
 use Rattle.master_core.specs.Openings.{openings_of}
-use Rattle.cycle_engine.specs.Cycle.{RunsCycleWith, cycle_of, frames_in}
+use Rattle.cycle_engine.specs.Cycle.{RunsCycle, cycle_of, frames_in}
 use Rattle.async_window.specs.declared.request.Request.{Request}
 use Rattle.requests_file.specs.RequestsFile.{AreLegal}
 use Rattle.system_file.specs.SystemFile.{IsSystem}
 use Rattle.steps_file.specs.declared.steps.Step.{Step}
 use Rattle.system_file.specs.declared.system.System.{System}
 use Rattle.kept_run.specs.Kept.{Kept}
-use Rattle.kept_run.specs.Progress.{IsUnderWay, IsUnderWayWith, Setting}
+use Rattle.kept_run.specs.Progress.{IsUnderWay}
+use Rattle.kept_run.specs.Setting.{Setting}
 use Rattle.bus_trace.specs.Log.{end_row, events_rows, log_text, triggers_in, triggers_with}
 use Rattle.replay_run.specs.Begun.{IsBegun}
-use Rattle.replay_run.specs.Progress.{setting_of}
-use Rattle.replay_run.specs.Run.{IsRun}
+use Rattle.replay_run.specs.Run.{IsRun, setting_of}
 use Rattle.kept_run.proofs.Shared.{Contains-filter}
 use Rattle.replay_run.proofs.Shared.{cut-at, started-all, started-early, started-within}
 use Rattle.bus_trace.proofs.Shared.{events_rows-append, triggers_with-trigger}
@@ -74,12 +73,12 @@ record HasTrigger (setting : Setting) (trace : List TimedFrame) (cycle : ℕ) : 
   is_trigger : sent.frame.identifier ≡ 0
 
 -- each opened cycle of a run under way has its trigger
-has-trigger : OpensCycles → (sends : Instance → List ℕ) (setting : Setting) (history : List Event) (trace : List TimedFrame)
-    → IsUnderWayWith sends setting history trace
+has-trigger : OpensCycles → (setting : Setting) (history : List Event) (trace : List TimedFrame)
+    → IsUnderWay setting history trace
     → (cycle : ℕ) → cycle < next_of history → HasTrigger setting trace cycle
-has-trigger opens sends setting history trace way cycle early =
+has-trigger opens setting history trace way cycle early =
     let opened = opened-at (openings_of history) (next_of history) cycle (opens.cycles setting.rules history way.legal) early in
-    let runs = All-contains (λ o. RunsCycleWith sends setting.layout o (frames_in setting.layout o.cycle trace)) (openings_of history) opened.opening way.cycles opened.among in
+    let runs = All-contains (λ o. RunsCycle setting.sends setting.layout o (frames_in setting.layout o.cycle trace)) (openings_of history) opened.opening way.cycles opened.among in
     let here : List TimedFrame = frames_in setting.layout opened.opening.cycle trace in
     let first : Contains here runs.trigger =
     subst (λ l. Contains l runs.trigger) (sym runs.all_frames) (0, omega arith, refl) in
@@ -137,12 +136,12 @@ triggers-below setting trace apart some (suc n) each =
     omega arith
 
 -- a run under way has at least as many triggers as it has opened cycles
-triggers-enough : OpensCycles → (sends : Instance → List ℕ) (setting : Setting) (history : List Event) (trace : List TimedFrame)
-    → 0 < setting.layout.cycle → IsUnderWayWith sends setting history trace
+triggers-enough : OpensCycles → (setting : Setting) (history : List Event) (trace : List TimedFrame)
+    → 0 < setting.layout.cycle → IsUnderWay setting history trace
     → next_of history ≤ triggers_in trace
-triggers-enough opens sends setting history trace some way =
+triggers-enough opens setting history trace some way =
     let n : ℕ = next_of history in
-    let below = triggers-below setting trace way.can_trace.ordered.apart some n (has-trigger opens sends setting history trace way) in
+    let below = triggers-below setting trace way.can_trace.ordered.apart some n (has-trigger opens setting history trace way) in
     subst (λ l. n ≤ triggers_in l) (started-all (n * setting.layout.cycle) trace way.can_trace.within) below
 
 -- The first frame behind a front of a trace
@@ -161,11 +160,11 @@ apart-behind (x ∷ front) sent later apart =
 
 -- the first frame that starts behind the cycles below one is the trigger of that cycle
 first-behind : OpensCycles → TakesTime
-    → (sends : Instance → List ℕ) (setting : Setting) (whole : List Event) (frames trace : List TimedFrame) (sent : TimedFrame) (later : List TimedFrame) (n : ℕ)
-    → IsUnderWayWith sends setting whole frames → frames ≡ trace ++ sent ∷ later
+    → (setting : Setting) (whole : List Event) (frames trace : List TimedFrame) (sent : TimedFrame) (later : List TimedFrame) (n : ℕ)
+    → IsUnderWay setting whole frames → frames ≡ trace ++ sent ∷ later
     → All (λ s. s.start < n * setting.layout.cycle) trace
     → n * setting.layout.cycle ≤ sent.start → sent.frame.identifier ≡ 0
-first-behind opens positive sends setting whole frames trace sent later n way all early late =
+first-behind opens positive setting whole frames trace sent later n way all early late =
     let start : ℕ = n * setting.layout.cycle in
     let many : ℕ = next_of whole in
     let place : Contains frames sent =
@@ -176,7 +175,7 @@ first-behind opens positive sends setting whole frames trace sent later n way al
       | inl is ↦ is
       | inr few ↦ absurd (let less : many * setting.layout.cycle ≤ start = mul-le-mul_right setting.layout.cycle few in omega arith)
     ] in
-    let has = has-trigger opens sends setting whole frames way n opened in
+    let has = has-trigger opens setting whole frames way n opened in
     let starts = has.starts in
     elim (Contains-append_cases trace (sent ∷ later) has.sent (subst (λ l. Contains l has.sent) all has.among)) [
       | inl sooner ↦ absurd (omega (arith, starts, All-contains (λ s. s.start < start) trace has.sent early sooner))
@@ -194,29 +193,29 @@ first-behind opens positive sends setting whole frames trace sent later n way al
 
 -- frames behind the cycles that a history opens change none of its rows
 rows-kept : OpensCycles → TakesTime
-    → (sends : Instance → List ℕ) (setting : Setting) (history whole : List Event) (trace frames later : List TimedFrame) → 0 < setting.layout.cycle
-    → IsUnderWayWith sends setting history trace → IsUnderWayWith sends setting whole frames → frames ≡ trace ++ later
+    → (setting : Setting) (history whole : List Event) (trace frames later : List TimedFrame) → 0 < setting.layout.cycle
+    → IsUnderWay setting history trace → IsUnderWay setting whole frames → frames ≡ trace ++ later
     → All (λ sent. next_of history * setting.layout.cycle ≤ sent.start) later
     → events_rows frames [] history ≡ events_rows trace [] history
-rows-kept opens positive sends setting history whole trace frames [] some way all_way is after =
+rows-kept opens positive setting history whole trace frames [] some way all_way is after =
     ap (λ l. events_rows l [] history) (is ∙ append-nil trace)
-rows-kept opens positive sends setting history whole trace frames (sent ∷ later) some way all_way is after =
+rows-kept opens positive setting history whole trace frames (sent ∷ later) some way all_way is after =
     let late = All-head (λ s. next_of history * setting.layout.cycle ≤ s.start) sent later after in
-    let trigger = first-behind opens positive sends setting whole frames trace sent later (next_of history) all_way is way.can_trace.within late in
-    let enough = triggers-enough opens sends setting history trace some way in
+    let trigger = first-behind opens positive setting whole frames trace sent later (next_of history) all_way is way.can_trace.within late in
+    let enough = triggers-enough opens setting history trace some way in
     ap (λ l. events_rows l [] history) is ∙ rows-stay setting.rules trace sent later [] history trigger way.legal (omega arith)
 
 -- so the rows of a run under way begin the log of one that has its events first, and its frames
 pub rows-front : OpensCycles → TakesTime
-    → (sends : Instance → List ℕ) (setting : Setting) (history later : List Event) (trace frames rest : List TimedFrame)
+    → (setting : Setting) (history later : List Event) (trace frames rest : List TimedFrame)
     → 0 < setting.layout.cycle
-    → IsUnderWayWith sends setting history trace → IsUnderWayWith sends setting (history ++ later) frames → frames ≡ trace ++ rest
+    → IsUnderWay setting history trace → IsUnderWay setting (history ++ later) frames → frames ≡ trace ++ rest
     → All (λ sent. next_of history * setting.layout.cycle ≤ sent.start) rest
     → (rows : List ℕ) × (log_text (history ++ later) frames ≡ events_rows trace [] history ++ rows)
-rows-front opens positive sends setting history later trace frames rest some way all_way is after =
+rows-front opens positive setting history later trace frames rest some way all_way is after =
     let whole : List Event = history ++ later in
     let more : List ℕ = events_rows frames history later in
-    let same = rows-kept opens positive sends setting history whole trace frames rest some way all_way is after in
+    let same = rows-kept opens positive setting history whole trace frames rest some way all_way is after in
     let rows : events_rows frames [] whole ≡ events_rows trace [] history ++ more =
     events_rows-append frames [] history later ∙ ap (λ l. l ++ more) same in (
       more ++ end_row (next_of whole),
@@ -235,7 +234,7 @@ pub record BeginningLaws : Type 0 where
       → (rest : List TimedFrame) × (frames ≡ trace ++ rest) × All (λ sent. next_of history * system.layout.cycle ≤ sent.start) rest
   pub under_way : (system : System) (requests : List Request) (history : List Event) (trace : List TimedFrame)
       → IsSystem system
-      → AreLegal system.owners requests → Kept system.rules system.layout requests history trace
+      → AreLegal system.owners requests → Kept (setting_of system requests) history trace
       → IsUnderWay (setting_of system requests) history trace
 
 pub rows-begin : BeginningLaws
@@ -251,4 +250,4 @@ rows-begin laws system steps requests history whole trace frames is are begun ru
     let all_way = subst (λ h. IsUnderWay setting h frames) all (laws.under_way system requests whole frames is are run.kept) in
     let some : 0 < system.layout.cycle = omega (arith, is.layout.cycle_range.above) in
     subst (λ h. (rest : List ℕ) × (log_text h frames ≡ events_rows trace [] history ++ rest)) (sym all)
-    (rows-front laws.opens laws.positive bytes_of setting history events trace frames later some way all_way all_frames after)
+    (rows-front laws.opens laws.positive setting history events trace frames later some way all_way all_frames after)

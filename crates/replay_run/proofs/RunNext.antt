@@ -3,6 +3,7 @@ use Rattle.std.proofs.Common.{◌≡◌, ◌+◌, ◌*◌, List, [], ◌∷◌, 
 use Rattle.can_frame.specs.declared.data_frame.TimedFrame.{TimedFrame}
 use Rattle.cycle_layout.specs.Layout.{CycleLayout}
 use Rattle.requirement_table.specs.declared.entries.Order.{Order}
+use Rattle.requirement_table.specs.Instance.{bytes_of}
 use Rattle.bus_line.specs.Trace.{Follows}
 use Rattle.cycle_engine.specs.Nodes.{opening_of}
 use Rattle.cycle_engine.specs.Offered.{offered_in}
@@ -10,7 +11,7 @@ use Rattle.master_core.specs.declared.event.Event.TheVariants.{Open}
 use Rattle.master_core.specs.History.{placed_of}
 use Rattle.master_core.specs.Orders.{IsOrder}
 use Rattle.kept_run.proofs.Shared.{CyclesRun, RanOrder}
-use Rattle.kept_run.specs.Progress.{Setting}
+use Rattle.kept_run.specs.Setting.{Setting}
 use Rattle.replay_run.specs.declared.bus.Bus.{Bus}
 use Rattle.replay_run.specs.Progress.{IsGoing, IsRunNext}
 
@@ -27,6 +28,6 @@ run-next laws setting trace run after order frames right did history going =
       cycle = order.cycle;
       mask = order.mask;
       history = history;
-      follows = subst (λ (l : CycleLayout). Follows (offered_in l setting.requests (opening_of order (placed_of run.master.history))) trace
+      follows = subst (λ (l : CycleLayout). Follows (offered_in bytes_of l setting.requests (opening_of order (placed_of run.master.history))) trace
           (order.cycle * l.cycle) ((order.cycle + 1) * l.cycle) frames) way.ready.same_layout follows;
     }

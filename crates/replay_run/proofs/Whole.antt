@@ -8,14 +8,15 @@ use Rattle.system_file.specs.declared.system.System.{System}
 use Rattle.master_core.specs.Calls.{Call, call_of}
 use Rattle.master_core.specs.declared.event.Event.{Event}
 use Rattle.master_core.specs.History.{next_of}
-use Rattle.kept_run.specs.Progress.{IsSetting, IsUnderWay}
-use Rattle.kept_run.proofs.Shared.{Promises}
+use Rattle.kept_run.specs.Progress.{IsUnderWay}
+use Rattle.kept_run.specs.Setting.{IsSetting}
+use Rattle.kept_run.proofs.Shared.{Promises, bytes_of-forgets}
 use Rattle.bus_trace.specs.LastRows.{AreRows, last_rows}
 use Rattle.bus_trace.specs.Log.{end_row, events_rows, log_text}
 use Rattle.replay_run.specs.Begun.{IsBegun}
 use Rattle.replay_run.specs.Heard.{HoldsLast, Keeps, rows_held}
-use Rattle.replay_run.specs.Progress.{BusSetting, IsBusAt, IsOnBus, setting_of}
-use Rattle.replay_run.specs.Run.{AnswersSteps, IsRun, calls_of}
+use Rattle.replay_run.specs.Progress.{BusSetting, IsBusAt, IsOnBus}
+use Rattle.replay_run.specs.Run.{AnswersSteps, IsRun, calls_of, setting_of}
 use Rattle.replay_run.specs.Runs.{GoesOn, AnswersAll, IsCutAfter, AnswersFirst, IsHeardSoFar, IsLogHeard, Start}
 use Rattle.replay_run.specs.Whole.{IsCutOff, IsHeard}
 use Rattle.replay_run.specs.declared.bus.Bus.{Bus}
@@ -105,7 +106,7 @@ module _ (laws : Promises) (system : System) (steps : List Step) (requests : Lis
     later = later;
     answers = answers;
     plain = is.plain;
-    kept = laws.kept (setting_of system requests) history trace is.known is.under_way;
+    kept = laws.kept (setting_of system requests) history trace is.known bytes_of-forgets is.under_way;
   }
 
   -- and of all of them
@@ -114,7 +115,7 @@ module _ (laws : Promises) (system : System) (steps : List Step) (requests : Lis
   run-of history trace answers is = record {
     answers = answers;
     plain = is.plain;
-    kept = laws.kept (setting_of system requests) history trace is.known is.under_way;
+    kept = laws.kept (setting_of system requests) history trace is.known bytes_of-forgets is.under_way;
   }
 
   -- of none

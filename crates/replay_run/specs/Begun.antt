@@ -9,7 +9,7 @@ use Rattle.master_core.specs.declared.event.Event.{Event}
 use Rattle.master_core.specs.History.{IsPlainlyLegal}
 use Rattle.kept_run.specs.Kept.{Kept}
 use Rattle.master_core.specs.Calls.{Call, call_of}
-use Rattle.replay_run.specs.Run.{calls_of}
+use Rattle.replay_run.specs.Run.{calls_of, setting_of}
 
 -- a run of the first calls of the steps: the history answers them, each change planned when it is answered, and history
 -- and trace keep what is promised
@@ -18,4 +18,4 @@ pub record IsBegun (system : System) (steps : List Step) (requests : List Reques
   pub later : List Call
   pub answers : map call_of history ++ later ≡ flat_map calls_of steps
   pub plain : IsPlainlyLegal system.rules history
-  pub kept : Kept system.rules system.layout requests history trace
+  pub kept : Kept (setting_of system requests) history trace

@@ -5,10 +5,9 @@ use Rattle.profile.specs.Limits.{shortest_frame}
 use Rattle.can_frame.specs.DataFrame.{DataFrame}
 use Rattle.can_frame.specs.declared.data_frame.TimedFrame.{TimedFrame}
 use Rattle.requirement_table.specs.declared.entries.Order.{Order}
+use Rattle.requirement_table.specs.Instance.{bytes_of}
 use Rattle.admission_rules.specs.declared.Rules.{Rules}
 use Rattle.trigger_codec.specs.Bytes.{triggers_with}
-use Rattle.async_window.specs.declared.request.Request.{Request}
-use Rattle.system_file.specs.declared.system.System.{System}
 use Rattle.master_core.specs.declared.event.Event.{Event}
 use Rattle.master_core.specs.declared.event.Event.TheVariants.{Open}
 use Rattle.master_core.specs.History.{IsLegal, IsPlainlyLegal, next_of, placed_of}
@@ -16,17 +15,13 @@ use Rattle.master_core.specs.Orders.{IsOrder}
 use Rattle.bus_line.specs.Trace.{Follows}
 use Rattle.cycle_engine.specs.Nodes.{HaveSpare}
 use Rattle.cycle_engine.specs.Offered.{offered_in}
-use Rattle.kept_run.specs.Progress.{IsOnTheWay, IsSetting, IsUnderWay, Setting}
+use Rattle.kept_run.specs.Progress.{IsOnTheWay, IsUnderWay}
+use Rattle.kept_run.specs.Setting.{IsSetting, Setting}
 use Rattle.bus_trace.specs.EventRows.{HasItsFrames, rows_of_event}
 use Rattle.bus_trace.specs.Log.{events_rows, triggers_in}
 use Rattle.bus_trace.specs.Logged.{IsNear}
 use Rattle.replay_run.specs.Written.{KeepsFrames}
 use Rattle.replay_run.specs.declared.bus.Bus.{Bus}
-
--- what a system and its requests give a run to stand on
-abbrev pub setting_of : System → List Request → Setting
-setting_of system requests =
-    record { rules = system.rules; layout = system.layout; owners = system.owners; requests = requests }
 
 -- A master and its bus
 
@@ -105,7 +100,7 @@ pub record IsRunNext (setting : Setting) (trace : List TimedFrame) (old new : Bu
   pub cycle : ℕ
   pub mask : ℕ
   pub history : new.master.history ≡ old.master.history ++ Open cycle mask ∷ []
-  pub follows : Follows (offered_in setting.layout setting.requests
+  pub follows : Follows (offered_in bytes_of setting.layout setting.requests
       (record { cycle = cycle; mask = mask; placed = placed_of old.master.history }))
       trace (cycle * setting.layout.cycle) ((cycle + 1) * setting.layout.cycle) frames
 

@@ -2,6 +2,7 @@
 use Rattle.std.specs.Prelude.{◌≡◌, List, [], ◌∷◌, map, replicate}
 use Rattle.std.specs.List.{flat_map}
 use Rattle.can_frame.specs.declared.data_frame.TimedFrame.{TimedFrame}
+use Rattle.requirement_table.specs.Instance.{bytes_of}
 use Rattle.async_window.specs.declared.request.Request.{Request}
 use Rattle.steps_file.specs.declared.steps.Step.{Step}
 use Rattle.steps_file.specs.declared.steps.Step.TheVariants as step
@@ -10,6 +11,7 @@ use Rattle.master_core.specs.Calls.{Call, asked, call_of, opens}
 use Rattle.master_core.specs.declared.event.Event.{Event}
 use Rattle.master_core.specs.History.{IsPlainlyLegal}
 use Rattle.kept_run.specs.Kept.{Kept}
+use Rattle.kept_run.specs.Setting.{Setting}
 
 -- the calls that a step makes: one, or as many openings as it counts
 abbrev pub calls_of : Step → List Call
@@ -20,10 +22,20 @@ calls_of (step.Act caller act) = asked caller act ∷ []
 abbrev pub AnswersSteps : List Event → List Step → Type 0
 AnswersSteps history steps = map call_of history ≡ flat_map calls_of steps
 
+-- what a system and its requests give a run to stand on: each instance sends its number
+abbrev pub setting_of : System → List Request → Setting
+setting_of system requests = record {
+  rules = system.rules;
+  layout = system.layout;
+  owners = system.owners;
+  requests = requests;
+  sends = bytes_of;
+}
+
 -- *Run*: the history answers the steps, each change planned when it is answered, and history and trace keep what is
 -- promised
 pub record IsRun (system : System) (steps : List Step) (requests : List Request)
     (history : List Event) (trace : List TimedFrame) : Type 0 where
   pub answers : AnswersSteps history steps
   pub plain : IsPlainlyLegal system.rules history
-  pub kept : Kept system.rules system.layout requests history trace
+  pub kept : Kept (setting_of system requests) history trace

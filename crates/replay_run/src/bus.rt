@@ -10,10 +10,12 @@ ghost use Rattle.system_file.specs.SystemFile.{IsSystem};
 ghost use Rattle.requests_file.specs.RequestsFile.{AreLegal};
 ghost use Rattle.master_core.specs.Calls.{asked, call_of, opens};
 ghost use Rattle.master_core.specs.History.{next_of};
-ghost use Rattle.kept_run.specs.Progress.{AreReady, IsSetting};
+ghost use Rattle.kept_run.specs.Progress.{AreReady};
+ghost use Rattle.kept_run.specs.Setting.{IsSetting};
 ghost use Rattle.cycle_engine.specs.Nodes.{HaveSpare, states_of};
 ghost use Rattle.replay_run.specs.Progress.{BeginWithTriggers, BringsOn, CanGo, CanTellLast, GoesStill, HasRoom, IsGoing, IsReady};
-ghost use Rattle.replay_run.specs.Progress.{RunsNext, setting_of};
+ghost use Rattle.replay_run.specs.Progress.{RunsNext};
+ghost use Rattle.replay_run.specs.Run.{setting_of};
 ghost use Rattle.replay_run.specs.Written.{KeepsFrames};
 
 use crate::counting::count_plain_calls;

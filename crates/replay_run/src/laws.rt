@@ -17,15 +17,15 @@ ghost use Rattle.master_core.specs.declared.event.Event.TheVariants.{Open};
 ghost use Rattle.master_core.specs.History.{IsLegal, IsPlainlyLegal, is_open, next_of, placed_of};
 ghost use Rattle.master_core.specs.Openings.{openings_of};
 ghost use Rattle.bus_line.specs.Trace.{started_before};
-ghost use Rattle.cycle_engine.specs.Cycle.{FitsWindow, RunsCycleWith};
-ghost use Rattle.cycle_engine.specs.Offered.{IsCanTrace, IsCanTraceWith, SendsWhole};
+ghost use Rattle.cycle_engine.specs.Cycle.{FitsWindow, RunsCycle};
+ghost use Rattle.cycle_engine.specs.Offered.{IsCanTrace, SendsWhole};
 ghost use Rattle.bus_trace.specs.EventRows.{BeginsCycle, rows_of_event, width_told_in};
 ghost use Rattle.bus_trace.specs.Log.{events_rows, log_text, triggers_in};
 ghost use Rattle.kept_run.specs.Kept.{Kept};
-ghost use Rattle.kept_run.specs.Progress.{IsSetting, IsUnderWay, IsUnderWayWith, Setting};
+ghost use Rattle.kept_run.specs.Progress.{IsUnderWay};
+ghost use Rattle.kept_run.specs.Setting.{IsSetting, Setting};
 ghost use Rattle.replay_run.specs.Begun.{IsBegun};
-ghost use Rattle.replay_run.specs.Progress.{setting_of};
-ghost use Rattle.replay_run.specs.Run.{AnswersSteps, IsRun};
+ghost use Rattle.replay_run.specs.Run.{AnswersSteps, IsRun, setting_of};
 
 use admission::laws::one_verdict;
 use bus_line::laws::trace_laws;
@@ -73,14 +73,11 @@ pub fn beginnings()
 /// cycle.
 pub fn runs_under_way()
     ensures under_way { (system : System) (requests : List Request) (history : List Event) (trace : List TimedFrame)
-        → IsSystem system → AreLegal system.owners requests → Kept system.rules system.layout requests history trace
+        → IsSystem system → AreLegal system.owners requests → Kept (setting_of system requests) history trace
         → IsUnderWay (setting_of system requests) history trace }
 {
-    beginning();
-    calls_between();
-    cycles_run();
+    legal_runs();
     requests_of_owners();
-    trace_laws::<OpenedCycles>();
 }
 
 /// A legal history and its CAN trace are those of a run under way. Where another run under way has the first of these
@@ -88,36 +85,21 @@ pub fn runs_under_way()
 /// frames that start in the cycles of the first events are the CAN trace of these events. So it is whatever bytes an
 /// instance sends; a run is under way where they are as many as its entry's length.
 pub fn legal_runs()
-    ensures under_way { (setting : Setting) (history : List Event) (trace : List TimedFrame) → IsSetting setting
-        → IsLegal setting.rules history
-        → IsCanTrace setting.layout setting.requests (openings_of history) (next_of history) trace
+    ensures under_way { (setting : Setting) (history : List Event) (trace : List TimedFrame)
+        → IsSetting setting → SendsWhole setting.sends → IsLegal setting.rules history
+        → IsCanTrace setting.sends setting.layout setting.requests (openings_of history) (next_of history) trace
         → IsUnderWay setting history trace }
-    ensures under_way_with { (sends : Instance → List ℕ) (setting : Setting) (history : List Event)
-        → (trace : List TimedFrame) → IsSetting setting → SendsWhole sends → IsLegal setting.rules history
-        → IsCanTraceWith sends setting.layout setting.requests (openings_of history) (next_of history) trace
-        → IsUnderWayWith sends setting history trace }
     ensures front { (setting : Setting) (history later : List Event) (trace frames : List TimedFrame)
         → IsSetting setting → IsUnderWay setting history trace → IsLegal setting.rules (history ++ later)
-        → IsCanTrace setting.layout setting.requests (openings_of (history ++ later)) (next_of (history ++ later)) frames
-        → (rest : List TimedFrame) × (frames ≡ trace ++ rest)
-        × All (λ sent. next_of history * setting.layout.cycle ≤ sent.start) rest }
-    ensures front_with { (sends : Instance → List ℕ) (setting : Setting) (history later : List Event)
-        → (trace frames : List TimedFrame) → IsSetting setting
-        → IsUnderWayWith sends setting history trace → IsLegal setting.rules (history ++ later)
-        → IsCanTraceWith sends setting.layout setting.requests
+        → IsCanTrace setting.sends setting.layout setting.requests
         (openings_of (history ++ later)) (next_of (history ++ later)) frames
         → (rest : List TimedFrame) × (frames ≡ trace ++ rest)
         × All (λ sent. next_of history * setting.layout.cycle ≤ sent.start) rest }
     ensures cut { (setting : Setting) (history later : List Event) (frames : List TimedFrame)
         → IsSetting setting → IsLegal setting.rules (history ++ later)
-        → IsCanTrace setting.layout setting.requests (openings_of (history ++ later)) (next_of (history ++ later)) frames
-        → IsCanTrace setting.layout setting.requests (openings_of history) (next_of history)
-        (started_before (next_of history * setting.layout.cycle) frames) }
-    ensures cut_with { (sends : Instance → List ℕ) (setting : Setting) (history later : List Event)
-        → (frames : List TimedFrame) → IsSetting setting → IsLegal setting.rules (history ++ later)
-        → IsCanTraceWith sends setting.layout setting.requests
+        → IsCanTrace setting.sends setting.layout setting.requests
         (openings_of (history ++ later)) (next_of (history ++ later)) frames
-        → IsCanTraceWith sends setting.layout setting.requests (openings_of history) (next_of history)
+        → IsCanTrace setting.sends setting.layout setting.requests (openings_of history) (next_of history)
         (started_before (next_of history * setting.layout.cycle) frames) }
 {
     beginning();
@@ -128,12 +110,10 @@ pub fn legal_runs()
     trace_laws::<OpenedCycles>();
 }
 
-/// Of two runs under way in one setting one has the first events of the other. Then its rows begin the log of the other,
-/// whatever bytes an instance sends, where it is the same in both runs.
+/// Of two runs under way in one setting one has the first events of the other. Then its rows begin the log of the other.
 pub fn rows_of_fronts()
-    ensures front { (sends : Instance → List ℕ) (setting : Setting) (history later : List Event)
-        → (trace frames : List TimedFrame) → IsSetting setting
-        → IsUnderWayWith sends setting history trace → IsUnderWayWith sends setting (history ++ later) frames
+    ensures front { (setting : Setting) (history later : List Event) (trace frames : List TimedFrame)
+        → IsSetting setting → IsUnderWay setting history trace → IsUnderWay setting (history ++ later) frames
         → (rest : List ℕ) × (log_text (history ++ later) frames ≡ events_rows trace [] history ++ rest) }
 {
     legal_runs();
@@ -175,8 +155,8 @@ pub fn rows_appended()
 /// length of its synchronous window; no other of them has identifier 0.
 pub fn opened_frames()
     ensures begin { (sends : Instance → List ℕ) (layout : CycleLayout) (opening : Opening) (frames : List TimedFrame)
-        → IsLayout layout → FitsWindow layout opening → RunsCycleWith sends layout opening frames
+        → IsLayout layout → FitsWindow layout opening → RunsCycle sends layout opening frames
         → BeginsCycle opening.cycle opening.mask frames }
     ensures width { (sends : Instance → List ℕ) (layout : CycleLayout) (opening : Opening) (frames : List TimedFrame)
-        → RunsCycleWith sends layout opening frames → width_told_in frames ≡ width_of opening }
+        → RunsCycle sends layout opening frames → width_told_in frames ≡ width_of opening }
 {}

@@ -18,8 +18,8 @@ use Rattle.requirement_table.proofs.Shared.{found-in}
 use Rattle.bus_line.specs.Trace.{AgreeAlong, Follows, end_of}
 use Rattle.node_model.specs.Opening.{end_of_cycle, start_of}
 use Rattle.node_model.specs.Offered.{HasNotStarted, bytes_sent}
-use Rattle.cycle_engine.specs.Cycle.{FitsWindow, FollowsTraceWith, RunsCycle}
-use Rattle.cycle_engine.specs.Offered.{offered_in, offered_in_with}
+use Rattle.cycle_engine.specs.Cycle.{FitsWindow, FollowsTrace, RunsCycle}
+use Rattle.cycle_engine.specs.Offered.{offered_in}
 use Rattle.sporadic_poll.specs.declared.stream.Stream.{Stream}
 use Rattle.sporadic_poll.specs.Polled.{is_polled, polled_bytes}
 use Rattle.sporadic_poll.specs.Rides.{IsPlainCycle, bytes_or, polled_frame, sent_anew, slot_sent}
@@ -45,7 +45,7 @@ All-behind P (x ∷ xs) ys all = All-behind P xs ys (All-tail P x (xs ++ ys) all
 
 -- offers of the cycle agree where all frames before started before it
 pub agree : (layout : CycleLayout) (opening : Opening) (frames past : List TimedFrame) → All (λ sent. sent.start < start_of layout opening) past
-    → AgreeAlong (offered_in layout [] opening) (offered_in layout [] opening) past [] (start_of layout opening) (end_of_cycle layout opening) frames
+    → AgreeAlong (offered_in bytes_of layout [] opening) (offered_in bytes_of layout [] opening) past [] (start_of layout opening) (end_of_cycle layout opening) frames
 agree layout opening frames past before front back at frame split late within = (there, back_again)
   where
     one_way : (id : ℕ) → HasNotStarted layout opening id (past ++ front) → HasNotStarted layout opening id front
@@ -54,7 +54,7 @@ agree layout opening frames past before front back at frame split late within = 
     other_way : (id : ℕ) → HasNotStarted layout opening id front → HasNotStarted layout opening id (past ++ front)
     other_way id all = All-append (λ sent. sent.frame.identifier ≡ id → sent.start < start_of layout opening) past front (λ k d inside is. before k d inside) all
 
-    there : offered_in layout [] opening (past ++ front) at frame → offered_in layout [] opening front at frame
+    there : offered_in bytes_of layout [] opening (past ++ front) at frame → offered_in bytes_of layout [] opening front at frame
     there (inl it) = inl (record { begun = it.begun; within = it.within; among = it.among; unsent = one_way frame.identifier it.unsent })
     there (inr (inl it)) = absurd (no_request layout opening (past ++ front) at frame it)
     there (inr (inr (slot, it))) = inr (inr (
@@ -71,7 +71,7 @@ agree layout opening frames past before front back at frame split late within = 
       },
     ))
 
-    back_again : offered_in layout [] opening front at frame → offered_in layout [] opening (past ++ front) at frame
+    back_again : offered_in bytes_of layout [] opening front at frame → offered_in bytes_of layout [] opening (past ++ front) at frame
     back_again (inl it) = inl (record { begun = it.begun; within = it.within; among = it.among; unsent = other_way frame.identifier it.unsent })
     back_again (inr (inl it)) = absurd (no_request layout opening front at frame it)
     back_again (inr (inr (slot, it))) = inr (inr (
@@ -88,8 +88,8 @@ agree layout opening frames past before front back at frame split late within = 
       },
     ))
 
-pub fresh_trace : (layout : CycleLayout) (opening : Opening) (frames : List TimedFrame) → Follows (offered_in layout [] opening) [] (start_of layout opening) (end_of_cycle layout opening) frames
-    → FollowsTraceWith bytes_of layout [] [] opening [] frames
+pub fresh_trace : (layout : CycleLayout) (opening : Opening) (frames : List TimedFrame) → Follows (offered_in bytes_of layout [] opening) [] (start_of layout opening) (end_of_cycle layout opening) frames
+    → FollowsTrace bytes_of layout [] [] opening [] frames
 fresh_trace layout opening frames follows = record {
   below = λ k d within. absurd (omega (arith, within));
   can_trace = record {
@@ -104,7 +104,7 @@ fresh_trace layout opening frames follows = record {
 
 -- all flagged slots were sent
 pub all_sent : (layout : CycleLayout) (opening : Opening) (sends : Instance → List ℕ) (known : IsLayout layout) (fits : FitsWindow layout opening) (past frames : List TimedFrame)
-    → RunsCycle layout opening frames → AllSent layout opening sends known fits (past ++ frames)
+    → RunsCycle bytes_of layout opening frames → AllSent layout opening sends known fits (past ++ frames)
 all_sent layout opening sends known fits past frames runs slot few flagged unsent =
     let once = runs.each slot few flagged in
     let it = first-passes (λ sent. sent.frame.identifier == first_identifier + slot) runs.later once.sent [] once.once in
@@ -140,7 +140,7 @@ above_low frame slot is = by_test (nat_le first_identifier frame.identifier && n
 
 -- a frame of a slot is one of a flagged slot
 pub flagged_frame : (layout : CycleLayout) (opening : Opening) (known : IsLayout layout) (fits : FitsWindow layout opening) (frames past : List TimedFrame) (free : ℕ)
-    → Follows (offered_in layout [] opening) past free (end_of_cycle layout opening) frames → (sent : TimedFrame) (slot : ℕ) → Contains frames sent → slot_sent sent.frame ≡ Some slot
+    → Follows (offered_in bytes_of layout [] opening) past free (end_of_cycle layout opening) frames → (sent : TimedFrame) (slot : ℕ) → Contains frames sent → slot_sent sent.frame ≡ Some slot
     → (slot < most_slots) × (contains_slot opening.mask slot ≡ true)
 flagged_frame layout opening known fits [] past free follows sent slot among is = absurd (omega (arith, among.1))
 flagged_frame layout opening known fits (one ∷ later) past free (next, follows) sent slot (suc k, within, same) is =
@@ -148,7 +148,7 @@ flagged_frame layout opening known fits (one ∷ later) past free (next, follows
 flagged_frame layout opening known fits (one ∷ later) past free (next, follows) sent slot (zero, within, same) is =
     by_offer (ap (λ (s : TimedFrame). slot_sent s.frame) same ∙ is) next.least.offered
   where
-    by_offer : slot_sent one.frame ≡ Some slot → offered_in layout [] opening past one.start one.frame → (slot < most_slots) × (contains_slot opening.mask slot ≡ true)
+    by_offer : slot_sent one.frame ≡ Some slot → offered_in bytes_of layout [] opening past one.start one.frame → (slot < most_slots) × (contains_slot opening.mask slot ≡ true)
     by_offer here (inl trigger) =
         absurd (omega (arith, above_low one.frame slot here, low layout.slots opening.cycle (width_of opening) opening.mask one.frame trigger.among))
     by_offer here (inr (inl request)) = absurd (no_request layout opening past one.start one.frame request)
@@ -157,7 +157,7 @@ flagged_frame layout opening known fits (one ∷ later) past free (next, follows
         (omega (arith, it, offers.known), ap (contains_slot opening.mask) (sym it) ∙ offers.flagged)
 
 -- each flagged slot has a frame in the window
-pub window_frame : (layout : CycleLayout) (opening : Opening) (frames front window : List TimedFrame) → RunsCycle layout opening frames → frames ≡ front ++ window
+pub window_frame : (layout : CycleLayout) (opening : Opening) (frames front window : List TimedFrame) → RunsCycle bytes_of layout opening frames → frames ≡ front ++ window
     → All (λ sent. slot_sent sent.frame ≡ None) front → (slot : ℕ) → slot < most_slots → contains_slot opening.mask slot ≡ true
     → (sent : TimedFrame) × Contains window sent × (slot_sent sent.frame ≡ Some slot)
 window_frame layout opening frames front window runs split none slot few flagged =
@@ -194,17 +194,17 @@ module _ (streams : List Stream) (carried : ℕ → ℕ → Option ℕ) (opening
       by_found (Some i) at same = by_test i (is_polled streams slot) refl ((found-in opening.placed slot opening.cycle i well at).of_slot) same
 
   -- the frames of the cycle follow in the polled trace
-  pub frames_follow : (layout : CycleLayout) (frames front window out past : List TimedFrame) → IsLayout layout → IsPlainCycle layout opening frames → RunsCycle layout opening frames
+  pub frames_follow : (layout : CycleLayout) (frames front window out past : List TimedFrame) → IsLayout layout → IsPlainCycle layout opening frames → RunsCycle bytes_of layout opening frames
       → frames ≡ front ++ window → All (λ sent. slot_sent sent.frame ≡ None) front
       → IfSome (slice_get window 0) (λ sent. is_some (slot_sent sent.frame) ≡ true)
       → All (λ sent. sent.start < start_of layout opening) past
       → out ≡ front ++ sent_anew (polled_frame streams carried opening.placed opening.cycle) (end_of_cycle layout opening) window
-      → Follows (offered_in_with (polled_bytes streams carried) layout [] opening) past (start_of layout opening) (end_of_cycle layout opening) out
+      → Follows (offered_in (polled_bytes streams carried) layout [] opening) past (start_of layout opening) (end_of_cycle layout opening) out
   frames_follow layout frames front window out past known plain runs split none first before put =
       let sends = polled_bytes streams carried in
-      let follows = subst (Follows (offered_in layout [] opening) plain.past (start_of layout opening) (end_of_cycle layout opening)) split plain.follows in
+      let follows = subst (Follows (offered_in bytes_of layout [] opening) plain.past (start_of layout opening) (end_of_cycle layout opening)) split plain.follows in
       let all = subst (λ l. AllSent layout opening sends known plain.fits (plain.past ++ l)) split (all_sent layout opening sends known plain.fits plain.past frames runs) in
-      subst (Follows (offered_in_with sends layout [] opening) past (start_of layout opening) (end_of_cycle layout opening)) (sym put)
+      subst (Follows (offered_in sends layout [] opening) past (start_of layout opening) (end_of_cycle layout opening)) (sym put)
       (retimed layout opening sends known plain.fits (polled_frame streams carried opening.placed opening.cycle) carries front window plain.past past (start_of layout opening)
       (alike-before layout opening sends known plain.fits plain.past past plain.before before) all (omega arith)
       (λ k d inside slot few is. none-some slot (sym (none k d inside) ∙ slot_is (get_or front k d).frame slot few is))

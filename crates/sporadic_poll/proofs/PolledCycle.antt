@@ -6,7 +6,7 @@ use Rattle.can_frame.specs.declared.data_frame.TimedFrame.{TimedFrame}
 use Rattle.cycle_layout.specs.Layout.{CycleLayout}
 use Rattle.requirement_table.specs.declared.entries.Order.{Order}
 use Rattle.requirement_table.specs.declared.entries.Placed.{Placed}
-use Rattle.requirement_table.specs.Instance.{Instance}
+use Rattle.requirement_table.specs.Instance.{Instance, bytes_of}
 use Rattle.requirement_table.specs.Opening.{Opening}
 use Rattle.requirement_table.specs.Table.{instance_in}
 use Rattle.bus_line.specs.Trace.{Follows, Offers}
@@ -15,7 +15,7 @@ use Rattle.node_model.specs.Own.{Stands}
 use Rattle.node_model.proofs.Shared.{instance-of_all}
 use Rattle.cycle_engine.specs.Cycle.{FitsWindow}
 use Rattle.cycle_engine.specs.Nodes.{IsBefore, IsBus, IsKnown, heard_by, learnt_by, opening_of, states_of}
-use Rattle.cycle_engine.specs.Offered.{offered_in, offered_in_with}
+use Rattle.cycle_engine.specs.Offered.{offered_in}
 use Rattle.sporadic_poll.specs.Polled.{polled_bytes}
 use Rattle.sporadic_poll.specs.PolledNodes.{AreBefore, HaveHeard, PolledView, opened_by, placed_by}
 use Rattle.sporadic_poll.specs.Rides.{AreFates, AreRidesAt, HaveRidden, IsPlainCycle, Riding}
@@ -53,7 +53,7 @@ all-before offers until past free (sent ∷ later) follows =
 pub record Ran (order : Order) (layout : CycleLayout) (before after : List NodeState) (plain : List TimedFrame) : Type 0 where
   pub heard : after ≡ heard_by plain (learnt_by order.learned before)
   pub runs : (placed : List Placed) (past : List TimedFrame) → IsBefore layout [] [] placed past order (learnt_by order.learned before)
-      → Follows (offered_in layout [] (opening_of order placed)) past (order.cycle * layout.cycle) ((order.cycle + 1) * layout.cycle) plain
+      → Follows (offered_in bytes_of layout [] (opening_of order placed)) past (order.cycle * layout.cycle) ((order.cycle + 1) * layout.cycle) plain
   pub stand : (placed : List Placed) (past : List TimedFrame) → IsBefore layout [] [] placed past order (learnt_by order.learned before)
       → IsBus layout [] [] placed (past ++ plain) (order.cycle + 1) after
 
@@ -72,7 +72,7 @@ have-heard order old new plain ran placed = record {
       let E = old.nodes.layout.cycle in
       All-append (λ (sent : TimedFrame). sent.start < (order.cycle + 1) * E) past plain
       (λ k d within. let it = before.before k d within in omega (arith, it, add-mul order.cycle 1 E))
-      (all-before (offered_in old.nodes.layout [] (opened_by order old.placed)) ((order.cycle + 1) * E) past (order.cycle * E) plain
+      (all-before (offered_in bytes_of old.nodes.layout [] (opened_by order old.placed)) ((order.cycle + 1) * E) past (order.cycle * E) plain
       (ran.runs (placed_by order.learned old.placed) past before));
 }
 
@@ -92,7 +92,7 @@ pub record CarriesBy (layout : CycleLayout) (order : Order) (placed : List Place
       → HaveRidden carried order.cycle old
       → IsPlainCycle layout (record { cycle = order.cycle; mask = mask; placed = placed }) plain
       → All (λ sent. sent.start < order.cycle * layout.cycle) past
-      → Follows (offered_in_with (polled_bytes old.queued.streams carried) layout [] (record { cycle = order.cycle; mask = mask; placed = placed })) past
+      → Follows (offered_in (polled_bytes old.queued.streams carried) layout [] (record { cycle = order.cycle; mask = mask; placed = placed })) past
       (order.cycle * layout.cycle) ((order.cycle + 1) * layout.cycle) out
 
 -- the cycle that was run without requests

@@ -21,9 +21,9 @@ use Rattle.trigger_codec.specs.Bytes.{second_frame, triggers_with}
 use Rattle.async_window.specs.Waiting.{frames_with, unsent_after}
 use Rattle.bus_line.specs.Trace.{Follows, IsLeastOffered, IsNext, NothingOffered, end_of}
 use Rattle.node_model.specs.Opening.{end_of_cycle, start_of, window_start}
-use Rattle.node_model.specs.Offered.{HasNotStarted, IsUnsent, OffersRequest, OffersSlotWith, OffersTrigger, bytes_sent}
+use Rattle.node_model.specs.Offered.{HasNotStarted, IsUnsent, OffersRequest, OffersSlot, OffersTrigger, bytes_sent}
 use Rattle.cycle_engine.specs.Cycle.{FitsWindow}
-use Rattle.cycle_engine.specs.Offered.{offered_in, offered_in_with}
+use Rattle.cycle_engine.specs.Offered.{offered_in}
 use Rattle.cycle_engine.specs.SyncWindow.{back_to_back, sent_at}
 use Rattle.sporadic_poll.specs.Rides.{sent_anew}
 
@@ -48,7 +48,7 @@ no_request layout opening past at frame offers =
 -- a frame is offered with an identifier
 pub record IsOfferedAs (layout : CycleLayout) (opening : Opening) (past : List TimedFrame) (at identifier : ℕ) : Type 0 where
   pub frame : DataFrame
-  pub offered : offered_in layout [] opening past at frame
+  pub offered : offered_in bytes_of layout [] opening past at frame
   pub same : frame.identifier ≡ identifier
 
 module _ (layout : CycleLayout) (opening : Opening) (sends : Instance → List ℕ) (known : IsLayout layout) (fits : FitsWindow layout opening) where
@@ -86,7 +86,7 @@ module _ (layout : CycleLayout) (opening : Opening) (sends : Instance → List �
 
   -- a slot that is offered once some were sent is offered at any time of the window, with its identifier, once the others
   -- were
-  slot_too : (past others : List TimedFrame) (at also : ℕ) (frame : DataFrame) (slot : ℕ) → AreAlike past others → OffersSlotWith sends layout opening others at frame slot
+  slot_too : (past others : List TimedFrame) (at also : ℕ) (frame : DataFrame) (slot : ℕ) → AreAlike past others → OffersSlot sends layout opening others at frame slot
       → start_of layout opening ≤ also → window_start layout opening ≤ also → also < end_of_cycle layout opening → IsOfferedAs layout opening past also frame.identifier
   slot_too past others at also frame slot alike offers begun late_enough within =
       let bytes = has_bytes slot (instance_in opening.placed slot opening.cycle) frame.bytes offers.bytes in
@@ -109,7 +109,7 @@ module _ (layout : CycleLayout) (opening : Opening) (sends : Instance → List �
       }
 
   -- what is offered once some of them were sent is offered, with its identifier, once the others were
-  offered_too : (past others : List TimedFrame) (at : ℕ) (frame : DataFrame) → AreAlike past others → offered_in_with sends layout [] opening others at frame
+  offered_too : (past others : List TimedFrame) (at : ℕ) (frame : DataFrame) → AreAlike past others → offered_in sends layout [] opening others at frame
       → IsOfferedAs layout opening past at frame.identifier
   offered_too past others at frame alike (inl trigger) =
       record {
@@ -121,8 +121,8 @@ module _ (layout : CycleLayout) (opening : Opening) (sends : Instance → List �
   offered_too past others at frame alike (inr (inr (slot, offers))) = slot_too past others at at frame slot alike offers offers.begun offers.late_enough offers.within
 
   -- so where nothing is offered once some were sent, nothing is once the others were
-  nothing_too : (past others : List TimedFrame) (low high : ℕ) → AreAlike past others → NothingOffered (offered_in layout [] opening) past low high
-      → NothingOffered (offered_in_with sends layout [] opening) others low high
+  nothing_too : (past others : List TimedFrame) (low high : ℕ) → AreAlike past others → NothingOffered (offered_in bytes_of layout [] opening) past low high
+      → NothingOffered (offered_in sends layout [] opening) others low high
   nothing_too past others low high alike nothing at frame from until offers =
       let it = offered_too past others at frame alike offers in
       nothing at it.frame from until it.offered
@@ -132,34 +132,34 @@ module _ (layout : CycleLayout) (opening : Opening) (sends : Instance → List �
   AllSent past = (slot : ℕ) → slot < most_slots → contains_slot opening.mask slot ≡ true → IsUnsent layout opening slot past → ⊥
 
   -- in the window only slots are offered
-  in_window : (past : List TimedFrame) (at : ℕ) (frame : DataFrame) → window_start layout opening ≤ at → offered_in_with sends layout [] opening past at frame
-      → (slot : ℕ) × OffersSlotWith sends layout opening past at frame slot
+  in_window : (past : List TimedFrame) (at : ℕ) (frame : DataFrame) → window_start layout opening ≤ at → offered_in sends layout [] opening past at frame
+      → (slot : ℕ) × OffersSlot sends layout opening past at frame slot
   in_window past at frame from (inl trigger) = absurd (omega (arith, late, from, trigger.within))
   in_window past at frame from (inr (inl request)) = absurd (no_request layout opening past at frame request)
   in_window past at frame from (inr (inr offers)) = offers
 
-  in_window_plain : (past : List TimedFrame) (at : ℕ) (frame : DataFrame) → window_start layout opening ≤ at → offered_in layout [] opening past at frame
-      → (slot : ℕ) × OffersSlotWith bytes_of layout opening past at frame slot
+  in_window_plain : (past : List TimedFrame) (at : ℕ) (frame : DataFrame) → window_start layout opening ≤ at → offered_in bytes_of layout [] opening past at frame
+      → (slot : ℕ) × OffersSlot bytes_of layout opening past at frame slot
   in_window_plain past at frame from (inl trigger) = absurd (omega (arith, late, from, trigger.within))
   in_window_plain past at frame from (inr (inl request)) = absurd (no_request layout opening past at frame request)
   in_window_plain past at frame from (inr (inr offers)) = offers
 
   -- once all were sent nothing is offered in the window
   none_left : (past others : List TimedFrame) (low high : ℕ) → AreAlike past others → AllSent past → window_start layout opening ≤ low
-      → NothingOffered (offered_in_with sends layout [] opening) others low high
+      → NothingOffered (offered_in sends layout [] opening) others low high
   none_left past others low high alike all from at frame since until offers =
       let it = in_window others at frame (omega (arith, from, since)) offers in
       all it.0 it.1.known it.1.flagged ((alike (first_identifier + it.0)).1 it.1.unsent)
 
   -- a frame that is none of a slot is a trigger frame
   is_trigger : (past : List TimedFrame) (at : ℕ) (frame : DataFrame) → ((slot : ℕ) → slot < most_slots → frame.identifier ≡ first_identifier + slot → ⊥)
-      → offered_in layout [] opening past at frame → OffersTrigger layout opening past at frame
+      → offered_in bytes_of layout [] opening past at frame → OffersTrigger layout opening past at frame
   is_trigger past at frame none (inl trigger) = trigger
   is_trigger past at frame none (inr (inl request)) = absurd (no_request layout opening past at frame request)
   is_trigger past at frame none (inr (inr (slot, offers))) = absurd (none slot offers.known offers.identifier)
 
   -- and one that is no trigger frame is sent in the window
-  late_slot : (past : List TimedFrame) (at : ℕ) (frame : DataFrame) → 1 < frame.identifier → offered_in layout [] opening past at frame → window_start layout opening ≤ at
+  late_slot : (past : List TimedFrame) (at : ℕ) (frame : DataFrame) → 1 < frame.identifier → offered_in bytes_of layout [] opening past at frame → window_start layout opening ≤ at
   late_slot past at frame high (inl trigger) = absurd (omega (arith, high, low layout.slots opening.cycle (width_of opening) opening.mask frame trigger.among))
   late_slot past at frame high (inr (inl request)) = absurd (no_request layout opening past at frame request)
   late_slot past at frame high (inr (inr (slot, offers))) = offers.late_enough
@@ -173,8 +173,8 @@ module _ (layout : CycleLayout) (opening : Opening) (sends : Instance → List �
     -- the frame of a slot that is next is next with the other bytes, at another time of the window
     next_polled : (past others : List TimedFrame) (free at : ℕ) (sent : TimedFrame) → AreAlike past others → window_start layout opening ≤ sent.start → start_of layout opening ≤ sent.start
         → window_start layout opening ≤ at → start_of layout opening ≤ at → at < end_of_cycle layout opening
-        → IsNext (offered_in layout [] opening) past free (end_of_cycle layout opening) sent
-        → IsLeastOffered (offered_in_with sends layout [] opening) others at (polled sent.frame) × ((polled sent.frame).identifier ≡ sent.frame.identifier)
+        → IsNext (offered_in bytes_of layout [] opening) past free (end_of_cycle layout opening) sent
+        → IsLeastOffered (offered_in sends layout [] opening) others at (polled sent.frame) × ((polled sent.frame).identifier ≡ sent.frame.identifier)
     next_polled past others free at sent alike late_enough begun from since within next =
         let it = in_window_plain past sent.start sent.frame late_enough next.least.offered in
         let bytes = carries it.0 sent.frame it.1.known it.1.identifier it.1.bytes in (
@@ -204,8 +204,8 @@ module _ (layout : CycleLayout) (opening : Opening) (sends : Instance → List �
     -- the frames of the window, one right after the other
     behind : (window : List TimedFrame) (past others : List TimedFrame) (free at : ℕ) → AreAlike past others → AllSent (past ++ window)
         → window_start layout opening ≤ free → start_of layout opening ≤ free → window_start layout opening ≤ at → start_of layout opening ≤ at
-        → Follows (offered_in layout [] opening) past free (end_of_cycle layout opening) window
-        → Follows (offered_in_with sends layout [] opening) others at (end_of_cycle layout opening)
+        → Follows (offered_in bytes_of layout [] opening) past free (end_of_cycle layout opening) window
+        → Follows (offered_in sends layout [] opening) others at (end_of_cycle layout opening)
         (back_to_back (map polled_of window) at (end_of_cycle layout opening))
     behind [] past others free at alike all late_enough begun from since nothing =
         none_left past others at (end_of_cycle layout opening) alike (subst AllSent (append-nil past) all) from
@@ -239,8 +239,8 @@ module _ (layout : CycleLayout) (opening : Opening) (sends : Instance → List �
     -- the frames from the first frame of a slot on
     from_first : (window : List TimedFrame) (past others : List TimedFrame) (free : ℕ) → AreAlike past others → AllSent (past ++ window) → start_of layout opening ≤ free
         → ((sent : TimedFrame) → slice_get window 0 ≡ Some sent → 1 < sent.frame.identifier)
-        → Follows (offered_in layout [] opening) past free (end_of_cycle layout opening) window
-        → Follows (offered_in_with sends layout [] opening) others free (end_of_cycle layout opening) (timed window)
+        → Follows (offered_in bytes_of layout [] opening) past free (end_of_cycle layout opening) window
+        → Follows (offered_in sends layout [] opening) others free (end_of_cycle layout opening) (timed window)
     from_first [] past others free alike all begun slot nothing = nothing_too past others free (end_of_cycle layout opening) alike nothing
     from_first (sent ∷ later) past others free alike all begun slot (next, follows) =
         let start = late_slot past sent.start sent.frame (slot sent refl) next.least.offered in
@@ -266,8 +266,8 @@ module _ (layout : CycleLayout) (opening : Opening) (sends : Instance → List �
     pub retimed : (front window : List TimedFrame) (past others : List TimedFrame) (free : ℕ) → AreAlike past others → AllSent (past ++ (front ++ window)) → start_of layout opening ≤ free
         → All (λ sent. (slot : ℕ) → slot < most_slots → sent.frame.identifier ≡ first_identifier + slot → ⊥) front
         → ((sent : TimedFrame) → slice_get window 0 ≡ Some sent → 1 < sent.frame.identifier)
-        → Follows (offered_in layout [] opening) past free (end_of_cycle layout opening) (front ++ window)
-        → Follows (offered_in_with sends layout [] opening) others free (end_of_cycle layout opening) (front ++ timed window)
+        → Follows (offered_in bytes_of layout [] opening) past free (end_of_cycle layout opening) (front ++ window)
+        → Follows (offered_in sends layout [] opening) others free (end_of_cycle layout opening) (front ++ timed window)
     retimed [] window past others free alike all begun none slot follows = from_first window past others free alike all begun slot follows
     retimed (sent ∷ front) window past others free alike all begun none slot (next, follows) =
         let after : start_of layout opening ≤ sent.start = omega (arith, begun, next.when_free) in

@@ -16,7 +16,7 @@ use Rattle.requirement_table.specs.Table.{instance_in}
 use Rattle.requirement_table.specs.declared.entries.Placed.{Placed}
 use Rattle.requirement_table.proofs.Shared.{instance_in-sound}
 use Rattle.node_model.specs.Offered.{trigger_frames}
-use Rattle.cycle_engine.specs.Cycle.{RunsCycleWith, RunsCyclesWith, frames_in, of_slot}
+use Rattle.cycle_engine.specs.Cycle.{RunsCycle, RunsCycles, frames_in, of_slot}
 use Rattle.sporadic_poll.specs.declared.stream.Stream.{Stream}
 use Rattle.sporadic_poll.specs.Polled.{AreRides, is_polled, lengths_of, payload_at, payload_of, payload_taken, polled_bytes}
 use Rattle.sporadic_poll.specs.Ride.{bytes_with}
@@ -37,7 +37,7 @@ none-of_slot slot (sent ∷ frames) later all =
 
 -- so the frames of a slot in a cycle are those behind the trigger
 slots-behind : (sends : Instance → List ℕ) (layout : CycleLayout) (opening : Opening) (frames : List TimedFrame) (slot : ℕ)
-    (runs : RunsCycleWith sends layout opening frames) → of_slot slot frames ≡ of_slot slot runs.later
+    (runs : RunsCycle sends layout opening frames) → of_slot slot frames ≡ of_slot slot runs.later
 slots-behind sends layout opening frames slot runs =
     let triggers : List TimedFrame = runs.trigger ∷ runs.second in
     let are : All (λ frame. frame.identifier ≤ 1) (trigger_frames layout opening) = λ k d within.
@@ -91,7 +91,7 @@ carried-bytes streams carried i place request polled took at room =
 module _ (layout : CycleLayout) (streams : List Stream) (openings : List Opening) (carried : ℕ → ℕ → Option ℕ) (trace : List TimedFrame)
     (place release cycle : ℕ) (known : All (λ stream. stream.slot < most_slots) streams)
     (rides : AreRides layout.cycle streams openings carried) (keep : KeepLengths openings)
-    (runs : RunsCyclesWith (polled_bytes streams carried) layout openings trace)
+    (runs : RunsCycles (polled_bytes streams carried) layout openings trace)
     (is : IsRidden streams openings carried place release cycle) where
   pub ride_frame : HasRideFrame layout streams openings trace place release cycle
   ride_frame =
@@ -101,8 +101,8 @@ module _ (layout : CycleLayout) (streams : List Stream) (openings : List Opening
       let few : slot < most_slots =
       subst (λ (s : Stream). s.slot < most_slots) (get_or_from_slice_get streams place is.stream is.stream is.at)
       (known place is.stream (slice_get_within streams place is.stream is.at)) in
-      let run : RunsCycleWith sends layout o (frames_in layout o.cycle trace) =
-      All-contains (λ (x : Opening). RunsCycleWith sends layout x (frames_in layout x.cycle trace)) openings o runs is.opened in
+      let run : RunsCycle sends layout o (frames_in layout o.cycle trace) =
+      All-contains (λ (x : Opening). RunsCycle sends layout x (frames_in layout x.cycle trace)) openings o runs is.opened in
       let once = run.each slot few is.flagged in
       let it = sender sends o.placed slot o.cycle release once.sent.frame.bytes once.carries
       (ap (release_in o.placed slot) is.in_cycle ∙ is.released) in

@@ -4,6 +4,7 @@ use Rattle.can_frame.specs.declared.data_frame.TimedFrame.{TimedFrame}
 use Rattle.requirement_table.specs.declared.entries.Order.{Order}
 use Rattle.requirement_table.specs.declared.entries.Placed.{Placed}
 use Rattle.requirement_table.specs.Opening.{Opening}
+use Rattle.requirement_table.specs.Instance.{bytes_of}
 use Rattle.bus_line.specs.Trace.{Follows}
 use Rattle.cycle_engine.specs.Nodes.{IsBefore, IsBus, NodesView, heard_by, learnt_by, opening_of, states_of}
 use Rattle.cycle_engine.specs.Offered.{offered_in}
@@ -39,7 +40,7 @@ pub record HaveHeard (order : Order) (old new : PolledView) : Type 0 where
   pub plain : List TimedFrame
   pub heard : states_of new.nodes.nodes ≡ heard_by plain (learnt_by order.learned (states_of old.nodes.nodes))
   pub follows : (past : List TimedFrame) → AreBefore order past old
-      → Follows (offered_in old.nodes.layout [] (opened_by order old.placed)) past
+      → Follows (offered_in bytes_of old.nodes.layout [] (opened_by order old.placed)) past
       (order.cycle * old.nodes.layout.cycle) ((order.cycle + 1) * old.nodes.layout.cycle) plain
   pub stand : (past : List TimedFrame) → AreBefore order past old
       → IsBus old.nodes.layout [] [] new.placed (past ++ plain) (order.cycle + 1) (states_of new.nodes.nodes)

@@ -9,7 +9,7 @@ use Rattle.can_frame.specs.DataFrame.{DataFrame}
 use Rattle.can_frame.specs.declared.data_frame.TimedFrame.{TimedFrame}
 use Rattle.cycle_layout.specs.Layout.{CycleLayout}
 use Rattle.requirement_table.specs.declared.entries.Placed.{Placed}
-use Rattle.requirement_table.specs.Instance.{release_of}
+use Rattle.requirement_table.specs.Instance.{bytes_of, release_of}
 use Rattle.requirement_table.specs.Opening.{Opening}
 use Rattle.requirement_table.specs.Slots.{contains_slot, most_slots}
 use Rattle.requirement_table.specs.Table.{instance_in}
@@ -121,7 +121,7 @@ pub record IsPlainCycle (layout : CycleLayout) (opening : Opening) (frames : Lis
   pub past : List TimedFrame
   pub before : All (λ sent. sent.start < start_of layout opening) past
   pub fits : FitsWindow layout opening
-  pub follows : Follows (offered_in layout [] opening) past
+  pub follows : Follows (offered_in bytes_of layout [] opening) past
       (start_of layout opening) (end_of_cycle layout opening) frames
 
 -- The frames of the slots, with the requests that they carry

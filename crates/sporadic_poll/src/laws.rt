@@ -3,13 +3,13 @@
 ghost use Rattle.std.specs.Prelude.{◌≡◌, ℕ, ◌*◌, ◌<◌, All, List, Option, Some, Contains};
 ghost use Rattle.std.specs.List.{slice_get};
 ghost use Rattle.requirement_table.specs.declared.entries.Placed.{Placed};
-ghost use Rattle.requirement_table.specs.Instance.{IsReleasedIn};
+ghost use Rattle.requirement_table.specs.Instance.{IsReleasedIn, bytes_of};
 ghost use Rattle.requirement_table.specs.Table.{IsWellPlaced};
 ghost use Rattle.can_frame.specs.declared.data_frame.TimedFrame.{TimedFrame};
 ghost use Rattle.cycle_layout.specs.Layout.{CycleLayout, IsLayout};
 ghost use Rattle.requirement_table.specs.Opening.{Opening};
 ghost use Rattle.requirement_table.specs.Slots.{most_slots};
-ghost use Rattle.cycle_engine.specs.Cycle.{RunsCycle, RunsCyclesWith};
+ghost use Rattle.cycle_engine.specs.Cycle.{RunsCycle, RunsCycles};
 ghost use Rattle.cycle_engine.specs.Offered.{AreOfDistinctCycles};
 ghost use Rattle.sporadic_poll.specs.declared.stream.Stream.{Stream};
 ghost use Rattle.sporadic_poll.specs.Polled.{AreRides, lengths_of, polled_bytes};
@@ -50,7 +50,7 @@ pub fn rides_of_openings()
 /// A cycle that was run on the bus without requests runs what its opening says.
 pub fn plain_cycle()
     ensures runs { (layout : CycleLayout) (opening : Opening) (frames : List TimedFrame) → IsLayout layout
-        → IsPlainCycle layout opening frames → RunsCycle layout opening frames }
+        → IsPlainCycle layout opening frames → RunsCycle bytes_of layout opening frames }
 {
     next_cycle();
     numbers_are_whole();
@@ -84,7 +84,7 @@ pub fn ride_frames()
     ensures frame { (layout : CycleLayout) (streams : List Stream) (openings : List Opening)
         (carried : ℕ → ℕ → Option ℕ) (trace : List TimedFrame) (place release cycle : ℕ)
         → All (λ stream. stream.slot < most_slots) streams → AreRides layout.cycle streams openings carried
-        → KeepLengths openings → RunsCyclesWith (polled_bytes streams carried) layout openings trace
+        → KeepLengths openings → RunsCycles (polled_bytes streams carried) layout openings trace
         → IsRidden streams openings carried place release cycle
         → HasRideFrame layout streams openings trace place release cycle }
 {}

@@ -11,7 +11,7 @@ ghost use Rattle.requirement_table.specs.Table.{IsWellPlaced};
 ghost use Rattle.bus_line.specs.Trace.{Follows};
 ghost use Rattle.node_model.specs.Node.{fresh_node};
 ghost use Rattle.cycle_engine.specs.Nodes.{CanLearn, IsBus, states_of};
-ghost use Rattle.cycle_engine.specs.Offered.{offered_in_with};
+ghost use Rattle.cycle_engine.specs.Offered.{offered_in};
 ghost use Rattle.sporadic_poll.specs.Polled.{polled_bytes};
 ghost use Rattle.sporadic_poll.specs.PolledNodes.{AreBefore, AreNext, HaveHeard, opened_by, placed_by};
 ghost use Rattle.sporadic_poll.specs.Rides.{AreFates, AreRidesAt, HaveRidden};
@@ -186,7 +186,7 @@ pub fn run_polled(
         lengths carried
         → HaveRidden carried order.now.cycle nodes.old.riding
         → All (λ sent. sent.start < order.now.cycle * nodes.old.nodes.layout.cycle) past
-        → Follows (offered_in_with (polled_bytes nodes.old.riding.queued.streams carried) nodes.old.nodes.layout []
+        → Follows (offered_in (polled_bytes nodes.old.riding.queued.streams carried) nodes.old.nodes.layout []
         (opened_by order.now nodes.old.placed)) past (order.now.cycle * nodes.old.nodes.layout.cycle)
         ((order.now.cycle + 1) * nodes.old.nodes.layout.cycle) frames.items) }
     // What became of the requests is known after this cycle too.

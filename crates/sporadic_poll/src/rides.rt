@@ -10,7 +10,7 @@ ghost use Rattle.requirement_table.specs.Opening.{Opening};
 ghost use Rattle.requirement_table.specs.Slots.{contains_slot, most_slots};
 ghost use Rattle.requirement_table.specs.Table.{IsWellPlaced};
 ghost use Rattle.bus_line.specs.Trace.{Follows};
-ghost use Rattle.cycle_engine.specs.Offered.{offered_in_with};
+ghost use Rattle.cycle_engine.specs.Offered.{offered_in};
 ghost use Rattle.cycle_engine.specs.SyncWindow.{back_to_back};
 ghost use Rattle.sporadic_poll.specs.declared.fate.Fate.TheVariants.{Waits};
 ghost use Rattle.sporadic_poll.specs.Polled.{is_polled, payload_at, payload_of, polled_bytes};
@@ -257,7 +257,7 @@ impl Rides {
             → HaveRidden carried cycle self.old
             → IsPlainCycle layout.now (record { cycle = cycle; mask = mask; placed = placed.now }) frames.now
             → All (λ sent. sent.start < cycle * layout.now.cycle) past
-            → Follows (offered_in_with (polled_bytes self.old.queued.streams carried) layout.now []
+            → Follows (offered_in (polled_bytes self.old.queued.streams carried) layout.now []
             (record { cycle = cycle; mask = mask; placed = placed.now })) past
             (cycle * layout.now.cycle) ((cycle + 1) * layout.now.cycle) out.new.items }
     {

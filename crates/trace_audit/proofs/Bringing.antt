@@ -14,11 +14,12 @@ use Rattle.master_core.specs.declared.event.Event.{Event}
 use Rattle.master_core.specs.declared.event.Event.TheVariants.{Open}
 use Rattle.master_core.specs.History.{IsLegal, is_open, placed_of}
 use Rattle.master_core.specs.Orders.{IsOrder}
-use Rattle.kept_run.specs.Progress.{IsOnTheWay, Setting}
+use Rattle.kept_run.specs.Progress.{IsOnTheWay}
+use Rattle.kept_run.specs.Setting.{Setting}
 use Rattle.kept_run.proofs.Shared.{CallsBetween, CyclesRun, RanOrder, way-called, way-run}
 use Rattle.steps_file.specs.declared.steps.Step.{Step}
 use Rattle.system_file.specs.declared.system.System.{System}
-use Rattle.replay_run.specs.Progress.{setting_of}
+use Rattle.replay_run.specs.Run.{setting_of}
 use Rattle.bus_trace.specs.EventRows.{told_at}
 use Rattle.bus_trace.specs.Logged.{IsNear}
 use Rattle.bus_trace.specs.LogRows.{events_told}

@@ -12,13 +12,15 @@ use Rattle.change_protocol.specs.declared.operations.Act.{Act}
 use Rattle.change_protocol.specs.declared.operations.Act.TheVariants as act
 use Rattle.admission_rules.specs.declared.Rules.{Rules}
 use Rattle.can_frame.specs.declared.data_frame.TimedFrame.{TimedFrame}
+use Rattle.requirement_table.specs.Instance.{bytes_of}
 use Rattle.master_core.specs.Calls.{Call, asked, call_of}
 use Rattle.master_core.specs.declared.event.Event.{Event}
 use Rattle.master_core.specs.declared.event.Event.TheVariants.{Submit, Look, Open}
 use Rattle.master_core.specs.History.{IsLegal, IsRight, next_of}
 use Rattle.master_core.specs.Openings.{openings_of}
 use Rattle.cycle_engine.specs.Offered.{IsCanTrace}
-use Rattle.kept_run.proofs.Shared.{Promises}
+use Rattle.cycle_engine.proofs.Shared.{bytes_of-whole}
+use Rattle.kept_run.proofs.Shared.{Promises, bytes_of-forgets}
 use Rattle.live_master.specs.Callers.{is_called_by, number_of, operator_number}
 use Rattle.live_run.specs.Answers.{AnswersActs}
 use Rattle.live_steps.specs.Live.{AnswersOperators, act_of, acts_of}
@@ -26,7 +28,7 @@ use Rattle.steps_file.specs.StepsFile.{IsStep, count_of}
 use Rattle.steps_file.specs.declared.steps.Step.{Step}
 use Rattle.steps_file.specs.declared.steps.Step.TheVariants as step
 use Rattle.system_file.specs.declared.system.System.{System}
-use Rattle.replay_run.specs.Progress.{setting_of}
+use Rattle.replay_run.specs.Run.{setting_of}
 use Rattle.bus_trace.specs.LogRows.{event_told, events_told, log_rows}
 use Rattle.log_reader.specs.declared.row.LogRow.{LogRow}
 use Rattle.log_reader.specs.declared.row.LogRow.TheVariants as row
@@ -82,9 +84,9 @@ module _ (system : System) (steps : List Step) (requests : List Request) (rows :
     other-is_last none can =
         let way = auditing.again.way in
         let is : can.history ≡ history = stays system steps requests rows auditor auditing line can.history can.read can.run.legal none in
-        let whole = kept.kept (setting_of system requests) history auditing.trace way.known way.under_way in
+        let whole = kept.kept (setting_of system requests) history auditing.trace way.known bytes_of-forgets way.under_way in
         let same : can.trace ≡ auditing.trace = whole.only_trace can.trace
-        (subst (λ h. IsCanTrace system.layout requests (openings_of h) (next_of h) can.trace) is can.run.can_trace) in
+        (subst (λ h. IsCanTrace bytes_of system.layout requests (openings_of h) (next_of h) can.trace) is can.run.can_trace) in
         let begins : (rows ++ line ∷ []) ++ can.later ≡ (rows ++ last ∷ []) ++ [] =
         can.front ∙ ap (λ h. log_rows h can.trace) is ∙ ap (λ t. log_rows history t) same
         ∙ ap (λ l. l ++ last ∷ []) (sym (all-told system steps requests rows auditor auditing line all)) ∙ sym (append-nil (rows ++ last ∷ [])) in
@@ -115,14 +117,14 @@ module _ (system : System) (steps : List Step) (requests : List Request) (rows :
   module _ (laws : TraceLaws) where
     -- what follows the rows that are left, in the log of any run that goes on
     log-from : (other : List Event) (trace : List TimedFrame) (later : List Event) → other ≡ history ++ later
-        → IsLegal system.rules other → IsCanTrace system.layout requests (openings_of other) (next_of other) trace
+        → IsLegal system.rules other → IsCanTrace bytes_of system.layout requests (openings_of other) (next_of other) trace
         → log_rows other trace ≡ (rows ++ left_of auditor) ++ (events_told trace history later ++ row.End (next_of (history ++ later)) ∷ [])
     log-from other trace later is legal can_trace =
         let way = auditing.again.way in
         ap (λ h. log_rows h trace) is
-        ∙ log-goes-on laws (setting_of system requests) way.known history auditing.trace way.under_way later trace
+        ∙ log-goes-on laws (setting_of system requests) way.known history auditing.trace way.under_way bytes_of-whole later trace
         (subst (IsLegal system.rules) is legal)
-        (subst (λ h. IsCanTrace system.layout requests (openings_of h) (next_of h) trace) is can_trace)
+        (subst (λ h. IsCanTrace bytes_of system.layout requests (openings_of h) (next_of h) trace) is can_trace)
         ∙ ap (λ l. l ++ (events_told trace history later ++ row.End (next_of (history ++ later)) ∷ [])) (sym auditing.told)
 
     -- the last row of a log can stand only where no row of the last event is left and so many cycles were opened

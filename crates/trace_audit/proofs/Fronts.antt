@@ -8,16 +8,18 @@ use Rattle.async_window.specs.declared.request.Request.{Request}
 use Rattle.admission_rules.specs.declared.Rules.{Rules}
 use Rattle.bus_line.specs.Trace.{started_before}
 use Rattle.requirement_table.specs.Opening.{width_of}
+use Rattle.requirement_table.specs.Instance.{bytes_of}
 use Rattle.master_core.specs.declared.event.Event.{Event}
 use Rattle.master_core.specs.declared.event.Event.TheVariants.{Submit, Look, Open}
 use Rattle.master_core.specs.History.{IsLegal, IsRight, next_of, placed_of}
 use Rattle.master_core.specs.Openings.{openings_of}
 use Rattle.cycle_engine.specs.Offered.{IsCanTrace}
-use Rattle.kept_run.specs.Progress.{IsSetting, Setting}
+use Rattle.kept_run.specs.Setting.{IsSetting, Setting}
+use Rattle.cycle_engine.proofs.Shared.{bytes_of-whole}
 use Rattle.kept_run.proofs.Shared.{AllAfter-parts}
 use Rattle.steps_file.specs.declared.steps.Step.{Step}
 use Rattle.system_file.specs.declared.system.System.{System}
-use Rattle.replay_run.specs.Progress.{setting_of}
+use Rattle.replay_run.specs.Run.{setting_of}
 use Rattle.bus_trace.specs.Log.{started_in}
 use Rattle.bus_trace.specs.LogRows.{event_told, events_told, log_rows, plan_told, verdict_told}
 use Rattle.log_reader.specs.declared.row.LogRow.{LogRow}
@@ -134,8 +136,8 @@ take-over (suc n) (y ∷ xs) x ys more =
 module _ (laws : TraceLaws)
     (cut : (setting : Setting) (history later : List Event) (frames : List TimedFrame) → IsSetting setting
     → IsLegal setting.rules (history ++ later)
-    → IsCanTrace setting.layout setting.requests (openings_of (history ++ later)) (next_of (history ++ later)) frames
-    → IsCanTrace setting.layout setting.requests (openings_of history) (next_of history)
+    → IsCanTrace setting.sends setting.layout setting.requests (openings_of (history ++ later)) (next_of (history ++ later)) frames
+    → IsCanTrace setting.sends setting.layout setting.requests (openings_of history) (next_of history)
     (started_before (next_of history * setting.layout.cycle) frames))
     (system : System) (steps : List Step) (requests : List Request) (known : IsSetting (setting_of system requests))
     (rows : List LogRow) (log : IsWholeLog system steps requests rows) where
@@ -162,13 +164,13 @@ module _ (laws : TraceLaws)
     legal : IsLegal system.rules (front ++ later)
     legal = subst (IsLegal system.rules) reading.is log.run.legal
 
-    can_trace : IsCanTrace system.layout requests (openings_of (front ++ later)) (next_of (front ++ later)) log.trace
-    can_trace = subst (λ h. IsCanTrace system.layout requests (openings_of h) (next_of h) log.trace) reading.is log.run.can_trace
+    can_trace : IsCanTrace bytes_of system.layout requests (openings_of (front ++ later)) (next_of (front ++ later)) log.trace
+    can_trace = subst (λ h. IsCanTrace bytes_of system.layout requests (openings_of h) (next_of h) log.trace) reading.is log.run.can_trace
 
     front-legal : IsLegal system.rules front
     front-legal = (AllAfter-parts (IsRight system.rules) [] front later legal).0
 
-    front-trace : IsCanTrace system.layout requests (openings_of front) (next_of front) trace
+    front-trace : IsCanTrace bytes_of system.layout requests (openings_of front) (next_of front) trace
     front-trace = cut (setting_of system requests) front later log.trace known legal can_trace
 
     abbrev told : List LogRow
@@ -181,7 +183,7 @@ module _ (laws : TraceLaws)
     split =
         log.log ∙ ap (λ h. log_rows h log.trace) reading.is
         ∙ log-goes-on laws (setting_of system requests) known front trace
-        (laws.under_way (setting_of system requests) front trace known front-legal front-trace) later log.trace legal can_trace
+        (laws.under_way (setting_of system requests) front trace known bytes_of-whole front-legal front-trace) bytes_of-whole later log.trace legal can_trace
 
     -- no row of a later event is among the first rows
     counted : length (filter is_event_row first) ≡ length (filter is_event_row told)

@@ -24,8 +24,8 @@ use Rattle.steps_file.specs.declared.steps.Step.{Step}
 use Rattle.system_file.specs.SystemFile.{IsSystem}
 use Rattle.system_file.specs.declared.system.System.{System}
 use Rattle.cycle_engine.specs.Offered.{AreAsynchronous}
-use Rattle.kept_run.specs.Progress.{IsSetting}
-use Rattle.replay_run.specs.Progress.{setting_of}
+use Rattle.kept_run.specs.Setting.{IsSetting}
+use Rattle.replay_run.specs.Run.{setting_of}
 use Rattle.bus_trace.specs.Log.{started_in}
 use Rattle.bus_trace.specs.LogRows.{event_told, events_told, log_rows, plan_told, verdict_told}
 use Rattle.log_reader.specs.declared.row.LogRow.{LogRow}

@@ -12,8 +12,9 @@ use Rattle.master_core.specs.declared.event.Event.TheVariants.{Submit, Look, Ope
 use Rattle.master_core.specs.History.{AllAfter, IsLegal, IsRight, is_open, next_of, placed_of}
 use Rattle.master_core.specs.Openings.{openings_of}
 use Rattle.cycle_engine.specs.Cycle.{cycle_of}
-use Rattle.cycle_engine.specs.Offered.{IsCanTrace}
-use Rattle.kept_run.specs.Progress.{IsSetting, IsUnderWay, Setting}
+use Rattle.cycle_engine.specs.Offered.{IsCanTrace, SendsWhole}
+use Rattle.kept_run.specs.Progress.{IsUnderWay}
+use Rattle.kept_run.specs.Setting.{IsSetting, Setting}
 use Rattle.kept_run.proofs.Shared.{next_of-push}
 use Rattle.bus_trace.specs.EventRows.{told_at}
 use Rattle.bus_trace.specs.Log.{started_in}
@@ -41,13 +42,13 @@ events_told-push trace history event =
 
 -- what is known of the histories and frames of runs
 pub record TraceLaws : Type 0 where
-  pub under_way : (setting : Setting) (history : List Event) (trace : List TimedFrame) → IsSetting setting
+  pub under_way : (setting : Setting) (history : List Event) (trace : List TimedFrame) → IsSetting setting → SendsWhole setting.sends
       → IsLegal setting.rules history
-      → IsCanTrace setting.layout setting.requests (openings_of history) (next_of history) trace
+      → IsCanTrace setting.sends setting.layout setting.requests (openings_of history) (next_of history) trace
       → IsUnderWay setting history trace
   pub front : (setting : Setting) (history later : List Event) (trace frames : List TimedFrame) → IsSetting setting
       → IsUnderWay setting history trace → IsLegal setting.rules (history ++ later)
-      → IsCanTrace setting.layout setting.requests (openings_of (history ++ later)) (next_of (history ++ later)) frames
+      → IsCanTrace setting.sends setting.layout setting.requests (openings_of (history ++ later)) (next_of (history ++ later)) frames
       → (rest : List TimedFrame) × (frames ≡ trace ++ rest)
       × All (λ sent. next_of history * setting.layout.cycle ≤ sent.start) rest
   pub started : (setting : Setting) (history : List Event) (trace : List TimedFrame) → IsSetting setting → IsUnderWay setting history trace
@@ -141,23 +142,23 @@ module _ (laws : TraceLaws) (setting : Setting) (known : IsSetting setting)
 
 module _ (laws : TraceLaws) (setting : Setting) (known : IsSetting setting) (history : List Event) (trace : List TimedFrame)
     (way : IsUnderWay setting history trace) where
-  pub rows-go-on : (later : List Event) (frames : List TimedFrame) → IsLegal setting.rules (history ++ later)
-      → IsCanTrace setting.layout setting.requests (openings_of (history ++ later)) (next_of (history ++ later)) frames
+  pub rows-go-on : SendsWhole setting.sends → (later : List Event) (frames : List TimedFrame) → IsLegal setting.rules (history ++ later)
+      → IsCanTrace setting.sends setting.layout setting.requests (openings_of (history ++ later)) (next_of (history ++ later)) frames
       → events_told frames [] history ≡ events_told trace [] history
-  rows-go-on later frames legal is =
+  rows-go-on fully later frames legal is =
       let (rest, all, behind) = laws.front setting history later trace frames known way legal is in
-      let whole = laws.under_way setting (history ++ later) frames known legal is in
+      let whole = laws.under_way setting (history ++ later) frames known fully legal is in
       ap (λ l. events_told l [] history) all
       ∙ rows-same laws setting known history (history ++ later) trace rest way (subst (IsUnderWay setting (history ++ later)) all whole) behind
 
-  pub log-goes-on : (later : List Event) (frames : List TimedFrame) → IsLegal setting.rules (history ++ later)
-      → IsCanTrace setting.layout setting.requests (openings_of (history ++ later)) (next_of (history ++ later)) frames
+  pub log-goes-on : SendsWhole setting.sends → (later : List Event) (frames : List TimedFrame) → IsLegal setting.rules (history ++ later)
+      → IsCanTrace setting.sends setting.layout setting.requests (openings_of (history ++ later)) (next_of (history ++ later)) frames
       → log_rows (history ++ later) frames
       ≡ events_told trace [] history ++ (events_told frames history later ++ row.End (next_of (history ++ later)) ∷ [])
-  log-goes-on later frames legal is =
+  log-goes-on fully later frames legal is =
       ap (λ l. l ++ row.End (next_of (history ++ later)) ∷ []) (events_told-append frames [] history later)
       ∙ append_assoc (events_told frames [] history) (events_told frames history later) (row.End (next_of (history ++ later)) ∷ [])
-      ∙ ap (λ l. l ++ (events_told frames history later ++ row.End (next_of (history ++ later)) ∷ [])) (rows-go-on later frames legal is)
+      ∙ ap (λ l. l ++ (events_told frames history later ++ row.End (next_of (history ++ later)) ∷ [])) (rows-go-on fully later frames legal is)
 
   -- a cycle that is opened and run adds the rows of its event
   pub opened-told : (cycle mask : ℕ) (frames : List TimedFrame) → IsUnderWay setting (history ++ Open cycle mask ∷ []) (trace ++ frames)

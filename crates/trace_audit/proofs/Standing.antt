@@ -9,16 +9,18 @@ use Rattle.std.proofs.lemmas.Option.{slice_get_within}
 use Rattle.can_frame.specs.declared.data_frame.TimedFrame.{TimedFrame}
 use Rattle.async_window.specs.declared.request.Request.{Request}
 use Rattle.admission_rules.specs.declared.Rules.{Rules}
+use Rattle.requirement_table.specs.Instance.{bytes_of}
 use Rattle.master_core.specs.declared.event.Event.{Event}
 use Rattle.master_core.specs.declared.event.Event.TheVariants.{Submit, Look, Open}
 use Rattle.master_core.specs.History.{IsLegal, IsRight, next_of}
 use Rattle.master_core.specs.Openings.{openings_of}
 use Rattle.cycle_engine.specs.Offered.{IsCanTrace}
-use Rattle.kept_run.proofs.Shared.{AllAfter-parts, Promises, next_of-push}
+use Rattle.cycle_engine.proofs.Shared.{bytes_of-whole}
+use Rattle.kept_run.proofs.Shared.{AllAfter-parts, Promises, bytes_of-forgets, next_of-push}
 use Rattle.steps_file.specs.StepsFile.{count_of}
 use Rattle.steps_file.specs.declared.steps.Step.{Step}
 use Rattle.system_file.specs.declared.system.System.{System}
-use Rattle.replay_run.specs.Progress.{setting_of}
+use Rattle.replay_run.specs.Run.{setting_of}
 use Rattle.bus_trace.specs.EventRows.{told_at}
 use Rattle.bus_trace.specs.LogRows.{events_told, log_rows}
 use Rattle.log_reader.specs.declared.row.LogRow.{LogRow}
@@ -106,8 +108,8 @@ module _ (system : System) (steps : List Step) (requests : List Request) (rows :
         let (later, is) = goes-on can.history can.read can.run.legal in
         let way = auditing.again.way in
         let legal : IsLegal system.rules (history ++ later) = subst (IsLegal system.rules) is can.run.legal in
-        let can_trace = subst (λ h. IsCanTrace system.layout requests (openings_of h) (next_of h) can.trace) is can.run.can_trace in
-        let log = log-goes-on laws (setting_of system requests) way.known history auditing.trace way.under_way later can.trace legal can_trace in
+        let can_trace = subst (λ h. IsCanTrace bytes_of system.layout requests (openings_of h) (next_of h) can.trace) is can.run.can_trace in
+        let log = log-goes-on laws (setting_of system requests) way.known history auditing.trace way.under_way bytes_of-whole later can.trace legal can_trace in
         let rest : List LogRow = events_told can.trace history later ++ row.End (next_of (history ++ later)) ∷ [] in
         let begins = can.front ∙ ap (λ h. log_rows h can.trace) is ∙ log ∙ ap (λ l. l ++ rest) (sym auditing.told) in
         let first = next-row rows (left_of auditor) line can.later rest begins (left-some some) in
@@ -187,9 +189,9 @@ module _ (system : System) (steps : List Step) (requests : List Request) (rows :
     event-breaks other can =
         let way = on.again.way in
         let is : can.history ≡ new.master.history = new-only can.history can.read can.run.legal in
-        let whole = kept.kept (setting_of system requests) new.master.history trace way.known way.under_way in
+        let whole = kept.kept (setting_of system requests) new.master.history trace way.known bytes_of-forgets way.under_way in
         let same : can.trace ≡ trace = whole.only_trace can.trace
-        (subst (λ h. IsCanTrace system.layout requests (openings_of h) (next_of h) can.trace) is can.run.can_trace) in
+        (subst (λ h. IsCanTrace bytes_of system.layout requests (openings_of h) (next_of h) can.trace) is can.run.can_trace) in
         let begins = can.front ∙ ap (λ h. log_rows h can.trace) is ∙ ap (λ t. log_rows new.master.history t) same
         ∙ ap (λ l. l ++ row.End (next_of new.master.history) ∷ []) (sym all-rows) in
         other (next-row rows told line can.later (row.End (next_of new.master.history) ∷ []) begins told-some)

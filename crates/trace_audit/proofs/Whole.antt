@@ -7,11 +7,11 @@ use Rattle.std.proofs.lemmas.List.Elements.{All-head, All-nil, All-push, All-tai
 use Rattle.std.proofs.lemmas.Option.{slice_get-get_or}
 use Rattle.async_window.specs.declared.request.Request.{Request}
 use Rattle.master_core.specs.History.{next_of}
-use Rattle.kept_run.proofs.Shared.{Promises}
+use Rattle.kept_run.proofs.Shared.{Promises, bytes_of-forgets}
 use Rattle.steps_file.specs.StepsFile.{IsStep, count_of}
 use Rattle.steps_file.specs.declared.steps.Step.{Step}
 use Rattle.system_file.specs.declared.system.System.{System}
-use Rattle.replay_run.specs.Progress.{setting_of}
+use Rattle.replay_run.specs.Run.{setting_of}
 use Rattle.bus_trace.specs.LogRows.{events_told}
 use Rattle.log_reader.specs.declared.row.LogRow.{LogRow}
 use Rattle.log_reader.specs.declared.row.LogRow.TheVariants as row
@@ -229,7 +229,7 @@ module _ (system : System) (steps : List Step) (requests : List Request) (rows :
         let audited : IsAudited system steps requests (last.before ++ row.End last.next ∷ []) = record {
           stand = subst (AllStand system steps requests) last.rows_are heard.stand;
           all = log;
-          kept = kept.kept (setting_of system requests) history last.auditing.trace way.known way.under_way;
+          kept = kept.kept (setting_of system requests) history last.auditing.trace way.known bytes_of-forgets way.under_way;
         } in
         subst (IsAudited system steps requests) (sym last.rows_are) audited
 

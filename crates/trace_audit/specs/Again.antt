@@ -10,7 +10,7 @@ use Rattle.kept_run.specs.Progress.{IsOnTheWay}
 use Rattle.steps_file.specs.StepsFile.{count_of}
 use Rattle.steps_file.specs.declared.steps.Step.{Step}
 use Rattle.system_file.specs.declared.system.System.{System}
-use Rattle.replay_run.specs.Progress.{setting_of}
+use Rattle.replay_run.specs.Run.{setting_of}
 use Rattle.bus_trace.specs.EventRows.{told_at}
 use Rattle.bus_trace.specs.Logged.{IsNear}
 use Rattle.bus_trace.specs.LogRows.{events_told}

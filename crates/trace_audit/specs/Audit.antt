@@ -1,6 +1,7 @@
 -- *Audit*: which rows can be those of a run of a system, steps and requests.
 use Rattle.std.specs.Prelude.{◌≡◌, ℕ, ◌<◌, ◌≤◌, List, ◌++◌, filter, length, map, sum_by, take}
 use Rattle.can_frame.specs.declared.data_frame.TimedFrame.{TimedFrame}
+use Rattle.requirement_table.specs.Instance.{bytes_of}
 use Rattle.async_window.specs.declared.request.Request.{Request}
 use Rattle.master_core.specs.Calls.{Call, asked, call_of}
 use Rattle.master_core.specs.declared.event.Event.{Event}
@@ -12,6 +13,7 @@ use Rattle.live_master.specs.Callers.{is_called_by}
 use Rattle.steps_file.specs.StepsFile.{count_of}
 use Rattle.steps_file.specs.declared.steps.Step.{Step}
 use Rattle.system_file.specs.declared.system.System.{System}
+use Rattle.replay_run.specs.Run.{setting_of}
 use Rattle.live_steps.specs.Live.{AnswersOperators, acts_of}
 use Rattle.bus_trace.specs.LogRows.{log_rows}
 use Rattle.log_reader.specs.declared.row.LogRow.{LogRow}
@@ -31,7 +33,7 @@ BeginsActs steps history = (operator : ℕ)
 pub record IsRunOf (system : System) (steps : List Step) (requests : List Request)
     (history : List Event) (trace : List TimedFrame) : Type 0 where
   pub legal : IsLegal system.rules history
-  pub can_trace : IsCanTrace system.layout requests (openings_of history) (next_of history) trace
+  pub can_trace : IsCanTrace bytes_of system.layout requests (openings_of history) (next_of history) trace
   pub calls : BeginsActs steps history
   pub opened : next_of history ≤ sum_by count_of steps
 
@@ -63,7 +65,7 @@ AllStand system steps requests rows = (number : ℕ) → number ≤ length rows 
 pub record IsAudited (system : System) (steps : List Step) (requests : List Request) (rows : List LogRow) : Type 0 where
   pub stand : AllStand system steps requests rows
   pub all : IsWholeLog system steps requests rows
-  pub kept : Kept system.rules system.layout requests all.history all.trace
+  pub kept : Kept (setting_of system requests) all.history all.trace
 
 -- the first so many rows are the least number of first rows that cannot stand
 pub record IsFirstBreak (system : System) (steps : List Step) (requests : List Request) (rows : List LogRow)

@@ -7,9 +7,9 @@ laws c = record {
   cycles = c.opened_cycles.ensures.cycles;
   front = c.one_call_more.ensures.front;
   legal = c.one_call_more.ensures.legal;
-  begins = c.beginning.ensures.under_way_with;
-  closed = c.calls_between.ensures.under_way_with;
-  opened = c.cycles_run.ensures.opened_with;
+  begins = c.beginning.ensures.under_way;
+  closed = c.calls_between.ensures.under_way;
+  opened = c.cycles_run.ensures.opened;
   follows = λ sends layout requests openings until trace is. (c.trace_laws.ensures.one_by_one (sends, layout, requests, openings) until trace).0 is;
   within = λ sends layout requests openings past free until frames follows. c.trace_laws.ensures.within (sends, layout, requests, openings) past free until frames follows;
   along = λ sends layout requests openings opening past other_past free until frames agree follows.
@@ -18,5 +18,5 @@ laws c = record {
 
 pub returns : goal.returns
 returns c = record {
-  under_way = λ sends setting history trace known whole kept. under-way (laws (goal.at.returns c).After-same_along) setting known sends whole history trace kept;
+  under_way = λ setting history trace known whole kept. under-way (laws (goal.at.returns c).After-same_along) setting known whole history trace kept;
 }

@@ -15,8 +15,8 @@ pub returns : goal.returns
 returns c =
     let here = (goal.at.returns c).After-one_call_more in
     record {
-      run = λ sends setting history trace known way. run-of (laws here) setting known sends history trace way;
-      starts = λ sends setting history trace streams stream span place request known way are of has fitting is within.
-          c.bounds_hold.ensures.starts sends setting.layout setting.requests (openings_of history) (next_of history) trace streams stream span place request
-          known.known (run-of (laws here) setting known sends history trace way) are of has fitting is within;
+      run = λ setting history trace known way. run-of (laws here) setting known history trace way;
+      starts = λ setting history trace streams stream span place request known way are of has fitting is within.
+          c.bounds_hold.ensures.starts setting.sends setting.layout setting.requests (openings_of history) (next_of history) trace streams stream span place request
+          known.known (run-of (laws here) setting known history trace way) are of has fitting is within;
     }

@@ -1,13 +1,9 @@
-use Rattle.requirement_table.specs.Instance.{bytes_of}
 use Rattle.kept_run.proofs.Ready.{ready-at_first}
 use Rattle.kept_run.proofs.Steps.{begins}
 use Rattle.kept_run.proofs.laws.beginning.Goals as goal
 
 pub returns-clause-under_way : goal.returns-clause-under_way
-returns-clause-under_way c = begins bytes_of
-
-pub returns-clause-under_way_with : goal.returns-clause-under_way_with
-returns-clause-under_way_with c = begins
+returns-clause-under_way c = begins
 
 pub returns-clause-ready : goal.returns-clause-ready
 returns-clause-ready c = ready-at_first

@@ -1,16 +1,12 @@
-use Rattle.requirement_table.specs.Instance.{bytes_of}
-use Rattle.kept_run.specs.Progress.{AreReady, IsUnderWayWith}
+use Rattle.kept_run.specs.Progress.{AreReady, IsUnderWay}
 use Rattle.kept_run.proofs.Histories.{after-closed}
 use Rattle.kept_run.proofs.Ready.{ready-answered}
 use Rattle.kept_run.proofs.Steps.{answered}
 use Rattle.kept_run.proofs.laws.calls_between.Goals as goal
 
-pub returns-clause-under_way_with : goal.returns-clause-under_way_with
-returns-clause-under_way_with c = λ sends setting history calls trace closed legal way.
-    after-closed setting.rules (λ h. IsUnderWayWith sends setting h trace) (answered sends setting trace) history calls closed legal way
-
 pub returns-clause-under_way : goal.returns-clause-under_way
-returns-clause-under_way c = returns-clause-under_way_with c bytes_of
+returns-clause-under_way c = λ setting history calls trace closed legal way.
+    after-closed setting.rules (λ h. IsUnderWay setting h trace) (answered setting trace) history calls closed legal way
 
 pub returns-clause-ready : goal.returns-clause-ready
 returns-clause-ready c = λ setting history calls trace nodes closed legal ready.

@@ -1,10 +1,10 @@
-use Rattle.std.proofs.Common.{◌*◌, ◌+◌, subst}
-use Rattle.requirement_table.specs.Instance.{bytes_of}
+use Rattle.std.proofs.Common.{◌*◌, ◌+◌, subst, sym}
 use Rattle.bus_line.specs.Trace.{Follows}
 use Rattle.master_core.specs.declared.event.Event.TheVariants.{Open}
-use Rattle.cycle_engine.specs.Offered.{offered_in}
+use Rattle.cycle_engine.specs.Offered.{SendsWhole, offered_in}
 use Rattle.master_core.specs.History.{placed_of}
 use Rattle.cycle_engine.specs.Nodes.{opening_of}
+use Rattle.cycle_engine.proofs.Shared.{bytes_of-whole}
 use Rattle.kept_run.proofs.Histories.{legal-push}
 use Rattle.kept_run.proofs.Master.{MasterLaws}
 use Rattle.kept_run.proofs.Plans.{PlanLaws}
@@ -46,24 +46,22 @@ cycles c = record {
 pub returns-clause-fits : goal.returns-clause-fits
 returns-clause-fits c = opened-fits (master c) (plans c)
 
-pub returns-clause-runs_with : goal.returns-clause-runs_with
-returns-clause-runs_with c = λ sends setting history cycle mask trace frames known whole way legal.
-    opened-runs (master c) (plans c) setting history cycle mask known legal (cycles c) sends whole trace frames way
-
-pub returns-clause-opened_with : goal.returns-clause-opened_with
-returns-clause-opened_with c = λ sends setting history cycle mask trace frames known whole way legal.
-    opened (master c) (plans c) setting history cycle mask known legal (cycles c) sends whole trace frames way
+pub returns-clause-runs : goal.returns-clause-runs
+returns-clause-runs c = λ setting history cycle mask trace frames known whole way legal.
+    opened-runs (master c) (plans c) setting history cycle mask known legal (cycles c) whole trace frames way
 
 pub returns-clause-opened : goal.returns-clause-opened
-returns-clause-opened c = λ setting history cycle mask trace frames known.
-    returns-clause-opened_with c bytes_of setting history cycle mask trace frames known c.numbers_are_whole.ensures.whole
+returns-clause-opened c = λ setting history cycle mask trace frames known whole way legal.
+    opened (master c) (plans c) setting history cycle mask known legal (cycles c) whole trace frames way
 
 pub returns-clause-under_way : goal.returns-clause-under_way
 returns-clause-under_way c = λ setting history trace frames nodes order known way ready is follows.
-    returns-clause-opened c setting history order.cycle order.mask trace frames known way
+    returns-clause-opened c setting history order.cycle order.mask trace frames known
+    (subst SendsWhole (sym ready.same_bytes) bytes_of-whole) way
     (legal-push setting.rules history (Open order.cycle order.mask) way.legal (order-right setting.rules history order is))
-    (subst (λ l. Follows (offered_in l setting.requests (opening_of order (placed_of history))) trace (order.cycle * l.cycle) ((order.cycle + 1) * l.cycle) frames)
-    ready.same_layout follows)
+    (subst (λ l. Follows (offered_in setting.sends l setting.requests (opening_of order (placed_of history))) trace (order.cycle * l.cycle) ((order.cycle + 1) * l.cycle) frames)
+    ready.same_layout (subst (λ s. Follows (offered_in s nodes.layout setting.requests (opening_of order (placed_of history)))
+    trace (order.cycle * nodes.layout.cycle) ((order.cycle + 1) * nodes.layout.cycle) frames) (sym ready.same_bytes) follows))
 
 pub returns-clause-ready : goal.returns-clause-ready
 returns-clause-ready c = λ setting history trace frames nodes new order way ready is same heard bus.

@@ -7,7 +7,7 @@ use Rattle.turn_lock.specs.Passes.{first_view}
 use Rattle.master_core.specs.declared.event.Event.{Event}
 use Rattle.master_core.specs.History.{next_of}
 use Rattle.kept_run.specs.Kept.{Kept}
-use Rattle.kept_run.specs.Progress.{IsSetting, Setting}
+use Rattle.kept_run.specs.Setting.{IsSetting, Setting}
 use Rattle.live_master.specs.Callers.{number_of}
 use Rattle.live_run.specs.Answers.{AnswersActs}
 use Rattle.live_run.specs.Live.{AreFresh, IsFirst, IsLeft}
@@ -27,6 +27,7 @@ run_live-requires g c κs within =
     }) in
     let nodes : AreFresh g.setting c.in_ok-nodes.nodes = subst (λ (s : Setting). AreFresh s c.in_ok-nodes.nodes) (sym given) (record {
       same_layout = c.in_ok-nodes.ensures.layout;
+      same_bytes = refl;
       bus = c.in_ok-nodes.ensures.bus;
       numbers = c.in_ok-nodes.ensures.numbers;
     }) in
@@ -48,7 +49,7 @@ returns-clause-run g c =
     let scripts = c.args.scripts.items in
     record {
       rules = c.close-master.ensures.rules ∙ (c.in_ok-shared.ensures.rules ∙ ap (λ (s : Setting). s.rules) (sym given));
-      kept = subst (λ (h : List Event). Kept g.setting.rules g.setting.layout g.setting.requests h c.in_ok-run.run'.trace) (sym same) run.kept;
+      kept = subst (λ (h : List Event). Kept g.setting h c.in_ok-run.run'.trace) (sym same) run.kept;
       answers = record {
         opened = ap next_of same ∙ run.opened;
         answered = λ k d within.

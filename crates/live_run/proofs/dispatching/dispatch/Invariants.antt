@@ -1,7 +1,7 @@
 use Rattle.std.proofs.Common.{◌≡◌}
 use Rattle.cycle_engine.specs.Nodes.{HaveSpare, states_of}
 use Rattle.master_core.specs.History.{next_of}
-use Rattle.kept_run.specs.Progress.{Setting}
+use Rattle.kept_run.specs.Setting.{Setting}
 use Rattle.live_master.specs.Passes.{IsPassOf}
 use Rattle.live_run.specs.Running.{CanRun, IsRunning, Stays}
 use Rattle.live_run.specs.Left.{numbers_of}

@@ -3,7 +3,9 @@ use Rattle.std.specs.List.{Any}
 use Rattle.std.proofs.lemmas.Result.{IfOk-weaker}
 use Rattle.async_window.specs.Owners.{AreOwners}
 use Rattle.async_window.specs.declared.request.Owner.{Owner}
+use Rattle.kept_run.specs.Kept.{Kept}
 use Rattle.live_run.specs.Left.{left_of}
+use Rattle.replay_run.specs.Run.{setting_of}
 use Rattle.replay_run.proofs.Shared.{is_rules, owner-of}
 use Rattle.live_steps.proofs.Lives.{answers-operators}
 use Rattle.live_steps.proofs.running.live.Goals as goal
@@ -62,7 +64,8 @@ returns-clause-run g c =
     IfOk-weaker c.run_whole.result _ _ (λ ended run. record {
       answers = answers-operators c.args.steps.items c.in_ok-parts.parts.cycles c.in_ok-parts.parts.scripts.items ended.master.history
           c.events_in_histories.ensures.calls parted.cycles parted.scripts run.answers;
-      kept = run.kept;
+      kept = subst (λ (owners : List Owner). Kept (record (setting_of c.args.system.now c.args.requests.now) { owners = owners }) ended.master.history ended.run.trace)
+          c.as_slice.ensures.list run.kept;
     }) c.run_whole.ensures.run
 
 pub returns-clause-left : goal.returns-clause-left

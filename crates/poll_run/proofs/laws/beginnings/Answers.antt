@@ -1,6 +1,6 @@
 use Rattle.std.proofs.Common.{[]}
-use Rattle.sporadic_poll.specs.Polled.{polled_bytes}
-use Rattle.replay_run.specs.Progress.{setting_of}
+use Rattle.replay_run.specs.Run.{setting_of}
+use Rattle.poll_run.specs.PolledRun.{polled_setting}
 use Rattle.poll_run.proofs.Begun.{BegunLaws, all-under_way, begun-history, begun-rides, begun-under_way, known-setting}
 use Rattle.poll_run.proofs.laws.beginnings.Goals as goal
 
@@ -11,7 +11,7 @@ returns-clause-history c = begun-history (record {
   at = c.rides_of_openings.ensures.at;
   sound = c.instances_of_a_slot.ensures.sound;
   whole = c.numbers_are_whole.ensures.whole;
-  under_way = c.legal_runs.ensures.under_way_with;
+  under_way = c.legal_runs.ensures.under_way;
 })
 
 pub returns-clause-rides : goal.returns-clause-rides
@@ -22,7 +22,7 @@ returns-clause-rides c = λ system steps streams history whole carried again tra
       at = c.rides_of_openings.ensures.at;
       sound = c.instances_of_a_slot.ensures.sound;
       whole = c.numbers_are_whole.ensures.whole;
-      under_way = c.legal_runs.ensures.under_way_with;
+      under_way = c.legal_runs.ensures.under_way;
     } in
     let (later, split) = begun-history laws system steps streams history whole carried again trace frames begun run in
     begun-rides laws system steps streams history whole carried again trace frames begun run later split
@@ -35,10 +35,10 @@ returns-clause-trace c = λ system steps streams history whole carried again tra
       at = c.rides_of_openings.ensures.at;
       sound = c.instances_of_a_slot.ensures.sound;
       whole = c.numbers_are_whole.ensures.whole;
-      under_way = c.legal_runs.ensures.under_way_with;
+      under_way = c.legal_runs.ensures.under_way;
     } in
     let (later, split) = begun-history laws system steps streams history whole carried again trace frames begun run in
     let way = begun-under_way laws system steps streams history whole carried again trace frames begun run later split is in
     let all_way = all-under_way laws system steps streams history whole carried again trace frames begun run later split is in
-    c.legal_runs.ensures.front_with (polled_bytes streams again) (setting_of system []) history later trace frames
+    c.legal_runs.ensures.front (polled_setting (setting_of system []) streams again) history later trace frames
     (known-setting laws system steps streams history whole carried again trace frames begun run later split is) way all_way.legal all_way.can_trace

@@ -1,8 +1,8 @@
 use Rattle.std.proofs.Common.{◌≡◌, ℕ, ◌++◌, List, [], sym, subst}
 use Rattle.master_core.specs.declared.event.Event.{Event}
 use Rattle.bus_trace.specs.Log.{events_rows, log_text}
-use Rattle.sporadic_poll.specs.Polled.{polled_bytes}
-use Rattle.replay_run.specs.Progress.{setting_of}
+use Rattle.replay_run.specs.Run.{setting_of}
+use Rattle.poll_run.specs.PolledRun.{polled_setting}
 use Rattle.poll_run.proofs.Begun.{BegunLaws, all-under_way, begun-history, begun-under_way, known-setting}
 use Rattle.poll_run.proofs.laws.rows_so_far.Goals as goal
 
@@ -15,12 +15,12 @@ returns c = record {
         at = c.rides_of_openings.ensures.at;
         sound = c.instances_of_a_slot.ensures.sound;
         whole = c.numbers_are_whole.ensures.whole;
-        under_way = c.legal_runs.ensures.under_way_with;
+        under_way = c.legal_runs.ensures.under_way;
       } in
       let (later, split) = begun-history laws system steps streams history whole carried again trace frames begun run in
       let way = begun-under_way laws system steps streams history whole carried again trace frames begun run later split is in
       let all_way = all-under_way laws system steps streams history whole carried again trace frames begun run later split is in
       let known = known-setting laws system steps streams history whole carried again trace frames begun run later split is in
       subst (λ (h : List Event). (rest : List ℕ) × (log_text h frames ≡ events_rows trace [] history ++ rest)) (sym split)
-      (c.rows_of_fronts.ensures.front (polled_bytes streams again) (setting_of system []) history later trace frames known way all_way);
+      (c.rows_of_fronts.ensures.front (polled_setting (setting_of system []) streams again) history later trace frames known way all_way);
 }

@@ -4,6 +4,7 @@ use Rattle.replay_run.specs.Run.{calls_of}
 use Rattle.replay_run.specs.Runs.{AnswersAll, AnswersFirst}
 use Rattle.replay_run.specs.Whole.{IsCutOff}
 use Rattle.replay_run.proofs.Shared.{caused, cut-weaker, not-begun}
+use Rattle.poll_run.specs.PolledRun.{polled_setting}
 use Rattle.poll_run.specs.Polling.{IsPolledOnBus}
 use Rattle.poll_run.specs.Whole.{IsBegun, IsRun}
 use Rattle.poll_run.proofs.Ended.{EndLaws, begun-at_once, begun-of, heard-of, run-of, start}
@@ -11,23 +12,23 @@ use Rattle.poll_run.proofs.polling.log_polled.Goals as goal
 
 pub returns-in_err-polled-clause-cut : goal.returns-in_err-polled-clause-cut
 returns-in_err-polled-clause-cut g c =
-    let laws : EndLaws = record { rides = record { is = c.one_ride.ensures.is; at = c.rides_of_openings.ensures.at; cycles = c.opened_cycles.ensures.cycles }; kept = c.promise.ensures.kept_with } in
+    let laws : EndLaws = record { rides = record { is = c.one_ride.ensures.is; at = c.rides_of_openings.ensures.at; cycles = c.opened_cycles.ensures.cycles }; kept = c.promise.ensures.kept } in
     let system = c.args.system.now in
     let steps = c.args.steps.now in
     let streams = c.args.streams.items in
     let all = not-begun g.L.Listener.heard g.L.Listener.broke (IsBegun system steps streams) (IsRun system steps streams) c.args.listener.now
     (g.met.L.Listener.nothing c.args.listener.now)
-    (begun-at_once laws system steps streams c.in_ranges.ensures.setting (λ sends. c.beginning.ensures.under_way_with sends (start laws system steps streams).setting)) in
+    (begun-at_once laws system steps streams c.in_ranges.ensures.setting (λ carried. c.beginning.ensures.under_way (polled_setting (start laws system steps streams).setting streams carried))) in
     search (rules, all)
 
 pub log_run-requires-clause-fresh : goal.log_run-requires-clause-fresh
 log_run-requires-clause-fresh g c =
-    let laws : EndLaws = record { rides = record { is = c.one_ride.ensures.is; at = c.rides_of_openings.ensures.at; cycles = c.opened_cycles.ensures.cycles }; kept = c.promise.ensures.kept_with } in
+    let laws : EndLaws = record { rides = record { is = c.one_ride.ensures.is; at = c.rides_of_openings.ensures.at; cycles = c.opened_cycles.ensures.cycles }; kept = c.promise.ensures.kept } in
     (start laws c.args.system.now c.args.steps.now c.args.streams.items, record { history_is = c.in_ok-polled.ensures.empty; is_polled = c.in_ok-polled.ensures.begun })
 
 pub returns-in_err-log_run-clause-cut : goal.returns-in_err-log_run-clause-cut
 returns-in_err-log_run-clause-cut g c =
-    let laws : EndLaws = record { rides = record { is = c.one_ride.ensures.is; at = c.rides_of_openings.ensures.at; cycles = c.opened_cycles.ensures.cycles }; kept = c.promise.ensures.kept_with } in
+    let laws : EndLaws = record { rides = record { is = c.one_ride.ensures.is; at = c.rides_of_openings.ensures.at; cycles = c.opened_cycles.ensures.cycles }; kept = c.promise.ensures.kept } in
     let system = c.args.system.now in
     let steps = c.args.steps.now in
     let streams = c.args.streams.items in
@@ -43,7 +44,7 @@ returns-in_err-log_run-clause-cut g c =
 
 pub returns-clause-heard : goal.returns-clause-heard
 returns-clause-heard g c =
-    let laws : EndLaws = record { rides = record { is = c.one_ride.ensures.is; at = c.rides_of_openings.ensures.at; cycles = c.opened_cycles.ensures.cycles }; kept = c.promise.ensures.kept_with } in
+    let laws : EndLaws = record { rides = record { is = c.one_ride.ensures.is; at = c.rides_of_openings.ensures.at; cycles = c.opened_cycles.ensures.cycles }; kept = c.promise.ensures.kept } in
     let system = c.args.system.now in
     let steps = c.args.steps.now in
     let streams = c.args.streams.items in

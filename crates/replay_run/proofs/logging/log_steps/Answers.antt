@@ -2,8 +2,8 @@ use Rattle.std.proofs.Common.{rules, ◌∙◌}
 use Rattle.std.specs.List.{flat_map}
 use Rattle.kept_run.proofs.Shared.{Promises}
 use Rattle.replay_run.specs.Begun.{IsBegun}
-use Rattle.replay_run.specs.Progress.{IsOnBus, setting_of}
-use Rattle.replay_run.specs.Run.{IsRun, calls_of}
+use Rattle.replay_run.specs.Progress.{IsOnBus}
+use Rattle.replay_run.specs.Run.{IsRun, calls_of, setting_of}
 use Rattle.replay_run.specs.Runs.{AnswersAll, AnswersFirst}
 use Rattle.replay_run.specs.Whole.{IsCutOff}
 use Rattle.replay_run.proofs.Whole.{begun-at_once, begun-of, caused, cut-weaker, heard-of, kept_so, not-begun, run-of}

@@ -1,4 +1,6 @@
-use Rattle.replay_run.specs.Progress.{setting_of}
+use Rattle.cycle_engine.proofs.Shared.{bytes_of-whole}
+use Rattle.kept_run.proofs.Shared.{bytes_of-forgets}
+use Rattle.replay_run.specs.Run.{setting_of}
 use Rattle.replay_run.proofs.Shared.{owner-of}
 use Rattle.bus_trace.specs.LogRows.{log_rows}
 use Rattle.trace_audit.proofs.OneRun.{is-setting, live-whole, whole-faultless}
@@ -13,8 +15,8 @@ returns-clause-live c = λ system steps requests rows is legal log.
     (λ k d within. owner-of system.owners _ (legal.each k d within).owned) in
     let setting = setting_of system requests in
     let known = is-setting system requests is asynchronous in
-    let way = c.legal_runs.ensures.under_way setting log.history log.trace known log.run.legal log.run.can_trace in
-    record { answers = log.whole; kept = c.promise.ensures.kept setting log.history log.trace known way }
+    let way = c.legal_runs.ensures.under_way setting log.history log.trace known bytes_of-whole log.run.legal log.run.can_trace in
+    record { answers = log.whole; kept = c.promise.ensures.kept setting log.history log.trace known bytes_of-forgets way }
 
 pub returns-clause-no_fault : goal.returns-clause-no_fault
 returns-clause-no_fault c = λ system steps requests history trace fault is legal live break.

@@ -1,8 +1,11 @@
 use Rattle.std.proofs.Common.{subst}
+use Rattle.requirement_table.specs.Instance.{bytes_of}
 use Rattle.master_core.specs.History.{next_of}
 use Rattle.master_core.specs.Openings.{openings_of}
 use Rattle.cycle_engine.specs.Offered.{IsCanTrace}
-use Rattle.replay_run.specs.Progress.{setting_of}
+use Rattle.cycle_engine.proofs.Shared.{bytes_of-whole}
+use Rattle.kept_run.proofs.Shared.{bytes_of-forgets}
+use Rattle.replay_run.specs.Run.{setting_of}
 use Rattle.replay_run.proofs.Shared.{owner-of}
 use Rattle.bus_trace.specs.LogRows.{log_rows}
 use Rattle.trace_audit.proofs.OneRun.{is-setting, live-run, one-history}
@@ -15,11 +18,11 @@ returns-clause-runs c = λ system steps requests one other trace second is legal
     let setting = setting_of system requests in
     let known = is-setting system requests is asynchronous in
     let history_is = one-history (record { same = c.one_verdict.ensures.same }) system steps requests one other trace second run run2 same in
-    let way = c.legal_runs.ensures.under_way setting other second known run2.legal run2.can_trace in
-    let kept = c.promise.ensures.kept setting other second known way in (
+    let way = c.legal_runs.ensures.under_way setting other second known bytes_of-whole run2.legal run2.can_trace in
+    let kept = c.promise.ensures.kept setting other second known bytes_of-forgets way in (
       history_is,
       kept.only_trace trace
-          (subst (λ h. IsCanTrace system.layout requests (openings_of h) (next_of h) trace) history_is run.can_trace),
+          (subst (λ h. IsCanTrace bytes_of system.layout requests (openings_of h) (next_of h) trace) history_is run.can_trace),
     )
 
 pub returns-clause-live : goal.returns-clause-live
@@ -29,7 +32,7 @@ returns-clause-live c = λ system steps requests one other trace second live liv
     let history_is = one-history (record { same = c.one_verdict.ensures.same }) system steps requests one other trace second run run2 same in (
       history_is,
       live2.kept.only_trace trace
-          (subst (λ h. IsCanTrace system.layout requests (openings_of h) (next_of h) trace) history_is run.can_trace),
+          (subst (λ h. IsCanTrace bytes_of system.layout requests (openings_of h) (next_of h) trace) history_is run.can_trace),
     )
 
 pub returns-clause-text : goal.returns-clause-text

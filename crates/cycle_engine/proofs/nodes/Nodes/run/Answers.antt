@@ -98,7 +98,7 @@ returns c =
           let is = subst (λ nodes. IsBefore layout whose requests others past order (learnt_by learned nodes)) before is_before in
           let stands = stands-before taken owners placed count learned layout order joint known learnt after frames run whose requests others past is in
           let follows = subst (λ l. IsBefore l (joint_owners owners) requests (joint_entries known) past order (learnt ∷ [])
-          → Follows (offered_in l requests (opening_of order (joint_entries known))) past (order.cycle * l.cycle) ((order.cycle + 1) * l.cycle) frames) learnt_layout
+          → Follows (offered_in bytes_of l requests (opening_of order (joint_entries known))) past (order.cycle * l.cycle) ((order.cycle + 1) * l.cycle) frames) learnt_layout
           (c.run_cycle.ensures.runs (joint_owners owners) requests (joint_entries known) past) stands in
           let same_offers = offered-alike taken owners placed count learned layout order joint known learnt after frames run whose requests others past is in
           c.same_along.ensures.along (bytes_of, layout, requests, opening_of order (joint_entries known)) (bytes_of, layout, requests, opening_of order others)

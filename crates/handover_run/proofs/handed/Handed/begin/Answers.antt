@@ -1,5 +1,5 @@
 use Rattle.std.proofs.Common.{Some, [], refl, true}
-use Rattle.replay_run.specs.Progress.{setting_of}
+use Rattle.replay_run.specs.Run.{setting_of}
 use Rattle.replay_run.proofs.Shared.{is_rules}
 use Rattle.handover_run.proofs.Behind.{begins-handed, is-slots}
 use Rattle.handover_run.proofs.handed.Handed.begin.Goals as goal

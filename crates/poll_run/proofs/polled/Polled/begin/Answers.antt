@@ -1,9 +1,10 @@
 use Rattle.std.proofs.Common.{List, [], ◌<◌, true, refl, subst, arith}
 use Rattle.std.proofs.lemmas.List.Elements.{All-weaker}
-use Rattle.replay_run.specs.Progress.{setting_of}
+use Rattle.replay_run.specs.Run.{setting_of}
 use Rattle.sporadic_poll.specs.declared.stream.Stream.{Stream}
 use Rattle.sporadic_poll.specs.StreamRow.{IsStream}
 use Rattle.sporadic_poll.specs.Rides.{AreFates}
+use Rattle.poll_run.specs.PolledRun.{polled_setting}
 use Rattle.poll_run.proofs.Carrying.{begins-polled}
 use Rattle.poll_run.proofs.polled.Polled.begin.Goals as goal
 
@@ -25,6 +26,6 @@ returns-clause-begun c =
       quiet = true;
     })
     c.in_ok-begin.ensures.going c.in_ok-begin.ensures.empty refl refl c.in_ok-new.ensures.streams c.in_ok-new.ensures.slots
-    (λ sends. c.beginning.ensures.under_way_with sends setting) c.in_ok-new.ensures.fresh
+    (λ carried. c.beginning.ensures.under_way (polled_setting setting c.args.streams.items carried)) c.in_ok-new.ensures.fresh
     (λ carried. subst (λ (streams : List Stream). AreFates streams [] carried c.in_ok-new.field-0.fates) c.in_ok-new.ensures.streams (c.in_ok-new.ensures.fates carried))
     (omega (arith, room)) refl

@@ -25,8 +25,8 @@ returns-clause-on c = λ setting streams trace is.
     ran-on
     (record {
       rides = record { is = c.one_ride.ensures.is; at = c.rides_of_openings.ensures.at; cycles = c.opened_cycles.ensures.cycles };
-      opened_with = c.cycles_run.ensures.opened_with;
-      runs_with = c.cycles_run.ensures.runs_with;
+      opened = c.cycles_run.ensures.opened;
+      runs = c.cycles_run.ensures.runs;
       fits = c.cycles_run.ensures.fits;
       whole = c.numbers_are_whole.ensures.whole;
       begin = c.opened_frames.ensures.begin;
@@ -49,8 +49,8 @@ returns-clause-last c =
     can-tell
     (record {
       rides = record { is = c.one_ride.ensures.is; at = c.rides_of_openings.ensures.at; cycles = c.opened_cycles.ensures.cycles };
-      opened_with = c.cycles_run.ensures.opened_with;
-      runs_with = c.cycles_run.ensures.runs_with;
+      opened = c.cycles_run.ensures.opened;
+      runs = c.cycles_run.ensures.runs;
       fits = c.cycles_run.ensures.fits;
       whole = c.numbers_are_whole.ensures.whole;
       begin = c.opened_frames.ensures.begin;

@@ -1,6 +1,6 @@
 use Rattle.std.proofs.Common.{◌≡◌, [], ◌∷◌, sym, subst, ap, ◌∙◌}
 use Rattle.kept_run.specs.Progress.{AreReady, IsUnderWay}
-use Rattle.replay_run.specs.Progress.{setting_of}
+use Rattle.replay_run.specs.Run.{setting_of}
 use Rattle.replay_run.proofs.Shared.{owner-of}
 use Rattle.trace_audit.specs.Ahead.{IsAhead}
 use Rattle.trace_audit.specs.States.{KeepsStates, state_of}
