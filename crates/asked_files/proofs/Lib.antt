@@ -1,2 +1,4 @@
+mod FetchLemmas
 mod LoadLemmas
 mod SourceLemmas
+mod TaskLemmas

@@ -1,5 +1,5 @@
+pub mod Inputs
 pub mod Asked
 pub mod Loads
 pub mod Refusals
 pub mod Sources
-pub mod OfWords

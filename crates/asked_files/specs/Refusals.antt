@@ -6,19 +6,9 @@ use Rattle.steps_file.specs.StepText.{text_of as steps_line}
 use Rattle.requests_file.specs.RequestText.{text_of as requests_line}
 use Rattle.elastic.specs.WishText.{text_of as wishes_line}
 use Rattle.sporadic_poll.specs.StreamText.{text_of as streams_line}
+use Rattle.command_words.specs.Words.{limit_of, source_word}
+use Rattle.command_words.specs.declared.table.Source.{Source}
 use Rattle.asked_files.specs.declared.stopping.Refusal.{Refusal}
-use Rattle.asked_files.specs.declared.stopping.Source.{Source}
-use Rattle.asked_files.specs.Asked.{limit_of}
-
--- the word for a file
-abbrev pub source_word : Source → List ℕ
-source_word Source.System = codes "system"
-source_word Source.Steps = codes "steps"
-source_word Source.Requests = codes "requests"
-source_word Source.Plan = codes "plan"
-source_word Source.Wishes = codes "wishes"
-source_word Source.Log = codes "log"
-source_word Source.Streams = codes "streams"
 
 -- the line for a file that is longer than its limit
 abbrev pub length_line : Source → List ℕ

@@ -1,10 +1,14 @@
 //! What a call asks for, from its words and the bytes of the files that they name, and why it asks for nothing.
 #![tactic(auto)]
 
+mod fetching;
+mod inputs;
 mod loading;
-mod runs;
+mod reading;
 mod stopping;
+mod tasks;
 
-pub use loading::{LiveTask, Task, load, load_live};
-pub use runs::{Job, Parts};
-pub use stopping::{Refusal, Source, Stop};
+pub use inputs::{LogText, StreamList};
+pub use loading::load;
+pub use stopping::{Refusal, Stop};
+pub use tasks::{Job, Task};

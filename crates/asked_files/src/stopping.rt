@@ -1,28 +1,15 @@
 //! Why a call stops before it is done, and the line for a file that is refused.
 
 ghost use Rattle.std.specs.Prelude.{◌≡◌, IfOk, string_bytes};
-ghost use Rattle.asked_files.specs.Asked.{limit_of};
-ghost use Rattle.asked_files.specs.Refusals.{length_line, refusal_line, source_word};
+ghost use Rattle.asked_files.specs.Refusals.{length_line, refusal_line};
 
-use command_words::WordsFault;
+use command_words::{Source, WordsFault};
 use elastic::WishFault;
 use requests_file::RequestFault;
 use sporadic_poll::StreamFault;
 use std::alloc::{AllocError, Global};
 use steps_file::StepFault;
 use system_file::SystemFault;
-
-/// The files that a command reads.
-#[derive(Clone, Copy, PartialEq, Eq, Debug)]
-pub enum Source {
-    System,
-    Steps,
-    Requests,
-    Plan,
-    Wishes,
-    Log,
-    Streams,
-}
 
 /// Why a file is refused.
 #[derive(Debug, Drop)]
@@ -72,38 +59,6 @@ impl From<WordsFault> for Stop {
         match fault {
             WordsFault::NoCommand => Stop::Words,
             WordsFault::Memory => Stop::Memory,
-        }
-    }
-}
-
-impl Source {
-    /// The greatest number of bytes of the file.
-    pub fn limit(self) -> usize
-        ensures limit { result ≡ limit_of self }
-    {
-        match self {
-            Source::System => 4_194_304,
-            Source::Steps => 4_194_304,
-            Source::Requests => 4_194_304,
-            Source::Plan => 4_194_304,
-            Source::Wishes => 4_194_304,
-            Source::Log => 134_217_728,
-            Source::Streams => 4_194_304,
-        }
-    }
-
-    /// The word for the file.
-    fn word(self) -> &'static str
-        ensures word { result.now ≡ source_word self }
-    {
-        match self {
-            Source::System => "system",
-            Source::Steps => "steps",
-            Source::Requests => "requests",
-            Source::Plan => "plan",
-            Source::Wishes => "wishes",
-            Source::Log => "log",
-            Source::Streams => "streams",
         }
     }
 }

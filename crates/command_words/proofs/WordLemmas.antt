@@ -18,7 +18,8 @@ use Rattle.clap.proofs.OnLiterals.{clap_on_literals}
 use Rattle.command_words.specs.declared.words.WordsFault.{WordsFault}
 use Rattle.command_words.specs.declared.words.WordsFault.TheVariants.{Memory, NoCommand}
 use Rattle.command_words.specs.WordsRead.{ExplainsWords}
-use Rattle.command_words.specs.Words.{admit_app, audit_app, check_app, elastic_app, generate_app, handover_app, live_app, number_in, poll_app, replay_app, taken_by}
+use Rattle.command_words.specs.declared.table.Verb.{Verb}
+use Rattle.command_words.specs.Words.{command_meant, number_in, taken_by, verb_app}
 
 is_true : {E : Type 0} (G : Text → Result Bool E → Type 0) (text : Text) (read : Option Bool)
     → ((t : Text) (x : Result Bool E) → G t x → ParsesBool t x) → ReadsOne G text read → unwrap_or read false ≡ bytes_eq text (codes "true")
@@ -106,40 +107,28 @@ refused app meaning words own (Err now) why same is (inr fault) =
           (λ none. fault.1 (ap (λ it. fault_of it words) same ∙ none)),
     )
 
--- clap's contract is exact of each command of the table
+-- clap's contract is exact of each row of the table
+pub verb_is_simple : (verb : Verb) → is_simple_and_free (verb_app verb) ≡ true
+unfolding clap_on_literals verb_app
+verb_is_simple Verb.Replay = refl
+verb_is_simple Verb.Admit = refl
+verb_is_simple Verb.Check = refl
+verb_is_simple Verb.Generate = refl
+verb_is_simple Verb.Live = refl
+verb_is_simple Verb.Audit = refl
+verb_is_simple Verb.Handover = refl
+verb_is_simple Verb.Poll = refl
+verb_is_simple Verb.Elastic = refl
 
-pub replay_is_simple : is_simple_and_free replay_app ≡ true
-unfolding clap_on_literals replay_app
-replay_is_simple = refl
-
-pub admit_is_simple : is_simple_and_free admit_app ≡ true
-unfolding clap_on_literals admit_app
-admit_is_simple = refl
-
-pub check_is_simple : is_simple_and_free check_app ≡ true
-unfolding clap_on_literals check_app
-check_is_simple = refl
-
-pub generate_is_simple : is_simple_and_free generate_app ≡ true
-unfolding clap_on_literals generate_app
-generate_is_simple = refl
-
-pub elastic_is_simple : is_simple_and_free elastic_app ≡ true
-unfolding clap_on_literals elastic_app
-elastic_is_simple = refl
-
-pub handover_is_simple : is_simple_and_free handover_app ≡ true
-unfolding clap_on_literals handover_app
-handover_is_simple = refl
-
-pub audit_is_simple : is_simple_and_free audit_app ≡ true
-unfolding clap_on_literals audit_app
-audit_is_simple = refl
-
-pub poll_is_simple : is_simple_and_free poll_app ≡ true
-unfolding clap_on_literals poll_app
-poll_is_simple = refl
-
-pub live_is_simple : is_simple_and_free live_app ≡ true
-unfolding clap_on_literals live_app
-live_is_simple = refl
+-- a command is that of its row
+pub meant-verb : (verb : Verb) (rows : List Row) → (command_meant verb rows).verb ≡ verb
+unfolding command_meant
+meant-verb Verb.Replay rows = refl
+meant-verb Verb.Admit rows = refl
+meant-verb Verb.Check rows = refl
+meant-verb Verb.Generate rows = refl
+meant-verb Verb.Live rows = refl
+meant-verb Verb.Audit rows = refl
+meant-verb Verb.Handover rows = refl
+meant-verb Verb.Poll rows = refl
+meant-verb Verb.Elastic rows = refl

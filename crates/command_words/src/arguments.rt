@@ -3,8 +3,9 @@
 ghost use Rattle.std.specs.Prelude.{◌≡◌, false, IfOk, codes};
 ghost use Rattle.profile.specs.Limits.{most_cycles};
 ghost use Rattle.clap.specs.Words.{app_of, rule_of};
-ghost use Rattle.command_words.specs.Words.{admit_app, audit_app, check_app, counted_option, elastic_app, files_app, flag, generate_app, handover_app, live_app, needed, number_up_to, optional, poll_app, replay_app, run_app};
+ghost use Rattle.command_words.specs.Words.{argument_rule, counted_option, flag, needed, number_up_to, optional, source_word, verb_app};
 
+use crate::table::{Argument, Source, Verb};
 use clap::{Arg, ArgAction, Command, value_parser};
 use std::alloc::{AllocError, Global};
 
@@ -62,96 +63,50 @@ fn cycles<'a>(alloc: Global) -> Arg<'a>
         .value_parser(value_parser!(u16).range(0..=20_000))
 }
 
-/// A command of two files, `SYSTEM STEPS`.
-fn files_command<'a>(alloc: Global, name: &'a str) -> Result<Command<'a>, AllocError>
-    ensures app { IfOk result (λ command. app_of command ≡ files_app name.entry.now) }
+/// The name of a file, which has to be there.
+fn file<'a>(alloc: Global, source: Source) -> Arg<'a>
+    ensures rule { rule_of result ≡ needed (source_word source) }
+    ensures local { result.global ≡ false }
 {
-    Command::new(alloc, name)
-        .arg(needed(alloc, "system"))?
-        .arg(needed(alloc, "steps"))
+    let id: &'a str = source.word();
+    needed(alloc, id)
 }
 
-/// A run, `SYSTEM STEPS [REQUESTS] [--report]`.
-fn run_command<'a>(alloc: Global, name: &'a str) -> Result<Command<'a>, AllocError>
-    ensures app { IfOk result (λ command. app_of command ≡ run_app name.entry.now) }
+/// The name of a file, which may be left out.
+fn file_if<'a>(alloc: Global, source: Source) -> Arg<'a>
+    ensures rule { rule_of result ≡ optional (source_word source) }
+    ensures local { result.global ≡ false }
 {
-    files_command(alloc, name)?
-        .arg(optional(alloc, "requests"))?
-        .arg(flag(alloc, "report"))
+    let id: &'a str = source.word();
+    optional(alloc, id)
 }
 
-/// `replay SYSTEM STEPS [REQUESTS] [--tail N] [--report]`.
-#[tactic(auto, unfolding(crate::specs::Words::replay_app))]
-pub fn replay_command<'a>(alloc: Global) -> Result<Command<'a>, AllocError>
-    ensures app { IfOk result (λ command. app_of command ≡ replay_app) }
+/// An argument of a command.
+fn argument<'a>(alloc: Global, argument: Argument) -> Arg<'a>
+    ensures rule { rule_of result ≡ argument_rule argument }
+    ensures local { result.global ≡ false }
 {
-    run_command(alloc, "replay")?.arg(tail(alloc))
+    match argument {
+        Argument::File(source) => file(alloc, source),
+        Argument::FileIf(source) => file_if(alloc, source),
+        Argument::Number => number(alloc),
+        Argument::At => cycles(alloc),
+        Argument::Tail => tail(alloc),
+        Argument::Report => flag(alloc, "report"),
+    }
 }
 
-/// `admit SYSTEM STEPS`.
-#[tactic(auto, unfolding(crate::specs::Words::admit_app))]
-pub fn admit_command<'a>(alloc: Global) -> Result<Command<'a>, AllocError>
-    ensures app { IfOk result (λ command. app_of command ≡ admit_app) }
+/// A row of the table.
+#[tactic(auto, unfolding(crate::specs::Words::verb_app))]
+pub fn row<'a>(alloc: Global, verb: Verb) -> Result<Command<'a>, AllocError>
+    ensures app { IfOk result (λ command. app_of command ≡ verb_app verb) }
 {
-    files_command(alloc, "admit")
-}
-
-/// `check SYSTEM STEPS PLAN`.
-#[tactic(auto, unfolding(crate::specs::Words::check_app))]
-pub fn check_command<'a>(alloc: Global) -> Result<Command<'a>, AllocError>
-    ensures app { IfOk result (λ command. app_of command ≡ check_app) }
-{
-    files_command(alloc, "check")?.arg(needed(alloc, "plan"))
-}
-
-/// `gen NUMBER`.
-#[tactic(auto, unfolding(crate::specs::Words::generate_app))]
-pub fn generate_command<'a>(alloc: Global) -> Result<Command<'a>, AllocError>
-    ensures app { IfOk result (λ command. app_of command ≡ generate_app) }
-{
-    Command::new(alloc, "gen").arg(number(alloc))
-}
-
-/// `elastic SYSTEM STEPS WISHES`.
-#[tactic(auto, unfolding(crate::specs::Words::elastic_app))]
-pub fn elastic_command<'a>(alloc: Global) -> Result<Command<'a>, AllocError>
-    ensures app { IfOk result (λ command. app_of command ≡ elastic_app) }
-{
-    files_command(alloc, "elastic")?.arg(needed(alloc, "wishes"))
-}
-
-/// `handover SYSTEM STEPS AT [REQUESTS]`.
-#[tactic(auto, unfolding(crate::specs::Words::handover_app))]
-pub fn handover_command<'a>(alloc: Global) -> Result<Command<'a>, AllocError>
-    ensures app { IfOk result (λ command. app_of command ≡ handover_app) }
-{
-    files_command(alloc, "handover")?
-        .arg(cycles(alloc))?
-        .arg(optional(alloc, "requests"))
-}
-
-/// `audit SYSTEM STEPS LOG [REQUESTS]`.
-#[tactic(auto, unfolding(crate::specs::Words::audit_app))]
-pub fn audit_command<'a>(alloc: Global) -> Result<Command<'a>, AllocError>
-    ensures app { IfOk result (λ command. app_of command ≡ audit_app) }
-{
-    files_command(alloc, "audit")?
-        .arg(needed(alloc, "log"))?
-        .arg(optional(alloc, "requests"))
-}
-
-/// `poll SYSTEM STEPS STREAMS`.
-#[tactic(auto, unfolding(crate::specs::Words::poll_app))]
-pub fn poll_command<'a>(alloc: Global) -> Result<Command<'a>, AllocError>
-    ensures app { IfOk result (λ command. app_of command ≡ poll_app) }
-{
-    files_command(alloc, "poll")?.arg(needed(alloc, "streams"))
-}
-
-/// `live SYSTEM STEPS [REQUESTS] [--report]`.
-#[tactic(auto, unfolding(crate::specs::Words::live_app))]
-pub fn live_command<'a>(alloc: Global) -> Result<Command<'a>, AllocError>
-    ensures app { IfOk result (λ command. app_of command ≡ live_app) }
-{
-    run_command(alloc, "live")
+    let word: &'a str = verb.word();
+    let mut command = Command::new(alloc, word);
+    let mut left = verb.arguments();
+    while let Some((next, rest)) = left.split_first() {
+        command = command.arg(argument(alloc, *next))?;
+        left = rest;
+    }
+    Ok(command)
 }

@@ -2,6 +2,8 @@
 #![tactic(auto)]
 
 mod arguments;
+mod table;
 mod words;
 
-pub use words::{Command, RunWords, WordsFault, command_in, live_in};
+pub use table::{Argument, Source, Verb, usage};
+pub use words::{Command, NamedFile, WordsFault, command_in};

@@ -1,78 +1,36 @@
 //! The words of a call, which say what is asked.
 
-ghost use Rattle.std.specs.Prelude.{◌≡◌, ◌⊎◌, codes, unwrap_or, [], Some, true, IfOk, IfErr, map, option_map, string_bytes};
+ghost use Rattle.std.specs.Prelude.{◌≡◌, ◌⊎◌, ◌++◌, ◌∷◌, codes, unwrap_or, [], Some, true, IfOk, IfErr, OnOk, map, option_map, string_bytes};
 ghost use Rattle.clap.specs.Words.{fault_of, app_of, first_of, found_of, is_simple_and_free, matches_of, rows_of};
-ghost use Rattle.command_words.specs.Words.{admit_app, admit_meant, audit_app, audit_meant, check_app, check_meant, command_of, elastic_app, elastic_meant, generate_app, generate_meant, handover_app, handover_meant, is_set, live_app, live_of, number_of, poll_app, poll_meant, replay_app, replay_meant, run_meant, taken_by, word_of};
-ghost use Rattle.command_words.specs.WordsRead.{ExplainsWords, run_read, command_read};
+ghost use Rattle.command_words.specs.Words.{IsOfRow, command_by, command_meant, file_of, is_set, needs_threads, number_of, taken_by, verb_app, with_argument, word_of};
+ghost use Rattle.command_words.specs.WordsRead.{ExplainsWords, command_read, named};
 
-use crate::arguments::{
-    admit_command, audit_command, check_command, elastic_command, generate_command,
-    handover_command, live_command, poll_command, replay_command,
-};
+use crate::arguments::row;
+use crate::table::{Argument, Source, Verb};
 use clap::ArgMatches;
 use clap::error::ErrorKind;
 use std::alloc::{AllocError, Global};
 
-/// The words of a run: the names of its files, and whether its report is asked for.
+/// A file that the words name.
 #[derive(Clone, Copy)]
-pub struct RunWords<'a> {
-    pub system: &'a str,
-    pub steps: &'a str,
-    pub requests: Option<&'a str>,
-    pub report: bool,
+pub struct NamedFile<'a> {
+    pub source: Source,
+    pub name: &'a str,
 }
 
-/// What is to be done.
-#[derive(Clone, Copy)]
-pub enum Command<'a> {
-    /// To run the steps, and to write the log, or so many of its last rows, from 1 to 10,000.
-    Replay {
-        run: RunWords<'a>,
-        tail: Option<u16>,
-    },
-    /// To run the steps, and to write the plan of the table that stands then.
-    Admit {
-        system: &'a str,
-        steps: &'a str,
-    },
-    /// To check a plan against the changes of the steps.
-    Check {
-        system: &'a str,
-        steps: &'a str,
-        plan: &'a str,
-    },
-    /// To run the input that a number makes, and to write a summary.
-    Generate {
-        number: u32,
-    },
-    /// To run the steps, and to choose the periods of a wish then.
-    Elastic {
-        system: &'a str,
-        steps: &'a str,
-        wishes: &'a str,
-    },
-    /// To run the steps, to have the standby take over after so many opened cycles, at most 20,000, and to write the
-    /// log.
-    Handover {
-        system: &'a str,
-        steps: &'a str,
-        at: u16,
-        requests: Option<&'a str>,
-    },
-    /// To say of the log whether it can be that of a run of the steps.
-    Audit {
-        system: &'a str,
-        steps: &'a str,
-        log: &'a str,
-        requests: Option<&'a str>,
-    },
-    /// To run the steps without asynchronous requests, with the requests of a streams file in the frames of polled
-    /// slots, and to write the log and what became of each request.
-    Poll {
-        system: &'a str,
-        steps: &'a str,
-        streams: &'a str,
-    },
+/// What the words of a call ask for.
+#[derive(Drop)]
+pub struct Command<'a> {
+    pub verb: Verb,
+    /// The files that the words name, in the order in which they are fetched.
+    pub files: Vec<NamedFile<'a>>,
+    /// The number of an input, or the number of opened cycles before a handover, at most 20,000. It is 0 for other
+    /// commands.
+    pub number: u32,
+    /// How many of the last rows of a log are asked for, from 1 to 10,000.
+    pub tail: Option<u16>,
+    /// Whether the report of a run is asked for.
+    pub report: bool,
 }
 
 /// Why words ask for nothing.
@@ -163,192 +121,113 @@ fn cycles(matches: &ArgMatches<'_>) -> u16
     matches.get_one::<u16>("at").unwrap_or(0)
 }
 
-/// The words of a run.
-fn run_words<'a>(matches: &ArgMatches<'a>) -> RunWords<'a>
-    ensures run { run_read result ≡ run_meant (rows_of (found_of matches.now)) }
+/// Adds a file of this kind and name.
+fn push_file<'a>(
+    files: &mut Vec<NamedFile<'a>>,
+    source: Source,
+    name: &'a str,
+) -> Result<(), AllocError>
+    ensures files { OnOk result
+        (map named files.new.items ≡ map named files.old.items ++ file_of source name.entry.now ∷ []) }
 {
-    RunWords {
-        system: needed_word(matches, "system"),
-        steps: needed_word(matches, "steps"),
-        requests: word(matches, "requests"),
-        report: is_set(matches, "report"),
+    files.push(NamedFile { source, name })?;
+    Ok(())
+}
+
+/// Adds what the words say at an argument of the command.
+fn read_argument<'a>(
+    matches: &ArgMatches<'a>,
+    argument: Argument,
+    command: &mut Command<'a>,
+) -> Result<(), AllocError>
+    ensures read { OnOk result (command_read command.new
+        ≡ with_argument (rows_of (found_of matches.now)) (command_read command.old) argument) }
+{
+    match argument {
+        Argument::File(source) => {
+            let name = needed_word(matches, source.word());
+            push_file(&mut command.files, source, name)
+        }
+        Argument::FileIf(source) => match word(matches, source.word()) {
+            Some(name) => push_file(&mut command.files, source, name),
+            None => Ok(()),
+        },
+        Argument::Number => {
+            command.number = number(matches);
+            Ok(())
+        }
+        Argument::At => {
+            command.number = u32::from(cycles(matches));
+            Ok(())
+        }
+        Argument::Tail => {
+            command.tail = tail(matches);
+            Ok(())
+        }
+        Argument::Report => {
+            command.report = is_set(matches, "report");
+            Ok(())
+        }
     }
 }
 
-/// What the words of `replay` ask for.
-fn replay_in(alloc: Global, words: &[String]) -> Result<Command<'_>, WordsFault>
-    ensures ok { IfOk result (λ command. Some (command_read command)
-        ≡ taken_by replay_app replay_meant (map string_bytes words.now)) }
-    ensures stop { IfErr result (ExplainsWords (taken_by replay_app replay_meant (map string_bytes words.now))) }
+/// What the words that clap took ask for.
+#[tactic(auto, unfolding(crate::specs::Words::command_meant))]
+fn read_command<'a>(
+    alloc: Global,
+    verb: Verb,
+    matches: &ArgMatches<'a>,
+) -> Result<Command<'a>, AllocError>
+    ensures command { IfOk result
+        (λ command. command_read command ≡ command_meant verb (rows_of (found_of matches.now))) }
 {
-    let command = replay_command(alloc)?;
-    let matches = parsed(command, words)?;
-    Ok(Command::Replay {
-        run: run_words(&matches),
-        tail: tail(&matches),
-    })
+    let mut command = Command {
+        verb,
+        files: Vec::new(alloc),
+        number: 0,
+        tail: None,
+        report: false,
+    };
+    let mut left = verb.arguments();
+    while let Some((argument, rest)) = left.split_first() {
+        read_argument(matches, *argument, &mut command)?;
+        left = rest;
+    }
+    Ok(command)
 }
 
-/// What the words of `admit` ask for.
-fn admit_in(alloc: Global, words: &[String]) -> Result<Command<'_>, WordsFault>
+/// What the words of this command ask for.
+fn command_named(alloc: Global, verb: Verb, words: &[String]) -> Result<Command<'_>, WordsFault>
     ensures ok { IfOk result (λ command. Some (command_read command)
-        ≡ taken_by admit_app admit_meant (map string_bytes words.now)) }
-    ensures stop { IfErr result (ExplainsWords (taken_by admit_app admit_meant (map string_bytes words.now))) }
+        ≡ taken_by (verb_app verb) (command_meant verb) (map string_bytes words.now)) }
+    ensures row { IfOk result (λ command. IsOfRow command.verb (command_read command)) }
+    ensures verb { IfOk result (λ command. command.verb ≡ verb) }
+    ensures stop { IfErr result
+        (ExplainsWords (taken_by (verb_app verb) (command_meant verb) (map string_bytes words.now))) }
 {
-    let command = admit_command(alloc)?;
+    let command = row(alloc, verb)?;
     let matches = parsed(command, words)?;
-    Ok(Command::Admit {
-        system: needed_word(&matches, "system"),
-        steps: needed_word(&matches, "steps"),
-    })
+    let command = read_command(alloc, verb, &matches)?;
+    Ok(command)
 }
 
-/// What the words of `check` ask for.
-fn check_in(alloc: Global, words: &[String]) -> Result<Command<'_>, WordsFault>
-    ensures ok { IfOk result (λ command. Some (command_read command)
-        ≡ taken_by check_app check_meant (map string_bytes words.now)) }
-    ensures stop { IfErr result (ExplainsWords (taken_by check_app check_meant (map string_bytes words.now))) }
-{
-    let command = check_command(alloc)?;
-    let matches = parsed(command, words)?;
-    Ok(Command::Check {
-        system: needed_word(&matches, "system"),
-        steps: needed_word(&matches, "steps"),
-        plan: needed_word(&matches, "plan"),
-    })
-}
-
-/// What the words of `gen` ask for.
-fn generate_in(alloc: Global, words: &[String]) -> Result<Command<'_>, WordsFault>
-    ensures ok { IfOk result (λ command. Some (command_read command)
-        ≡ taken_by generate_app generate_meant (map string_bytes words.now)) }
-    ensures stop { IfErr result (ExplainsWords (taken_by generate_app generate_meant (map string_bytes words.now))) }
-{
-    let command = generate_command(alloc)?;
-    let matches = parsed(command, words)?;
-    Ok(Command::Generate {
-        number: number(&matches),
-    })
-}
-
-/// What the words of `elastic` ask for.
-fn elastic_in(alloc: Global, words: &[String]) -> Result<Command<'_>, WordsFault>
-    ensures ok { IfOk result (λ command. Some (command_read command)
-        ≡ taken_by elastic_app elastic_meant (map string_bytes words.now)) }
-    ensures stop { IfErr result (ExplainsWords (taken_by elastic_app elastic_meant (map string_bytes words.now))) }
-{
-    let command = elastic_command(alloc)?;
-    let matches = parsed(command, words)?;
-    Ok(Command::Elastic {
-        system: needed_word(&matches, "system"),
-        steps: needed_word(&matches, "steps"),
-        wishes: needed_word(&matches, "wishes"),
-    })
-}
-
-/// What the words of `handover` ask for.
-fn handover_in(alloc: Global, words: &[String]) -> Result<Command<'_>, WordsFault>
-    ensures ok { IfOk result (λ command. Some (command_read command)
-        ≡ taken_by handover_app handover_meant (map string_bytes words.now)) }
-    ensures stop { IfErr result (ExplainsWords (taken_by handover_app handover_meant (map string_bytes words.now))) }
-{
-    let command = handover_command(alloc)?;
-    let matches = parsed(command, words)?;
-    Ok(Command::Handover {
-        system: needed_word(&matches, "system"),
-        steps: needed_word(&matches, "steps"),
-        at: cycles(&matches),
-        requests: word(&matches, "requests"),
-    })
-}
-
-/// What the words of `audit` ask for.
-fn audit_in(alloc: Global, words: &[String]) -> Result<Command<'_>, WordsFault>
-    ensures ok { IfOk result (λ command. Some (command_read command)
-        ≡ taken_by audit_app audit_meant (map string_bytes words.now)) }
-    ensures stop { IfErr result (ExplainsWords (taken_by audit_app audit_meant (map string_bytes words.now))) }
-{
-    let command = audit_command(alloc)?;
-    let matches = parsed(command, words)?;
-    Ok(Command::Audit {
-        system: needed_word(&matches, "system"),
-        steps: needed_word(&matches, "steps"),
-        log: needed_word(&matches, "log"),
-        requests: word(&matches, "requests"),
-    })
-}
-
-/// What the words of `poll` ask for.
-fn poll_in(alloc: Global, words: &[String]) -> Result<Command<'_>, WordsFault>
-    ensures ok { IfOk result (λ command. Some (command_read command)
-        ≡ taken_by poll_app poll_meant (map string_bytes words.now)) }
-    ensures stop { IfErr result (ExplainsWords (taken_by poll_app poll_meant (map string_bytes words.now))) }
-{
-    let command = poll_command(alloc)?;
-    let matches = parsed(command, words)?;
-    Ok(Command::Poll {
-        system: needed_word(&matches, "system"),
-        steps: needed_word(&matches, "steps"),
-        streams: needed_word(&matches, "streams"),
-    })
-}
-
-/// What the words ask for.
-pub fn command_in(alloc: Global, words: &[String]) -> Result<Command<'_>, WordsFault>
-    ensures ok { IfOk result (λ command. Some (command_read command) ≡ command_of (map string_bytes words.now)) }
-    ensures stop { IfErr result (ExplainsWords (command_of (map string_bytes words.now))) }
+/// What the words ask for, of what is carried out by threads or of the rest.
+///
+/// # Errors
+///
+/// `NoCommand` where the words are in no such row of the table, and `Memory`.
+pub fn command_in(alloc: Global, threads: bool, words: &[String]) -> Result<Command<'_>, WordsFault>
+    ensures ok { IfOk result
+        (λ command. Some (command_read command) ≡ command_by threads (map string_bytes words.now)) }
+    ensures row { IfOk result (λ command. IsOfRow command.verb (command_read command)) }
+    ensures carried { IfOk result (λ command. needs_threads command.verb ≡ threads) }
+    ensures stop { IfErr result (ExplainsWords (command_by threads (map string_bytes words.now))) }
 {
     let Some(name) = words.first() else {
         return Err(WordsFault::NoCommand);
     };
-    if name.as_str() == "replay" {
-        return replay_in(alloc, words);
+    match Verb::named(threads, name.as_str()) {
+        Some(verb) => command_named(alloc, verb, words),
+        None => Err(WordsFault::NoCommand),
     }
-    if name.as_str() == "admit" {
-        return admit_in(alloc, words);
-    }
-    if name.as_str() == "check" {
-        return check_in(alloc, words);
-    }
-    if name.as_str() == "gen" {
-        return generate_in(alloc, words);
-    }
-    if name.as_str() == "elastic" {
-        return elastic_in(alloc, words);
-    }
-    if name.as_str() == "handover" {
-        return handover_in(alloc, words);
-    }
-    if name.as_str() == "audit" {
-        return audit_in(alloc, words);
-    }
-    if name.as_str() == "poll" {
-        return poll_in(alloc, words);
-    }
-    Err(WordsFault::NoCommand)
-}
-
-/// The run by threads that the words of `live` ask for, where they are in its row of the table.
-fn live_words(alloc: Global, words: &[String]) -> Result<RunWords<'_>, WordsFault>
-    ensures ok { IfOk result (λ run. Some (run_read run)
-        ≡ taken_by live_app run_meant (map string_bytes words.now)) }
-    ensures stop { IfErr result (ExplainsWords (taken_by live_app run_meant (map string_bytes words.now))) }
-{
-    let command = live_command(alloc)?;
-    let matches = parsed(command, words)?;
-    Ok(run_words(&matches))
-}
-
-/// The run by threads that the words of `live` ask for.
-pub fn live_in(alloc: Global, words: &[String]) -> Result<RunWords<'_>, WordsFault>
-    ensures ok { IfOk result (λ run. Some (run_read run) ≡ live_of (map string_bytes words.now)) }
-    ensures stop { IfErr result (ExplainsWords (live_of (map string_bytes words.now))) }
-{
-    let Some(name) = words.first() else {
-        return Err(WordsFault::NoCommand);
-    };
-    if name.as_str() == "live" {
-        return live_words(alloc, words);
-    }
-    Err(WordsFault::NoCommand)
 }

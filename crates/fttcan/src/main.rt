@@ -2,6 +2,7 @@
 //! [`fttcan_top::live`], and to [`fttcan_top::flushed`].
 #![tactic(auto)]
 
+use command_words::Verb;
 use ftt_io::{FileShelf, StdSink, write_all};
 use fttcan_top::{OpenGate, Status, flushed, live, plain};
 use std::env;
@@ -41,10 +42,10 @@ fn call<T: Threads + Wait + Sync>(rt: &HostRuntime, threads: &T) -> Status {
     flushed(status, &mut out, &mut err)
 }
 
-/// Whether the words are those of the run by threads: the first one says so.
+/// Whether the words are those of a command that runs by threads: the first one says so.
 fn asks_for_threads(words: &[String]) -> bool {
     match words.first() {
-        Some(name) => name.as_str() == "live",
+        Some(name) => Verb::named(true, name.as_str()).is_some(),
         None => false,
     }
 }

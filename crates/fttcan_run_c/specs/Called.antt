@@ -1,16 +1,14 @@
 -- What a call from C asks for, and what it does: as the program does with the same words and files, where `live` is no
 -- command.
-use Rattle.std.specs.Prelude.{◌≡◌, ◌==◌, ◌⊎◌, ℕ, List, [], length, codes, if◌then◌else◌, None, Some, Ok, Err}
+use Rattle.std.specs.Prelude.{◌≡◌, ◌==◌, ◌⊎◌, ℕ, List, [], length, codes, if◌then◌else◌, None, Some}
 use Rattle.std.specs.List.{slice_split}
 use Rattle.std.specs.Str.{bytes_eq, is_utf8}
 use Rattle.ftt_io.specs.Files.{NamedFiles}
 use Rattle.command_words.specs.Words.{command_of}
-use Rattle.asked_files.specs.Asked.{Asked, IsAsked}
-use Rattle.asked_files.specs.OfWords.{IsOfWords}
 use Rattle.asked_files.specs.declared.stopping.Refusal.{Refusal}
-use Rattle.asked_files.specs.declared.stopping.Stop.{Stop}
 use Rattle.fttcan_top.specs.declared.status.Status.{Status}
-use Rattle.fttcan_top.specs.Output.{IsAnswer, IsCut, IsCutWhileRun, IsDone, IsOutput, IsStopped, Says, TellsFront, message_of}
+use Rattle.fttcan_top.specs.Ends.{Did}
+use Rattle.fttcan_top.specs.Output.{Says, message_of}
 
 -- *Words*: the parts of the bytes between bytes 0, where all of them are UTF-8. Otherwise there are no words, which is no
 -- command
@@ -30,20 +28,12 @@ files_of file0 file1 file2 file3 name =
 -- ended with this status, and put these bytes to the output and these to the messages
 pub record IsCalled (words : List (List ℕ)) (files : NamedFiles) (out_room err_room : ℕ) (status : Status)
     (out err : List ℕ) : Type 0 where
-  -- how it ended: what was asked of the files; and that the output was cut short only where its room is full
-  pub answer : IsAnswer (IsAsked words files) ⊥ (length out ≡ out_room) status
-  pub words_alone : status ≡ Status.Words → command_of words ≡ None
+  pub refusal : Refusal
+  pub before : ℕ
+  pub behind : ℕ
+  -- what it did, as the program does. No file fails to be read but where there is none of its name, and the output is cut
+  -- short only where its room is full
+  pub did : Did (command_of words) (Some files) before behind ⊥ (length out ≡ out_room) (Some []) (Some out) status refusal
   pub command : command_of words ≡ None → (status ≡ Status.Words) ⊎ (status ≡ Status.Memory)
-  -- the output: the whole answer to what was asked
-  pub done : IsDone status → (asked_for : Asked) × IsAsked words files (Ok asked_for) × IsOfWords words asked_for
-      × IsOutput asked_for status out
-  -- or nothing, or its first bytes, or the first rows of a run that was begun
-  pub cut : IsCut status → (out ≡ []) ⊎ ((asked_for : Asked) × IsAsked words files (Ok asked_for)
-      × IsOfWords words asked_for
-      × (TellsFront asked_for (Some []) (Some out) ⊎ IsCutWhileRun asked_for (Some []) (Some out)))
-  -- or nothing
-  pub nothing : IsStopped status → out ≡ []
   -- the messages: the lines of the status, or their first bytes, which fill the room
-  pub message : (refusal : Refusal)
-      × (status ≡ Status.Input → IsAsked words files (Err (Stop.Input refusal)))
-      × Says (Some []) (Some err) (length err ≡ err_room) (message_of status refusal)
+  pub message : Says (Some []) (Some err) (length err ≡ err_room) (message_of status refusal)

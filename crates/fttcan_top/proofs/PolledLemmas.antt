@@ -15,7 +15,8 @@ use Rattle.poll_run.specs.PolledWritten.{IsPolledCut, IsPolledWritten}
 use Rattle.poll_run.specs.RequestRows.{request_rows}
 use Rattle.fttcan_top.specs.declared.status.Status.{Status}
 use Rattle.fttcan_top.specs.declared.status.Status.TheVariants.{Done, Refused}
-use Rattle.asked_files.specs.Asked.{JobView, poll_of}
+use Rattle.asked_files.specs.Asked.{poll_of}
+use Rattle.asked_files.specs.declared.tasks.Job.{Job}
 use Rattle.fttcan_top.specs.Output.{IsPollText, Tells, TellsFront, TellsPollBegun, status_of}
 
 -- the rows of a polled run of the first calls begin the log of every polled run of all calls
@@ -26,7 +27,7 @@ pub record PolledSoFar : Type 0 where
       → (rest : List ℕ) × (log_text whole frames ≡ events_rows trace [] history ++ rest)
 
 -- the first bytes of the rows of a begun polled run are those of the text of each whole one
-polled-front : PolledSoFar → (job : JobView) (streams : List Stream) (old new : Option (List ℕ)) (history : List Event)
+polled-front : PolledSoFar → (job : Job) (streams : List Stream) (old new : Option (List ℕ)) (history : List Event)
     (carried : ℕ → ℕ → Option ℕ) (trace : List TimedFrame) → IsSystem job.system
     → IsPolledBegun job.system job.steps streams history carried trace
     → PutsPrefix old new (events_rows trace [] history)
@@ -39,10 +40,10 @@ polled-front laws job streams old new history carried trace known begun puts sta
     subst (PutsPrefix old new) (sym output.written.text_is)
     (PutsPrefix-longer (request_rows 1 streams output.written.fates) whole)
 
-module _ (job : JobView) (system : System) (steps : List Step) (streams : List Stream) (same_system : system ≡ job.system)
-    (same_steps : steps ≡ job.steps) (old new : Option (List ℕ)) where
+module _ (job : Job) (steps : List Step) (streams : List Stream) (same_steps : steps ≡ job.steps)
+    (old new : Option (List ℕ)) where
   -- a polled run whose text was put
-  pub polled-told : (accepted : Bool) (status : Status) → IsPolledWritten system steps streams accepted old new
+  pub polled-told : (accepted : Bool) (status : Status) → IsPolledWritten job.system steps streams accepted old new
       → status ≡ (if accepted then Done else Refused) → Tells (poll_of job streams) status old new
   polled-told accepted status is ended = record {
     text = is.text;
@@ -50,8 +51,7 @@ module _ (job : JobView) (system : System) (steps : List Step) (streams : List S
       history = is.history;
       carried = is.carried;
       trace = is.trace;
-      run = subst (λ s. IsPolledRun s job.steps streams is.history is.carried is.trace) same_system
-          (subst (λ s. IsPolledRun system s streams is.history is.carried is.trace) same_steps is.run);
+      run = subst (λ s. IsPolledRun job.system s streams is.history is.carried is.trace) same_steps is.run;
       ended = ended ∙ ap (λ (b : Bool). if b then Done else Refused) is.accepted;
       written = is.is_text;
     };
@@ -59,12 +59,10 @@ module _ (job : JobView) (system : System) (steps : List Step) (streams : List S
   }
 
   -- and one that was cut short
-  pub polled-cut : PolledSoFar → IsSystem job.system → IsPolledCut system steps streams old new
+  pub polled-cut : PolledSoFar → IsSystem job.system → IsPolledCut job.system steps streams old new
       → TellsFront (poll_of job streams) old new ⊎ TellsPollBegun job streams old new
   polled-cut laws known (inl is) =
-      let begun : IsPolledBegun job.system job.steps streams is.history is.carried is.trace =
-      subst (λ s. IsPolledBegun s job.steps streams is.history is.carried is.trace) same_system
-      (subst (λ s. IsPolledBegun system s streams is.history is.carried is.trace) same_steps is.begun) in
+      let begun = subst (λ s. IsPolledBegun job.system s streams is.history is.carried is.trace) same_steps is.begun in
       inr (record {
         history = is.history;
         carried = is.carried;
@@ -80,8 +78,7 @@ module _ (job : JobView) (system : System) (steps : List Step) (streams : List S
       history = is.history;
       carried = is.carried;
       trace = is.trace;
-      run = subst (λ s. IsPolledRun s job.steps streams is.history is.carried is.trace) same_system
-          (subst (λ s. IsPolledRun system s streams is.history is.carried is.trace) same_steps is.run);
+      run = subst (λ s. IsPolledRun job.system s streams is.history is.carried is.trace) same_steps is.run;
       ended = refl;
       written = is.is_text;
     };

@@ -10,7 +10,7 @@ use Rattle.elastic.specs.declared.choice.Choice.{Choice}
 use Rattle.elastic.specs.declared.choice.ElasticFault.{ElasticFault}
 use Rattle.elastic.specs.declared.wish.Wish.{Wish}
 use Rattle.replay_run.specs.Run.{AnswersSteps}
-use Rattle.asked_files.specs.Asked.{JobView}
+use Rattle.asked_files.specs.declared.tasks.Job.{Job}
 use Rattle.fttcan_top.specs.declared.status.Status.{Status}
 use Rattle.fttcan_top.specs.declared.status.Status.TheVariants.{Done, Refused}
 
@@ -29,12 +29,12 @@ IsFaultBehind rules history wish fault =
     IsElasticFault rules (placed_of history) (pending_behind rules history) (next_of history) wish fault
 
 -- a master alone has answered the steps, which has this history now
-pub record IsBehindSteps (job : JobView) (history : List Event) : Type 0 where
+pub record IsBehindSteps (job : Job) (history : List Event) : Type 0 where
   pub answers : AnswersSteps history job.steps
   pub plain : IsPlainlyLegal job.system.rules history
 
 -- the row of what is chosen behind the steps
-pub record IsChosen (job : JobView) (wish : Wish) (text : List ℕ) : Type 0 where
+pub record IsChosen (job : Job) (wish : Wish) (text : List ℕ) : Type 0 where
   pub history : List Event
   pub behind : IsBehindSteps job history
   pub choice : Choice
@@ -42,7 +42,7 @@ pub record IsChosen (job : JobView) (wish : Wish) (text : List ℕ) : Type 0 whe
   pub written : text ≡ choice_row choice
 
 -- the rows of why nothing is chosen behind the steps
-pub record IsUnchosen (job : JobView) (wish : Wish) (text : List ℕ) : Type 0 where
+pub record IsUnchosen (job : Job) (wish : Wish) (text : List ℕ) : Type 0 where
   pub history : List Event
   pub behind : IsBehindSteps job history
   pub fault : ElasticFault
@@ -51,7 +51,7 @@ pub record IsUnchosen (job : JobView) (wish : Wish) (text : List ℕ) : Type 0 w
 
 -- the answer to a wish: done where something is chosen, and refused where nothing is; what became of the changes of the
 -- steps does not count
-abbrev pub IsChoiceText : JobView → Wish → Status → List ℕ → Type 0
+abbrev pub IsChoiceText : Job → Wish → Status → List ℕ → Type 0
 IsChoiceText job wish Done text = IsChosen job wish text
 IsChoiceText job wish Refused text = IsUnchosen job wish text
 IsChoiceText job wish _ text = ⊥

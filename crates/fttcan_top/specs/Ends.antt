@@ -1,15 +1,16 @@
--- How a call ended, done with a status or stopped for a reason: its status for the caller, and what it did.
-use Rattle.std.specs.Prelude.{◌≡◌, ◌⊎◌, ℕ, List, Option, Result, Ok, Err}
-use Rattle.std.specs.Option.{ForSome}
+-- How a call ends: done with a status or stopped for a reason, and for each status what the call did.
+use Rattle.std.specs.Prelude.{◌≡◌, ◌≤◌, ◌⊎◌, ℕ, List, length, Option, None, Result, Ok, Err}
+use Rattle.ftt_io.specs.Counts.{Rose}
 use Rattle.ftt_io.specs.Files.{NamedFiles}
-use Rattle.asked_files.specs.Asked.{Asked}
-use Rattle.asked_files.specs.Loads.{IsBarred}
-use Rattle.asked_files.specs.Sources.{IsStoppedAt, NamedSource, count_behind}
+use Rattle.command_words.specs.Words.{Command}
+use Rattle.asked_files.specs.Asked.{Asked, IsAskedFor, IsNotAsked}
+use Rattle.asked_files.specs.Loads.{IsFetched}
+use Rattle.asked_files.specs.Sources.{sources_of}
 use Rattle.asked_files.specs.declared.stopping.Refusal.{Refusal}
 use Rattle.asked_files.specs.declared.stopping.Stop.{Stop}
 use Rattle.asked_files.specs.declared.stopping.Stop.TheVariants.{Words, Input, Read, Write, Memory}
 use Rattle.fttcan_top.specs.declared.status.Status.{Status}
-use Rattle.fttcan_top.specs.Output.{IsCutWhileRun, Tells, TellsFront}
+use Rattle.fttcan_top.specs.Output.{IsCutWhileRun, Says, Tells, TellsFront, message_of}
 
 -- the status of a call that ended so
 abbrev pub end_status : Result Status Stop → Status
@@ -30,57 +31,64 @@ abbrev pub refusal_of : Result Status Stop → Refusal
 refusal_of (Err (Input refusal)) = refusal
 refusal_of _ = Refusal.LaterPlan
 
--- the first bytes of an answer were put, or of the rows of a run that was cut short
+-- the first bytes of an answer were put; or of the rows of a run that was begun, where the answer is a whole log, which is
+-- written while the run goes on
 abbrev pub PutsPart : Asked → Option (List ℕ) → Option (List ℕ) → Type 0
 PutsPart asked_for old new = TellsFront asked_for old new ⊎ IsCutWhileRun asked_for old new
 
--- this was asked for, and carried out so: its answer was put, or nothing, or what `IsPart` says of it
-module _ (asked_for : Asked) (IsPart : Asked → Option (List ℕ) → Option (List ℕ) → Type 0) (out_rose : Type 0)
+-- this was asked for, and carried out so: its answer was put, or the first part of it, or nothing
+abbrev pub IsCarried : Asked → Type 0 → Option (List ℕ) → Option (List ℕ) → Result Status Stop → Type 0
+IsCarried asked_for out_rose old new (Ok status) = Tells asked_for status old new
+IsCarried asked_for out_rose old new (Err Write) = out_rose × ((new ≡ old) ⊎ PutsPart asked_for old new)
+IsCarried asked_for out_rose old new (Err Memory) = (new ≡ old) ⊎ PutsPart asked_for old new
+IsCarried asked_for out_rose old new (Err _) = ⊥
+
+-- What a call did whose words ask for `called`, where `told` are the files, where they are told, `before` and `behind` are
+-- the counts of fetches, `shelf_rose` and `out_rose` say that a count of faults rose, and `old` and `new` are what the
+-- output tells
+module _ (called : Option Command) (told : Option NamedFiles) (before behind : ℕ) (shelf_rose out_rose : Type 0)
     (old new : Option (List ℕ)) where
-  abbrev pub IsCarried : Result Status Stop → Type 0
-  IsCarried (Ok status) = Tells asked_for status old new
-  IsCarried (Err Write) = out_rose × ((new ≡ old) ⊎ IsPart asked_for old new)
-  IsCarried (Err Memory) = (new ≡ old) ⊎ IsPart asked_for old new
-  IsCarried (Err _) = ⊥
+  -- it was asked for nothing, for this reason, and put nothing
+  abbrev pub IsStopped : Stop → Type 0
+  IsStopped why = IsNotAsked called shelf_rose told before behind why × (new ≡ old)
 
--- How many fetches a call with this status had made, where `told` are the files, where they are told, `rose` says that
--- the shelf's count of faults rose, `sources` are the files that its words name, `before` and `behind` the counts of
--- fetches, and `refusal` is why a file was refused. Where it was done, or its output failed, they are as many as these
--- files. Where a file was refused or could not be read, they are as many as the files up to that one, and where the
--- files are told all before it have texts of their formats
-module _ (told : Option NamedFiles) (rose : Type 0) (sources : List NamedSource) (before behind : ℕ) where
-  abbrev pub HasFetched : Status → Refusal → Type 0
-  HasFetched Status.Done refusal = behind ≡ count_behind before sources
-  HasFetched Status.Refused refusal = behind ≡ count_behind before sources
-  HasFetched Status.No refusal = behind ≡ count_behind before sources
-  HasFetched Status.Words refusal = IsStoppedAt told rose sources before behind Words
-  HasFetched Status.Input refusal = IsStoppedAt told rose sources before behind (Input refusal)
-  HasFetched Status.Read refusal = IsStoppedAt told rose sources before behind Read
-  HasFetched Status.Write refusal = behind ≡ count_behind before sources
-  HasFetched Status.Memory refusal = IsStoppedAt told rose sources before behind Memory
+  -- it was asked for something, and put the whole answer, which has this status
+  abbrev pub IsAnswered : Status → Type 0
+  IsAnswered status =
+      (asked_for : Asked) × IsAskedFor called told before behind asked_for × Tells asked_for status old new
 
--- What a call did, where `none` says that its words are no command's, `told` are the files, where they are told,
--- `IsFor` says what was asked of them and `IsOf` what the words alone say of that, `sources` are the files that the
--- words name, `before` and `behind` the counts of fetches, `IsPart` says what may have been put of an answer,
--- `shelf_rose` and `out_rose` that the count of faults rose, and `old` and `new` are what the output tells
-module _ (none : Type 0) (told : Option NamedFiles) (IsFor : NamedFiles → Result Asked Stop → Type 0)
-    (IsOf : Asked → Type 0) (sources : List NamedSource) (before behind : ℕ)
-    (IsPart : Asked → Option (List ℕ) → Option (List ℕ) → Type 0) (shelf_rose out_rose : Type 0)
-    (old new : Option (List ℕ)) where
-  -- it was asked for this, and carried it out so
-  pub record IsWorked (ended : Result Status Stop) : Type 0 where
-    pub asked_for : Asked
-    pub asks : ForSome told (λ files. IsFor files (Ok asked_for))
-    pub of_words : IsOf asked_for
-    pub fetched : behind ≡ count_behind before sources
-    pub carried : IsCarried asked_for IsPart out_rose old new ended
+  -- it was asked for something, and was cut short: it put the first part of the answer, or nothing
+  abbrev pub IsCutShort : Type 0
+  IsCutShort =
+      (asked_for : Asked) × IsAskedFor called told before behind asked_for × ((new ≡ old) ⊎ PutsPart asked_for old new)
 
-  -- it had nothing to do, for this reason
-  abbrev pub IsNothing : Result Status Stop → Type 0
-  IsNothing (Ok status) = ⊥
-  IsNothing (Err why) =
-      IsBarred none shelf_rose told IsFor why × IsStoppedAt told shelf_rose sources before behind why × (new ≡ old)
+  -- *What a call did* that ends with this status, and where a file is refused with this refusal
+  abbrev pub Did : Status → Refusal → Type 0
+  Did Status.Done refusal = IsAnswered Status.Done
+  Did Status.Refused refusal = IsAnswered Status.Refused
+  Did Status.No refusal = IsAnswered Status.No
+  Did Status.Words refusal = IsStopped Words
+  Did Status.Input refusal = IsStopped (Input refusal)
+  Did Status.Read refusal = IsStopped Read
+  Did Status.Write refusal = out_rose × IsCutShort
+  Did Status.Memory refusal = IsStopped Memory ⊎ IsCutShort
 
-  -- it ended so
-  abbrev pub IsEnd : Result Status Stop → Type 0
-  IsEnd ended = IsNothing ended ⊎ IsWorked ended
+-- the same of a call that ended so
+pub record Ended (called : Option Command) (told : Option NamedFiles) (before behind : ℕ) (shelf_rose out_rose : Type 0)
+    (old new : Option (List ℕ)) (ended : Result Status Stop) : Type 0 where
+  pub did : Did called told before behind shelf_rose out_rose old new (end_status ended) (refusal_of ended)
+
+-- *What a top call says*, of a shelf and of two sinks that show their files, their bytes and their counts so: what it did,
+-- and that it put the lines of its status to the second sink. Words that ask for nothing are told, or memory ran out. The
+-- files stay, no count falls, and no more fetches are made than the words name files
+pub record Answers (called : Option Command) (told told_after : Option NamedFiles)
+    (fetches fetches_after faults faults_after : ℕ) (out out_after : Option (List ℕ)) (out_faults out_faults_after : ℕ)
+    (err err_after : Option (List ℕ)) (err_faults err_faults_after : ℕ) (status : Status) : Type 0 where
+  pub refusal : Refusal
+  pub did : Did called told fetches fetches_after (Rose faults faults_after) (Rose out_faults out_faults_after) out
+      out_after status refusal
+  pub command : called ≡ None → (status ≡ Status.Words) ⊎ (status ≡ Status.Memory)
+  pub message : Says err err_after (Rose err_faults err_faults_after) (message_of status refusal)
+  pub shelf : IsFetched told told_after fetches fetches_after faults faults_after (length (sources_of called))
+  pub out_faults_never_fall : out_faults ≤ out_faults_after
+  pub err_faults_never_fall : err_faults ≤ err_faults_after

@@ -1,5 +1,5 @@
 -- The headline's definitions: what is written for what the words and the files ask for, and how a call ends.
-use Rattle.std.specs.Prelude.{◌≡◌, ℕ, ◌⊎◌, ⊤, Bool, List, [], ◌++◌, length, codes, if◌then◌else◌, Option, None, Result, Ok, Err}
+use Rattle.std.specs.Prelude.{◌≡◌, ℕ, ◌⊎◌, ⊤, Bool, List, [], ◌++◌, length, codes, if◌then◌else◌, Option, None}
 use Rattle.std.specs.Fmt.{decimal}
 use Rattle.can_frame.specs.declared.TimedFrame.{TimedFrame}
 use Rattle.ftt_io.specs.Puts.{Puts, PutsPrefix}
@@ -27,11 +27,12 @@ use Rattle.admission.specs.Verdict.{bounds_by}
 use Rattle.master_core.specs.Certificates.{IsCertificateOfPlan}
 use Rattle.master_core.specs.History.{IsPlainlyLegal, placed_of}
 use Rattle.master_core.specs.declared.event.Event.{Event}
+use Rattle.command_words.specs.Words.{usage}
 use Rattle.fttcan_top.specs.declared.status.Status.{Status}
 use Rattle.fttcan_top.specs.declared.status.Status.TheVariants.{Done, Refused, Words, Input, Read, Write, Memory, No}
 use Rattle.asked_files.specs.declared.stopping.Refusal.{Refusal}
-use Rattle.asked_files.specs.declared.stopping.Stop.{Stop}
-use Rattle.asked_files.specs.Asked.{Asked, JobView, audit_of, check_of, choice_of, live_log_of, log_of, plan_of, poll_of, summary_of}
+use Rattle.asked_files.specs.Asked.{Asked, audit_of, check_of, choice_of, live_log_of, log_of, plan_of, poll_of, summary_of}
+use Rattle.asked_files.specs.declared.tasks.Job.{Job}
 use Rattle.asked_files.specs.Refusals.{refusal_line}
 use Rattle.fttcan_top.specs.Audited.{IsAuditText}
 use Rattle.fttcan_top.specs.Chosen.{IsChoiceText}
@@ -49,7 +50,7 @@ report_if report history trace owners requests = if report then report_text hist
 
 -- the log of a run, or so many of its last rows, and the report behind it where that is asked for: the history answers
 -- the steps, and history and trace keep what is promised
-pub record IsLog (job : JobView) (tail : Option ℕ) (report : Bool) (status : Status) (text : List ℕ) : Type 0 where
+pub record IsLog (job : Job) (tail : Option ℕ) (report : Bool) (status : Status) (text : List ℕ) : Type 0 where
   pub history : List Event
   pub trace : List TimedFrame
   pub run : IsRun job.system job.steps job.requests history trace
@@ -59,7 +60,7 @@ pub record IsLog (job : JobView) (tail : Option ℕ) (report : Bool) (status : S
 
 -- the plan of the table that stands when a master has answered the steps: from cycle 0 on, and it keeps that table for
 -- ever
-pub record IsPlanText (job : JobView) (status : Status) (text : List ℕ) : Type 0 where
+pub record IsPlanText (job : Job) (status : Status) (text : List ℕ) : Type 0 where
   pub history : List Event
   pub answers : AnswersSteps history job.steps
   pub plain : IsPlainlyLegal job.system.rules history
@@ -80,13 +81,13 @@ breach_line (Missed slot release cycle) =
 breach_line (NotClosed slot) = codes "no,notclosed," ++ decimal slot ++ codes "\n"
 
 -- why a plan does not keep the table that the steps ask for
-pub record IsRefuted (job : JobView) (certificate : CertificateView) (text : List ℕ) : Type 0 where
+pub record IsRefuted (job : Job) (certificate : CertificateView) (text : List ℕ) : Type 0 where
   pub breach : Breach
   pub first : IsBreach (table_of (bounds_by job.system.rules) job.steps).placed job.system.rules.window certificate breach
   pub written : text ≡ breach_line breach
 
 -- the answer to a plan: it keeps the table that the steps ask for, or the first breach
-abbrev pub IsCheckText : JobView → CertificateView → Status → List ℕ → Type 0
+abbrev pub IsCheckText : Job → CertificateView → Status → List ℕ → Type 0
 IsCheckText job certificate Done text =
     IsTaken (table_of (bounds_by job.system.rules) job.steps).placed job.system.rules.window certificate
     × (text ≡ codes "yes\n")
@@ -104,7 +105,7 @@ pub record IsSummary (number : ℕ) (status : Status) (text : List ℕ) : Type 0
 
 -- the log of a run by threads, and the report behind it where that is asked for: the history answers the steps of each
 -- operator, in whatever order they came, and history and trace keep what is promised
-pub record IsLiveLog (job : JobView) (report : Bool) (status : Status) (text : List ℕ) : Type 0 where
+pub record IsLiveLog (job : Job) (report : Bool) (status : Status) (text : List ℕ) : Type 0 where
   pub history : List Event
   pub trace : List TimedFrame
   pub run : IsLive job.system job.steps job.requests history trace
@@ -113,7 +114,7 @@ pub record IsLiveLog (job : JobView) (report : Bool) (status : Status) (text : L
 
 -- the log of a run whose polled slots carry requests, and behind it what became of each request: the history answers the
 -- steps, the requests are carried by *Ride*, and history and trace keep what is promised
-pub record IsPollText (job : JobView) (streams : List Stream) (status : Status) (text : List ℕ) : Type 0 where
+pub record IsPollText (job : Job) (streams : List Stream) (status : Status) (text : List ℕ) : Type 0 where
   pub history : List Event
   pub carried : ℕ → ℕ → Option ℕ
   pub trace : List TimedFrame
@@ -148,7 +149,7 @@ pub record TellsFront (asked_for : Asked) (old new : Option (List ℕ)) : Type 0
 
 -- a run was cut short: it had answered the first calls of its steps, and what was put are the first bytes of its rows,
 -- and the first bytes of the output of every run of all the calls
-pub record TellsBegun (job : JobView) (report : Bool) (old new : Option (List ℕ)) : Type 0 where
+pub record TellsBegun (job : Job) (report : Bool) (old new : Option (List ℕ)) : Type 0 where
   pub history : List Event
   pub trace : List TimedFrame
   pub begun : IsBegun job.system job.steps job.requests history trace
@@ -157,7 +158,7 @@ pub record TellsBegun (job : JobView) (report : Bool) (old new : Option (List �
       → PutsPrefix old new text
 
 -- the same of a polled run that was cut short
-pub record TellsPollBegun (job : JobView) (streams : List Stream) (old new : Option (List ℕ)) : Type 0 where
+pub record TellsPollBegun (job : Job) (streams : List Stream) (old new : Option (List ℕ)) : Type 0 where
   pub history : List Event
   pub carried : ℕ → ℕ → Option ℕ
   pub trace : List TimedFrame
@@ -180,43 +181,7 @@ IsDone Refused = ⊤
 IsDone No = ⊤
 IsDone _ = ⊥
 
--- the work, or the writing of its output, was cut short
-abbrev pub IsCut : Status → Type 0
-IsCut Write = ⊤
-IsCut Memory = ⊤
-IsCut _ = ⊥
-
--- there was nothing to do
-abbrev pub IsStopped : Status → Type 0
-IsStopped Words = ⊤
-IsStopped Input = ⊤
-IsStopped Read = ⊤
-IsStopped _ = ⊥
-
--- the status is a true answer to what was asked, where `IsFor` says what was asked, and `shelf_rose` and `out_rose`
--- that the shelf's and the output's count of faults rose in this call; memory may run out in any call
-abbrev pub IsAnswer : (Result Asked Stop → Type 0) → Type 0 → Type 0 → Status → Type 0
-IsAnswer IsFor shelf_rose out_rose Words = IsFor (Err Stop.Words)
-IsAnswer IsFor shelf_rose out_rose Input = (refusal : Refusal) × IsFor (Err (Stop.Input refusal))
-IsAnswer IsFor shelf_rose out_rose Read = shelf_rose ⊎ IsFor (Err Stop.Read)
-IsAnswer IsFor shelf_rose out_rose Write = out_rose × ((asked_for : Asked) × IsFor (Ok asked_for))
-IsAnswer IsFor shelf_rose out_rose Memory = ⊤
-IsAnswer IsFor shelf_rose out_rose _ = (asked_for : Asked) × IsFor (Ok asked_for)
-
 -- What is put to the error sink
-
--- the lines that say which words a call may have
-abbrev pub usage : List ℕ
-usage =
-    codes "usage: fttcan replay SYSTEM STEPS [REQUESTS] [--tail N] [--report]\n"
-    ++ codes "usage: fttcan admit SYSTEM STEPS\n"
-    ++ codes "usage: fttcan check SYSTEM STEPS PLAN\n"
-    ++ codes "usage: fttcan gen NUMBER\n"
-    ++ codes "usage: fttcan live SYSTEM STEPS [REQUESTS] [--report]\n"
-    ++ codes "usage: fttcan audit SYSTEM STEPS LOG [REQUESTS]\n"
-    ++ codes "usage: fttcan handover SYSTEM STEPS AT [REQUESTS]\n"
-    ++ codes "usage: fttcan poll SYSTEM STEPS STREAMS\n"
-    ++ codes "usage: fttcan elastic SYSTEM STEPS WISHES\n"
 
 -- the lines of a status; where it is that of a refused file, for this refusal
 abbrev pub message_of : Status → Refusal → List ℕ

@@ -1,8 +1,8 @@
 //! Whether a log is that of a whole run, as a text.
 
 ghost use Rattle.std.specs.Prelude.{IfOk};
-ghost use Rattle.asked_files.specs.Asked.{IsLogText};
-ghost use Rattle.asked_files.specs.Loads.{IsJob};
+ghost use Rattle.asked_files.specs.Asked.{IsJob};
+ghost use Rattle.asked_files.specs.Inputs.{IsLogText};
 ghost use Rattle.fttcan_top.specs.Audited.{IsAuditText};
 ghost use Rattle.fttcan_top.specs.Output.{IsDone};
 
@@ -20,7 +20,9 @@ pub fn audit_of(alloc: Global, job: &Job, log: &[u8]) -> Result<Outcome, AllocEr
     ensures answer { IfOk result (λ outcome. IsAuditText job.now log.now outcome.status outcome.text.items) }
     ensures done { IfOk result (λ outcome. IsDone outcome.status) }
 {
-    match audit_text(alloc, job.system(), job.steps(), job.requests(), log) {
+    let steps = job.steps.as_slice();
+    let requests = job.requests.as_slice();
+    match audit_text(alloc, &job.system, steps, requests, log) {
         Ok(()) => Ok(Outcome {
             status: Status::Done,
             text: b"yes\n".to_vec(alloc)?,

@@ -3,7 +3,8 @@
 ghost use Rattle.std.specs.Prelude.{◌≡◌, ℕ, IfOk, string_bytes};
 ghost use Rattle.elastic.specs.ChoiceRows.{IsFaultText};
 ghost use Rattle.elastic.specs.declared.choice.ElasticFault.TheVariants.{NoPeriod};
-ghost use Rattle.asked_files.specs.Loads.{IsJob, IsToChoose};
+ghost use Rattle.asked_files.specs.Asked.{IsJob};
+ghost use Rattle.asked_files.specs.Inputs.{IsToChoose};
 ghost use Rattle.fttcan_top.specs.Chosen.{IsChoiceText};
 ghost use Rattle.fttcan_top.specs.Output.{IsDone};
 
@@ -36,7 +37,7 @@ pub fn choice_of(alloc: Global, job: &Job, wish: &Wish) -> Result<Outcome, Alloc
     ensures choice { IfOk result (λ outcome. IsChoiceText job.now wish.now outcome.status outcome.text.items) }
     ensures done { IfOk result (λ outcome. IsDone outcome.status) }
 {
-    let master = answer(alloc, &job.system().rules, job.steps())?;
+    let master = answer(alloc, &job.system.rules, job.steps.as_slice())?;
     let behind = master.snapshot(alloc)?;
     let placed = behind.placed.as_slice();
     match choose(alloc, &behind.rules, placed, &behind.state, wish) {

@@ -1,16 +1,15 @@
 //! The log of a run whose polled slots carry requests, written while the run goes on, and what became of each request.
 
-ghost use Rattle.std.specs.Prelude.{◌≤◌, ◌⊎◌, IfOk, IsErrOf, OnErr};
+ghost use Rattle.std.specs.Prelude.{◌≤◌, IfOk, IsErrOf, OnErr};
 ghost use Rattle.ftt_io.specs.Counts.{Rose};
 ghost use Rattle.sporadic_poll.specs.StreamsFile.{AreLegal};
-ghost use Rattle.asked_files.specs.Asked.{poll_of};
-ghost use Rattle.asked_files.specs.Loads.{IsJob};
-ghost use Rattle.fttcan_top.specs.Ends.{IsCarried, PutsPart};
-ghost use Rattle.fttcan_top.specs.Output.{IsDone, Tells, TellsFront, TellsPollBegun};
+ghost use Rattle.asked_files.specs.Asked.{IsJob, poll_of};
+ghost use Rattle.fttcan_top.specs.Ends.{PutsPart};
+ghost use Rattle.fttcan_top.specs.Output.{IsDone, Tells};
 
 use crate::status::Status;
 use crate::work::status_when;
-use asked_files::{Job, Stop};
+use asked_files::Job;
 use ftt_io::Sink;
 use poll_run::laws::rows_so_far;
 use poll_run::replay_polled;
@@ -24,7 +23,7 @@ use std::alloc::Global;
 /// # Errors
 ///
 /// `Memory` where memory runs out, `Write` where the sink fails. Then the sink took the first bytes of the output.
-fn write_polled<O: Sink>(
+pub fn write_polled<O: Sink>(
     alloc: Global,
     job: &Job,
     streams: Vec<Stream>,
@@ -36,33 +35,10 @@ fn write_polled<O: Sink>(
     ensures done { IfOk result IsDone }
     ensures tells { IfOk result
         (λ status. Tells (poll_of job.now streams.items) status (O.told_bytes out.old) (O.told_bytes out.new)) }
-    ensures cut { OnErr result
-        (TellsFront (poll_of job.now streams.items) (O.told_bytes out.old) (O.told_bytes out.new)
-        ⊎ TellsPollBegun job.now streams.items (O.told_bytes out.old) (O.told_bytes out.new)) }
+    ensures cut { OnErr result (PutsPart (poll_of job.now streams.items) (O.told_bytes out.old) (O.told_bytes out.new)) }
     ensures failed { IsErrOf result Cut.Write → Rose (O.faults out.old) (O.faults out.new) }
 {
     rows_so_far();
-    let accepted = replay_polled(alloc, job.system(), job.steps(), streams, out)?;
+    let accepted = replay_polled(alloc, &job.system, job.steps.as_slice(), streams, out)?;
     Ok(status_when(accepted))
-}
-
-/// The same as an answer to a task.
-pub fn put_polled<O: Sink>(
-    alloc: Global,
-    job: &Job,
-    streams: Vec<Stream>,
-    out: &mut O,
-) -> Result<Status, Stop>
-    requires job { IsJob job.now }
-    requires streams { AreLegal job.now.system.rules.slots streams.items }
-    ensures faults_never_fall { O.faults out.old ≤ O.faults out.new }
-    ensures done { IfOk result IsDone }
-    ensures carried { IsCarried (poll_of job.now streams.items) PutsPart (Rose (O.faults out.old) (O.faults out.new))
-        (O.told_bytes out.old) (O.told_bytes out.new) result }
-{
-    match write_polled(alloc, job, streams, out) {
-        Ok(status) => Ok(status),
-        Err(Cut::Memory) => Err(Stop::Memory),
-        Err(Cut::Write) => Err(Stop::Write),
-    }
 }

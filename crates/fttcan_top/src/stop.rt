@@ -7,21 +7,9 @@ ghost use Rattle.fttcan_top.specs.Output.{IsDone, Says, message_of};
 
 use crate::status::Status;
 use asked_files::Stop;
+use command_words::usage;
 use ftt_io::{Sink, write_all};
 use std::alloc::Global;
-
-/// The lines that say which words a call may have.
-const USAGE: &str = "\
-usage: fttcan replay SYSTEM STEPS [REQUESTS] [--tail N] [--report]
-usage: fttcan admit SYSTEM STEPS
-usage: fttcan check SYSTEM STEPS PLAN
-usage: fttcan gen NUMBER
-usage: fttcan live SYSTEM STEPS [REQUESTS] [--report]
-usage: fttcan audit SYSTEM STEPS LOG [REQUESTS]
-usage: fttcan handover SYSTEM STEPS AT [REQUESTS]
-usage: fttcan poll SYSTEM STEPS STREAMS
-usage: fttcan elastic SYSTEM STEPS WISHES
-";
 
 /// The line where memory ran out.
 const OUT_OF_MEMORY: &str = "out of memory\n";
@@ -48,7 +36,7 @@ pub fn tell<R: Sink>(alloc: Global, ended: &Result<Status, Stop>, err: &mut R) -
 {
     match ended {
         Ok(status) => *status,
-        Err(Stop::Words) => say(err, USAGE, Status::Words),
+        Err(Stop::Words) => say(err, usage(), Status::Words),
         Err(Stop::Input(refusal)) => match refusal.line(alloc) {
             Ok(line) => say(err, line.as_str(), Status::Input),
             Err(_) => say(err, OUT_OF_MEMORY, Status::Memory),

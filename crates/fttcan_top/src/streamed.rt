@@ -1,12 +1,12 @@
 //! The log of a run, written while the run goes on, and the report behind it.
 
-ghost use Rattle.std.specs.Prelude.{◌≡◌, ◌≤◌, ◌⊎◌, None, false, IfOk, IsErrOf, OnErr, OnOk, is_some};
+ghost use Rattle.std.specs.Prelude.{◌≡◌, ◌≤◌, ℕ, List, Option, None, false, IfOk, IsErrOf, OnErr, OnOk, is_some};
 ghost use Rattle.ftt_io.specs.Counts.{Rose};
-ghost use Rattle.asked_files.specs.Asked.{log_of};
-ghost use Rattle.asked_files.specs.Loads.{IsJob};
+ghost use Rattle.ftt_io.specs.Puts.{Puts, PutsPrefix};
+ghost use Rattle.asked_files.specs.Asked.{Asked, IsJob, log_of};
 ghost use Rattle.fttcan_top.specs.Ends.{IsCarried, PutsPart};
-ghost use Rattle.fttcan_top.specs.Output.{IsDone, Tells, TellsBegun, TellsFront};
-ghost use Rattle.fttcan_top.specs.Streamed.{IsReport, PutsReport, PutsReportFront};
+ghost use Rattle.fttcan_top.specs.Output.{IsDone, Tells};
+ghost use Rattle.fttcan_top.specs.Streamed.{IsOfReport};
 
 use crate::rows::put_rows;
 use crate::status::Status;
@@ -27,7 +27,8 @@ pub(crate) fn report_of(
     requests: &[Request],
 ) -> Result<Vec<u8>, AllocError>
     requires events { run.master.keeps ≡ is_some run.trace }
-    ensures report { IfOk result (λ text. IsReport run owners.now requests.now text.items) }
+    ensures report { IfOk result
+        (λ text. IsOfReport run owners.now requests.now (λ report. text.items ≡ report)) }
 {
     let Written { master, trace } = run;
     match trace {
@@ -50,9 +51,9 @@ fn put_report<O: Sink>(
     requires events { run.master.keeps ≡ is_some run.trace }
     ensures faults_never_fall { O.faults out.old ≤ O.faults out.new }
     ensures all { OnOk result
-        (PutsReport run owners.now requests.now (O.told_bytes out.old) (O.told_bytes out.new)) }
+        (IsOfReport run owners.now requests.now (Puts (O.told_bytes out.old) (O.told_bytes out.new))) }
     ensures prefix { OnErr result
-        (PutsReportFront run owners.now requests.now (O.told_bytes out.old) (O.told_bytes out.new)) }
+        (IsOfReport run owners.now requests.now (PutsPrefix (O.told_bytes out.old) (O.told_bytes out.new))) }
     ensures failed { IsErrOf result Cut.Write → Rose (O.faults out.old) (O.faults out.new) }
 {
     let text = report_of(alloc, run, owners, requests)?;
@@ -69,40 +70,28 @@ fn put_report<O: Sink>(
 /// # Errors
 ///
 /// `Memory` where memory runs out, `Write` where the sink fails. Then the sink took the first bytes of the output.
-fn write_log<O: Sink>(alloc: Global, job: &Job, report: bool, out: &mut O) -> Result<Status, Cut>
+pub fn write_log<O: Sink>(
+    alloc: Global,
+    job: &Job,
+    report: bool,
+    out: &mut O,
+) -> Result<Status, Cut>
     requires job { IsJob job.now }
     ensures faults_never_fall { O.faults out.old ≤ O.faults out.new }
     ensures done { IfOk result IsDone }
     ensures tells { IfOk result
         (λ status. Tells (log_of job.now None report) status (O.told_bytes out.old) (O.told_bytes out.new)) }
-    ensures cut { OnErr result
-        (TellsFront (log_of job.now None report) (O.told_bytes out.old) (O.told_bytes out.new)
-        ⊎ TellsBegun job.now report (O.told_bytes out.old) (O.told_bytes out.new)) }
+    ensures cut { OnErr result (PutsPart (log_of job.now None report) (O.told_bytes out.old) (O.told_bytes out.new)) }
     ensures failed { IsErrOf result Cut.Write → Rose (O.faults out.old) (O.faults out.new) }
 {
     rows_so_far();
-    let system = job.system();
-    let owners = system.owners.as_slice();
-    let requests = job.requests();
-    let run = replay_to(alloc, system, job.steps(), requests, report, out)?;
+    let owners = job.system.owners.as_slice();
+    let requests = job.requests.as_slice();
+    let steps = job.steps.as_slice();
+    let run = replay_to(alloc, &job.system, steps, requests, report, out)?;
     let accepted = run.master.all_accepted();
     put_report(alloc, run, owners, requests, out)?;
     Ok(status_when(accepted))
-}
-
-/// The same as an answer to a task.
-pub fn put_log<O: Sink>(alloc: Global, job: &Job, report: bool, out: &mut O) -> Result<Status, Stop>
-    requires job { IsJob job.now }
-    ensures faults_never_fall { O.faults out.old ≤ O.faults out.new }
-    ensures done { IfOk result IsDone }
-    ensures carried { IsCarried (log_of job.now None report) PutsPart (Rose (O.faults out.old) (O.faults out.new))
-        (O.told_bytes out.old) (O.told_bytes out.new) result }
-{
-    match write_log(alloc, job, report, out) {
-        Ok(status) => Ok(status),
-        Err(Cut::Memory) => Err(Stop::Memory),
-        Err(Cut::Write) => Err(Stop::Write),
-    }
 }
 
 /// Runs the steps, has the standby take over after `at` opened cycles, and writes the log meanwhile. Answers the status
@@ -111,32 +100,32 @@ pub fn put_log<O: Sink>(alloc: Global, job: &Job, report: bool, out: &mut O) -> 
 /// # Errors
 ///
 /// `Memory` where memory runs out, `Write` where the sink fails. Then the sink took the first bytes of the output.
-fn write_handed<O: Sink>(alloc: Global, job: &Job, at: u16, out: &mut O) -> Result<Status, Cut>
+pub fn write_handed<O: Sink>(alloc: Global, job: &Job, at: u32, out: &mut O) -> Result<Status, Cut>
     requires job { IsJob job.now }
     ensures faults_never_fall { O.faults out.old ≤ O.faults out.new }
     ensures done { IfOk result IsDone }
     ensures tells { IfOk result
         (λ status. Tells (log_of job.now None false) status (O.told_bytes out.old) (O.told_bytes out.new)) }
-    ensures cut { OnErr result
-        (TellsFront (log_of job.now None false) (O.told_bytes out.old) (O.told_bytes out.new)
-        ⊎ TellsBegun job.now false (O.told_bytes out.old) (O.told_bytes out.new)) }
+    ensures cut { OnErr result (PutsPart (log_of job.now None false) (O.told_bytes out.old) (O.told_bytes out.new)) }
     ensures failed { IsErrOf result Cut.Write → Rose (O.faults out.old) (O.faults out.new) }
 {
     rows_so_far();
     let at = u64::from(at);
-    let accepted = replay_handed(alloc, job.system(), job.steps(), job.requests(), at, out)?;
+    let steps = job.steps.as_slice();
+    let requests = job.requests.as_slice();
+    let accepted = replay_handed(alloc, &job.system, steps, requests, at, out)?;
     Ok(status_when(accepted))
 }
 
-/// The same as an answer to a task.
-pub fn put_handed<O: Sink>(alloc: Global, job: &Job, at: u16, out: &mut O) -> Result<Status, Stop>
-    requires job { IsJob job.now }
-    ensures faults_never_fall { O.faults out.old ≤ O.faults out.new }
+/// How a run ended that was written while it went on, as an answer to a task.
+pub fn as_answer(ended: Result<Status, Cut>) -> Result<Status, Stop>
+    requires done { IfOk ended IsDone }
     ensures done { IfOk result IsDone }
-    ensures carried { IsCarried (log_of job.now None false) PutsPart (Rose (O.faults out.old) (O.faults out.new))
-        (O.told_bytes out.old) (O.told_bytes out.new) result }
+    ensures carried { (asked_for : Asked) (rose : Type 0) (old new : Option (List ℕ))
+        → IfOk ended (λ status. Tells asked_for status old new) → OnErr ended (PutsPart asked_for old new)
+        → (IsErrOf ended Cut.Write → rose) → IsCarried asked_for rose old new result }
 {
-    match write_handed(alloc, job, at, out) {
+    match ended {
         Ok(status) => Ok(status),
         Err(Cut::Memory) => Err(Stop::Memory),
         Err(Cut::Write) => Err(Stop::Write),

@@ -2,16 +2,16 @@
 
 ghost use Rattle.std.specs.Prelude.{◌≡◌, ◌≤◌, ◌++◌, if◌then◌else◌, Some, IfOk, OnOk};
 ghost use Rattle.ftt_io.specs.Counts.{Rose};
-ghost use Rattle.asked_files.specs.Asked.{Asked};
-ghost use Rattle.asked_files.specs.Loads.{IsJob, IsToCheck};
+ghost use Rattle.asked_files.specs.Asked.{Asked, IsJob};
+ghost use Rattle.asked_files.specs.Inputs.{IsToCheck};
 ghost use Rattle.fttcan_top.specs.Ends.{IsCarried};
-ghost use Rattle.fttcan_top.specs.Output.{IsCheckText, IsDone, IsLiveLog, IsLog, IsOutput, IsPlanText, IsSummary, TellsFront, breach_line, report_if, status_of};
+ghost use Rattle.fttcan_top.specs.Output.{IsCheckText, IsDone, IsLiveLog, IsLog, IsOutput, IsPlanText, IsSummary, breach_line, report_if, status_of};
 
 use crate::rows::put_rows;
 use crate::status::Status;
 use crate::streamed::report_of;
 use crate::summary::summary_of;
-use asked_files::{Job, Parts, Stop};
+use asked_files::{Job, Stop};
 use async_window::{Owner, Request};
 use bus_trace::log_text;
 use can_frame::TimedFrame;
@@ -81,11 +81,12 @@ pub fn tail_of(alloc: Global, job: &Job, count: u16, report: bool) -> Result<Out
     ensures log { IfOk result (λ outcome. IsLog job.now (Some count) report outcome.status outcome.text.items) }
     ensures done { IfOk result (λ outcome. IsDone outcome.status) }
 {
-    let system = job.system();
-    let owners = system.owners.as_slice();
-    let requests = job.requests();
+    let system = &job.system;
+    let owners = job.system.owners.as_slice();
+    let steps = job.steps.as_slice();
+    let requests = job.requests.as_slice();
     let count = usize::from(count);
-    let Tailed { run, rows } = replay_tail(alloc, system, job.steps(), requests, report, count)?;
+    let Tailed { run, rows } = replay_tail(alloc, system, steps, requests, report, count)?;
     let accepted = run.master.all_accepted();
     let behind = report_of(alloc, run, owners, requests)?;
     let mut text = rows;
@@ -109,13 +110,14 @@ pub fn live_log_of<T: Threads + Wait + Sync, G: Gate>(
     ensures log { IfOk result (λ outcome. IsLiveLog job report outcome.status outcome.text.items) }
     ensures done { IfOk result (λ outcome. IsDone outcome.status) }
 {
-    let Parts {
+    let Job {
         system,
         steps,
         requests,
-    } = job.into_parts();
+    } = job;
     let owners = system.owners.as_slice();
     let requests = requests.as_slice();
+    let steps = steps.into_vec();
     let Ended { master, run } = live_steps::live(rt, alloc, &system, steps, requests, gate)?;
     let history = master.history();
     let trace = run.trace.as_slice();
@@ -154,7 +156,7 @@ pub fn plan_of(alloc: Global, job: &Job) -> Result<Outcome, AllocError>
     ensures plan { IfOk result (λ outcome. IsPlanText job.now outcome.status outcome.text.items) }
     ensures done { IfOk result (λ outcome. IsDone outcome.status) }
 {
-    let master = answer(alloc, &job.system().rules, job.steps())?;
+    let master = answer(alloc, &job.system.rules, job.steps.as_slice())?;
     let certificate = master.certificate(alloc)?;
     let text = write_plan(alloc, &certificate)?;
     Ok(Outcome {
@@ -190,8 +192,8 @@ pub fn check_of(alloc: Global, job: &Job, certificate: &Certificate) -> Result<O
         (λ outcome. IsCheckText job.now certificate.now outcome.status outcome.text.items) }
     ensures done { IfOk result (λ outcome. IsDone outcome.status) }
 {
-    let rules = &job.system().rules;
-    let placed = asked_table(alloc, rules, job.steps())?;
+    let rules = &job.system.rules;
+    let placed = asked_table(alloc, rules, job.steps.as_slice())?;
     match check(placed.as_slice(), rules.window, certificate) {
         Ok(()) => Ok(Outcome {
             status: Status::Done,
@@ -211,7 +213,7 @@ pub fn put_answer<O: Sink>(answer: Result<Outcome, AllocError>, out: &mut O) -> 
     ensures done { IfOk result IsDone }
     ensures carried { (asked_for : Asked)
         → IfOk answer (λ outcome. IsOutput asked_for outcome.status outcome.text.items)
-        → IsCarried asked_for TellsFront (Rose (O.faults out.old) (O.faults out.new))
+        → IsCarried asked_for (Rose (O.faults out.old) (O.faults out.new))
         (O.told_bytes out.old) (O.told_bytes out.new) result }
 {
     match answer {

@@ -4,13 +4,13 @@ use Rattle.fttcan_top.proofs.polling.write_polled.Goals as goal
 
 pub returns-in_err-accepted-clause-cut : goal.returns-in_err-accepted-clause-cut
 returns-in_err-accepted-clause-cut g c =
-    let all = polled-cut c.args.job.now c.system.result.now c.steps.result.now c.args.streams.items
-    c.system.ensures.system c.steps.ensures.steps (g.O.Sink.told_bytes c.args.out.now) (g.O.Sink.told_bytes c.replay_polled.new.out)
+    let all = polled-cut c.args.job.now c.as_slice.result.now c.args.streams.items c.as_slice.ensures.list
+    (g.O.Sink.told_bytes c.args.out.now) (g.O.Sink.told_bytes c.replay_polled.new.out)
     (record { front = c.rows_so_far.ensures.front }) c.requires.job.system c.in_err-accepted.ensures.cut in
     search (rules, all)
 
 pub returns-clause-tells : goal.returns-clause-tells
 returns-clause-tells g c =
-    polled-told c.args.job.now c.system.result.now c.steps.result.now c.args.streams.items
-    c.system.ensures.system c.steps.ensures.steps (g.O.Sink.told_bytes c.args.out.now) (g.O.Sink.told_bytes c.replay_polled.new.out)
+    polled-told c.args.job.now c.as_slice.result.now c.args.streams.items c.as_slice.ensures.list
+    (g.O.Sink.told_bytes c.args.out.now) (g.O.Sink.told_bytes c.replay_polled.new.out)
     c.in_ok-accepted.accepted c.status_when.result c.in_ok-accepted.ensures.written c.status_when.ensures.status

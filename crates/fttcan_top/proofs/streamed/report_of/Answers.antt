@@ -2,7 +2,7 @@ use Rattle.std.proofs.Common.{◌≡◌, ◌∙◌, ap, subst}
 use Rattle.std.proofs.lemmas.Result.{IfOk-weaker}
 use Rattle.plan_report.specs.Report.{report_text}
 use Rattle.replay_run.specs.Written.{KeepsFrames}
-use Rattle.fttcan_top.specs.Streamed.{IsReport}
+use Rattle.fttcan_top.specs.Streamed.{IsOfReport}
 use Rattle.fttcan_top.proofs.streamed.report_of.Goals as goal
 
 pub returns-in-None : goal.returns-in-None
@@ -16,7 +16,7 @@ returns-in-Some-into_master c =
     let master = c.in-Some-into_master.master in
     record {
       report = IfOk-weaker c.report.result (λ text. text.items ≡ report_text master.history c.as_slice.result.now owners requests)
-          (λ text. IsReport run owners requests text.items)
+          (λ text. IsOfReport run owners requests (λ report. text.items ≡ report))
           (λ text same trace kept.
           let frames : c.in-Some.trace.items ≡ trace = subst (λ is. KeepsFrames is trace) c.in-Some.is kept in
           rw c.in-Some.is

@@ -4,14 +4,14 @@ use Rattle.fttcan_top.proofs.streamed.write_handed.Goals as goal
 
 pub returns-in_err-accepted-clause-cut : goal.returns-in_err-accepted-clause-cut
 returns-in_err-accepted-clause-cut g c =
-    let all = run-cut c.args.job.now false c.system.result.now c.steps.result.now c.system.result.now.owners c.requests.result.now
-    c.system.ensures.system c.steps.ensures.steps refl c.requests.ensures.requests (record { front = c.rows_so_far.ensures.front })
+    let all = run-cut c.args.job.now false c.as_slice-steps.result.now c.args.job.now.system.owners c.as_slice-requests.result.now
+    c.as_slice-steps.ensures.list refl c.as_slice-requests.ensures.list (record { front = c.rows_so_far.ensures.front })
     (g.O.Sink.told_bytes c.args.out.now) (g.O.Sink.told_bytes c.replay_handed.new.out) c.requires.job.system c.requires.job.requests
     c.in_err-accepted.ensures.cut in
     search (rules, all)
 
 pub returns-clause-tells : goal.returns-clause-tells
 returns-clause-tells g c =
-    handed-told c.args.job.now false c.system.result.now c.steps.result.now c.system.result.now.owners c.requests.result.now
-    c.system.ensures.system c.steps.ensures.steps refl c.requests.ensures.requests c.in_ok-accepted.accepted c.status_when.result
+    handed-told c.args.job.now false c.as_slice-steps.result.now c.args.job.now.system.owners c.as_slice-requests.result.now
+    c.as_slice-steps.ensures.list refl c.as_slice-requests.ensures.list c.in_ok-accepted.accepted c.status_when.result
     (g.O.Sink.told_bytes c.args.out.now) (g.O.Sink.told_bytes c.replay_handed.new.out) c.in_ok-accepted.ensures.written c.status_when.ensures.status

@@ -10,11 +10,11 @@ pub returns : goal.returns
 returns c =
     let history = c.in_ok-master.master.history in
     let certificate = c.in_ok-certificate.certificate in
-    let rules = c.in_ok-master.ensures.rules ∙ ap (λ s. s.rules) c.system.ensures.system in
+    let rules = c.in_ok-master.ensures.rules in
     record {
       plan = record {
         history = history;
-        answers = subst (AnswersSteps history) c.steps.ensures.steps c.in_ok-master.ensures.answers;
+        answers = subst (AnswersSteps history) c.as_slice.ensures.list c.in_ok-master.ensures.answers;
         plain = subst (λ r. IsPlainlyLegal r history) rules c.in_ok-master.ensures.plain;
         certificate = certificate;
         made = subst (λ r. IsCertificateOfPlan r history certificate) rules c.in_ok-certificate.ensures.certificate;

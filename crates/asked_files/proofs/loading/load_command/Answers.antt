@@ -1,0 +1,22 @@
+use Rattle.std.proofs.Common.{Some, ap, map, subst}
+use Rattle.ftt_io.specs.Counts.{Rose}
+use Rattle.command_words.specs.WordsRead.{command_read, named}
+use Rattle.asked_files.specs.Asked.{IsNotAsked}
+use Rattle.asked_files.specs.Inputs.{AreRead, nothing_read}
+use Rattle.asked_files.specs.Loads.{AreAllRead, IsHeldUp}
+use Rattle.asked_files.proofs.TaskLemmas.{loaded, never-none, not-loaded}
+use Rattle.asked_files.proofs.LoadLemmas.{handed-on}
+use Rattle.asked_files.proofs.loading.load_command.Goals as goal
+
+pub returns-in_err-inputs-clause-stop : goal.returns-in_err-inputs-clause-stop
+returns-in_err-inputs-clause-stop g c =
+    let command = command_read c.args.command.now in
+    let told = g.S.Shelf.told_files c.args.shelf.now in
+    let rose = Rose (g.S.Shelf.faults c.args.shelf.now) (g.S.Shelf.faults c.fetch_all.new.shelf) in
+    let old = g.S.Shelf.fetches c.args.shelf.now in
+    let new = g.S.Shelf.fetches c.fetch_all.new.shelf in
+    let why = c.in_err-inputs.field-0.0 in
+    let held = subst (λ files. IsHeldUp ⊥ rose told (λ all. AreRead all files nothing_read) files old new why)
+    (ap (map named) c.as_slice.ensures.value) c.in_err-inputs.ensures.stop in
+    handed-on (IsNotAsked (Some command) rose told old new) c.from_residual.result why c.from_residual.ensures.1
+    (not-loaded command told old new rose why held)
