@@ -31,10 +31,10 @@ fn carry_out<O: Sink>(alloc: Global, task: Task, out: &mut O) -> Result<Status, 
         (O.told_bytes out.old) (O.told_bytes out.new) result }
 {
     match task {
-        Task::Log(job, None, report) => as_answer(write_log(alloc, &job, report, out)),
-        Task::Log(job, Some(count), report) => {
-            put_answer(tail_of(alloc, &job, count, report), out)
-        }
+        Task::Log(job, tail, report) => match tail {
+            None => as_answer(write_log(alloc, &job, report, out)),
+            Some(count) => put_answer(tail_of(alloc, &job, count, report), out),
+        },
         Task::Table(job) => put_answer(plan_of(alloc, &job), out),
         Task::Check(job, certificate) => put_answer(check_of(alloc, &job, &certificate), out),
         Task::Summary(number) => put_answer(summary_of_made(alloc, number), out),

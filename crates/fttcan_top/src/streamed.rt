@@ -121,9 +121,10 @@ pub fn write_handed<O: Sink>(alloc: Global, job: &Job, at: u32, out: &mut O) -> 
 pub fn as_answer(ended: Result<Status, Cut>) -> Result<Status, Stop>
     requires done { IfOk ended IsDone }
     ensures done { IfOk result IsDone }
-    ensures carried { (asked_for : Asked) (rose : Type 0) (old new : Option (List ℕ))
+    ensures carried { (asked_for : Asked) (faults faults_after : ℕ) (old new : Option (List ℕ))
         → IfOk ended (λ status. Tells asked_for status old new) → OnErr ended (PutsPart asked_for old new)
-        → (IsErrOf ended Cut.Write → rose) → IsCarried asked_for rose old new result }
+        → (IsErrOf ended Cut.Write → Rose faults faults_after)
+        → IsCarried asked_for (Rose faults faults_after) old new result }
 {
     match ended {
         Ok(status) => Ok(status),

@@ -1,7 +1,7 @@
-use Rattle.std.proofs.Common.{Some, ap, map, subst}
+use Rattle.std.proofs.Common.{◌∙◌, Some, ap, map, option_map, subst, sym}
 use Rattle.ftt_io.specs.Counts.{Rose}
 use Rattle.command_words.specs.WordsRead.{command_read, named}
-use Rattle.asked_files.specs.Asked.{IsNotAsked}
+use Rattle.asked_files.specs.Asked.{IsNotAsked, asked_of}
 use Rattle.asked_files.specs.Inputs.{AreRead, nothing_read}
 use Rattle.asked_files.specs.Loads.{AreAllRead, IsHeldUp}
 use Rattle.asked_files.proofs.TaskLemmas.{loaded, never-none, not-loaded}
@@ -20,3 +20,33 @@ returns-in_err-inputs-clause-stop g c =
     (ap (map named) c.as_slice.ensures.value) c.in_err-inputs.ensures.stop in
     handed-on (IsNotAsked (Some command) rose told old new) c.from_residual.result why c.from_residual.ensures.1
     (not-loaded command told old new rose why held)
+
+pub returns-in-Some-clause-task : goal.returns-in-Some-clause-task
+returns-in-Some-clause-task g c =
+    let told = g.S.Shelf.told_files c.args.shelf.now in
+    let old = g.S.Shelf.fetches c.args.shelf.now in
+    let new = g.S.Shelf.fetches c.fetch_all.new.shelf in
+    let inputs = c.in_ok-inputs.inputs in
+    let all = subst (λ files. AreAllRead told files old new inputs) (ap (map named) c.as_slice.ensures.value) c.in_ok-inputs.ensures.read in
+    let is = ap (option_map asked_of) (sym c.in-Some.is) ∙ c.task_of.ensures.asked in
+    (loaded (command_read c.args.command.now) told old new inputs c.requires.row all c.in-Some.task is).legal
+
+pub returns-in-Some-clause-threads : goal.returns-in-Some-clause-threads
+returns-in-Some-clause-threads g c =
+    let told = g.S.Shelf.told_files c.args.shelf.now in
+    let old = g.S.Shelf.fetches c.args.shelf.now in
+    let new = g.S.Shelf.fetches c.fetch_all.new.shelf in
+    let inputs = c.in_ok-inputs.inputs in
+    let all = subst (λ files. AreAllRead told files old new inputs) (ap (map named) c.as_slice.ensures.value) c.in_ok-inputs.ensures.read in
+    let is = ap (option_map asked_of) (sym c.in-Some.is) ∙ c.task_of.ensures.asked in
+    (loaded (command_read c.args.command.now) told old new inputs c.requires.row all c.in-Some.task is).threads
+
+pub returns-in-Some-clause-asked : goal.returns-in-Some-clause-asked
+returns-in-Some-clause-asked g c =
+    let told = g.S.Shelf.told_files c.args.shelf.now in
+    let old = g.S.Shelf.fetches c.args.shelf.now in
+    let new = g.S.Shelf.fetches c.fetch_all.new.shelf in
+    let inputs = c.in_ok-inputs.inputs in
+    let all = subst (λ files. AreAllRead told files old new inputs) (ap (map named) c.as_slice.ensures.value) c.in_ok-inputs.ensures.read in
+    let is = ap (option_map asked_of) (sym c.in-Some.is) ∙ c.task_of.ensures.asked in
+    (loaded (command_read c.args.command.now) told old new inputs c.requires.row all c.in-Some.task is).asked

@@ -37,17 +37,17 @@ returns-in-Audit-clause-carried g c =
 pub returns-in-Log-None-clause-carried : goal.returns-in-Log-None-clause-carried
 returns-in-Log-None-clause-carried g c =
     rw c.in-Log-None.is
-    (c.as_answer.ensures.carried (log_of c.in-Log-None.job None c.in-Log-None.report) _ _ _ c.write_log.ensures.tells
+    (c.as_answer.ensures.carried (log_of c.in-Log-None.job None c.in-Log-None.report) _ _ _ _ c.write_log.ensures.tells
     c.write_log.ensures.cut c.write_log.ensures.failed)
 
 pub returns-in-Handover-clause-carried : goal.returns-in-Handover-clause-carried
 returns-in-Handover-clause-carried g c =
     rw c.in-Handover.is
-    (c.as_answer-in-Handover.ensures.carried (log_of c.in-Handover.job None false) _ _ _ c.write_handed.ensures.tells
+    (c.as_answer-in-Handover.ensures.carried (log_of c.in-Handover.job None false) _ _ _ _ c.write_handed.ensures.tells
     c.write_handed.ensures.cut c.write_handed.ensures.failed)
 
 pub returns-in-Poll-clause-carried : goal.returns-in-Poll-clause-carried
 returns-in-Poll-clause-carried g c =
     rw (c.in-Poll.is, sym c.into_vec.ensures.list)
-    (c.as_answer-in-Poll.ensures.carried (poll_of c.in-Poll.job c.into_vec.result.items) _ _ _ c.write_polled.ensures.tells
+    (c.as_answer-in-Poll.ensures.carried (poll_of c.in-Poll.job c.into_vec.result.items) _ _ _ _ c.write_polled.ensures.tells
     c.write_polled.ensures.cut c.write_polled.ensures.failed)
