@@ -96,8 +96,8 @@ module _ (told : Option NamedFiles) (files : List NamedFile) (old now i : ℕ) (
   one-counted : (next : ℕ) → next ≡ next_count now → next ≡ count_behind old (going.front ++ file ∷ [])
   one-counted next once = once ∙ ap next_count going.so_far.counted ∙ sym (count-on old going.front file)
 
-  pub most-fetched : (next : ℕ) → next ≡ next_count now → next ≤ old + length (map named files)
-  most-fetched next once = fetched-most old next (going.front ++ file ∷ []) rest sources one-more (one-counted next once)
+  one-fetched : (next : ℕ) → next ≡ next_count now → next ≤ old + length (map named files)
+  one-fetched next once = fetched-most old next (going.front ++ file ∷ []) rest sources one-more (one-counted next once)
 
   -- and read
   pub goes-on : (next : ℕ) (content : Content) (after : Inputs) → next ≡ next_count now
@@ -133,12 +133,30 @@ module _ (told : Option NamedFiles) (files : List NamedFile) (old now i : ℕ) (
         (λ all tells. (inputs, going.so_far.read all tells)) (stops-behind told rose later middle file why more same at);
   }
 
+-- a file, where there is a place of one
+some-file : (files : List NamedFile) (i : ℕ) → i < length files → NamedFile
+some-file [] i within = absurd (omega (arith, within))
+some-file (file ∷ rest) i within = file
+
+-- the file at a place was fetched too, whatever came of it
+pub most-fetched : (told : Option NamedFiles) (files : List NamedFile) (old now i : ℕ) (inputs : Inputs)
+    → i < length files → IsGoing told (map named files) old now (map named (drop i files)) inputs → (next : ℕ)
+    → next ≡ next_count now → next ≤ old + length (map named files)
+most-fetched told files old now i inputs within begun next once =
+    one-fetched told files old now i (some-file files i within) inputs within begun next once
+
+-- the fetches so far
+pub most-so-far : (told : Option NamedFiles) (sources : List NamedSource) (old now : ℕ) (left : List NamedSource)
+    (inputs : Inputs) → IsGoing told sources old now left inputs → now ≤ old + length sources
+most-so-far told sources old now left inputs going =
+    fetched-most old now going.front left sources going.parts going.so_far.counted
+
 -- no file is left
-pub going-ends : (told : Option NamedFiles) (files : List NamedFile) (old now : ℕ) (inputs : Inputs)
-    → IsGoing told (map named files) old now (map named (drop (length files) files)) inputs
+pub going-ends : (told : Option NamedFiles) (files : List NamedFile) (old now i : ℕ) (inputs : Inputs)
+    → length files ≤ i → IsGoing told (map named files) old now (map named (drop i files)) inputs
     → AreAllRead told (map named files) old now inputs
-going-ends told files old now inputs going =
-    let none : map named (drop (length files) files) ≡ [] = ap (map named) (drop_all (length files) files (omega arith)) in
+going-ends told files old now i inputs past going =
+    let none : map named (drop i files) ≡ [] = ap (map named) (drop_all i files past) in
     let all : going.front ≡ map named files =
     sym (going.parts ∙ ap (λ left. going.front ++ left) none ∙ append-nil going.front) in
     subst (λ front. AreAllRead told front old now inputs) all going.so_far

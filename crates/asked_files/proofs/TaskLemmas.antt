@@ -1,5 +1,7 @@
 -- What was read of the files of a row of the table is what its command needs, and it is legal.
-use Rattle.std.proofs.Common.{◌≡◌, ◌∙◌, ℕ, List, [], ◌∷◌, Option, Some, None, Ok, Err, false, refl, sym, ap, arith, codes, inl, inr, option_map, rules, subst, unwrap_or}
+use Rattle.std.proofs.Common.{◌≡◌, ◌∙◌, ℕ, List, [], ◌∷◌, Option, Some, None, Result, Ok, Err, false, refl, sym, ap, arith, codes, inl, inr, option_map, rules, subst, unwrap_or}
+use Rattle.std.specs.Prelude.{◌⊎◌, IsErrOf}
+use Rattle.std.specs.Result.{IsErrAnd}
 use Rattle.std.proofs.lemmas.Option.{same_Some}
 use Rattle.ftt_io.specs.Files.{NamedFiles}
 use Rattle.requests_file.specs.RequestsFile.{AreLegal}
@@ -245,3 +247,14 @@ not-called called told rose count words.Memory why = record {
   barred = tt;
   fetched = record { fetched = []; rest = sources_of called; parts = refl; counted = refl; behind = tt };
 }
+
+-- what a `?` hands on of such words is told
+pub words-stop : (result : Result Task Stop) (fault : WordsFault) → IsErrAnd result (λ now. now ≡ stop_of_words fault)
+    → IsErrOf result Stop.Words ⊎ IsErrOf result Stop.Memory
+words-stop (Ok task) fault is = absurd is
+words-stop (Err now) words.NoCommand is = inl (ap Err is)
+words-stop (Err now) words.Memory is = inr (ap Err is)
+
+-- words that ask for a command do not ask for none
+pub never-called : (command : Command) (called : Option Command) → Some command ≡ called → called ≡ None → ⊥
+never-called command called some none = cc

@@ -27,11 +27,11 @@ module _ (called : Option Command) (told : Option NamedFiles) (before behind : �
   end-stopped (Err now) why is none same = subst (λ stop. EndedSo (Err stop)) (sym is) (stopped why none)
     where
       stopped : (stop : Stop) → IsNotAsked called shelf_rose told before behind stop → EndedSo (Err stop)
-      stopped Words cause = (for, same)
-      stopped (Input refusal) cause = (for, same)
-      stopped Read cause = (for, same)
+      stopped Words cause = record { did = (cause, same) }
+      stopped (Input refusal) cause = record { did = (cause, same) }
+      stopped Read cause = record { did = (cause, same) }
       stopped Write cause = absurd cause.barred
-      stopped Memory cause = inl (for, same)
+      stopped Memory cause = record { did = inl (cause, same) }
 
   -- a call that carried out what it was asked for
   pub end-carried : (ended : Result Status Stop) → IfOk ended IsDone → (asked_for : Asked)
@@ -40,7 +40,7 @@ module _ (called : Option Command) (told : Option NamedFiles) (before behind : �
   end-carried (Ok Status.Refused) done asked_for is tells = record { did = (asked_for, is, tells) }
   end-carried (Ok Status.No) done asked_for is tells = record { did = (asked_for, is, tells) }
   end-carried (Ok _) done asked_for is tells = absurd done
-  end-carried (Err Write) done asked_for is (rose, part) = record { did = (rose, asked_for, is, part) }
+  end-carried (Err Write) done asked_for is (rose, part) = record { did = (rose, (asked_for, is, part)) }
   end-carried (Err Memory) done asked_for is part = record { did = inr (asked_for, is, part) }
   end-carried (Err _) done asked_for is never = absurd never
 

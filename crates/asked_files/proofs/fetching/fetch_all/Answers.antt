@@ -3,7 +3,7 @@ use Rattle.ftt_io.specs.Counts.{Rose}
 use Rattle.command_words.specs.WordsRead.{named}
 use Rattle.asked_files.specs.Inputs.{AreRead, nothing_read}
 use Rattle.asked_files.specs.Loads.{IsHeldUp}
-use Rattle.asked_files.proofs.FetchLemmas.{goes-on, going-ends, going-start, held-up, most-fetched}
+use Rattle.asked_files.proofs.FetchLemmas.{goes-on, going-ends, going-start, held-up, most-fetched, most-so-far}
 use Rattle.asked_files.proofs.LoadLemmas.{handed-on}
 use Rattle.asked_files.proofs.fetching.fetch_all.Goals as goal
 
@@ -22,7 +22,7 @@ returns-in_err-content-clause-fetched g c =
     let loop = c.loop-file.invariant in
     record {
       files_stay = fetched.files_stay ∙ loop.files_stay;
-      counted = most-fetched _ c.args.files.now _ (g.S.Shelf.fetches c.loop-file.shelf) c.loop-file.file-index _ c.loop-file.inputs
+      counted = most-fetched _ c.args.files.now _ (g.S.Shelf.fetches c.loop-file.shelf) c.loop-file.file-index c.loop-file.inputs
           c.loop-file-test.true loop.going (g.S.Shelf.fetches c.fetch_content.new.shelf) c.fetch_content.ensures.once;
       fetches_never_fall = omega (arith, loop.fetches, fetched.fetches_never_fall);
       faults_never_fall = omega (arith, loop.faults, fetched.faults_never_fall);
@@ -57,3 +57,17 @@ loop-file-preserved g c =
       fetches = omega (arith, loop.fetches, fetched.fetches_never_fall);
       faults = omega (arith, loop.faults, fetched.faults_never_fall);
     }
+
+pub returns-clause-fetched : goal.returns-clause-fetched
+returns-clause-fetched g c =
+    let loop = c.loop-file.invariant in
+    record {
+      files_stay = loop.files_stay;
+      counted = most-so-far _ _ _ _ _ _ loop.going;
+      fetches_never_fall = loop.fetches;
+      faults_never_fall = loop.faults;
+    }
+
+pub returns-clause-read : goal.returns-clause-read
+returns-clause-read g c =
+    going-ends _ c.args.files.now _ _ c.loop-file.file-index _ (omega (arith, c.loop-file-test.false)) c.loop-file.invariant.going
