@@ -7,8 +7,8 @@ pub returns-in_err-task-clause-ended : goal.returns-in_err-task-clause-ended
 returns-in_err-task-clause-ended g c =
     end-stopped _ _ _ _ _ _ _ _ _ _ c.from_residual.ensures.1 c.in_err-task.ensures.stop refl
 
-pub returns-in-Live-clause-ended : goal.returns-in-Live-clause-ended
-returns-in-Live-clause-ended g c =
+pub returns-clause-ended : goal.returns-clause-ended
+returns-clause-ended g c =
     end-carried _ _ _ _ _ _ _ _ _ c.put_answer.ensures.done (asked_of c.in_ok-task.task) c.in_ok-task.ensures.asked
     (rw c.in-Live.is
     (c.put_answer.ensures.carried (live_log_of c.in-Live.job c.in-Live.report) c.live_log_of.ensures.log))

@@ -4,10 +4,10 @@ use Rattle.asked_files.specs.Asked.{audit_of, check_of, choice_of, log_of, plan_
 use Rattle.fttcan_top.specs.Audited.{IsAuditText}
 use Rattle.fttcan_top.proofs.program.carry_out.Goals as goal
 
-pub returns-in-Log-Some-clause-carried : goal.returns-in-Log-Some-clause-carried
-returns-in-Log-Some-clause-carried g c =
-    rw c.in-Log-Some.is
-    (c.put_answer.ensures.carried (log_of c.in-Log-Some.job (Some c.in-Log-Some.count) c.in-Log-Some.report) c.tail_of.ensures.log)
+pub returns-in-Some-clause-carried : goal.returns-in-Some-clause-carried
+returns-in-Some-clause-carried g c =
+    rw (c.in-Log.is, c.in-Some.is)
+    (c.put_answer.ensures.carried (log_of c.in-Log.job (Some c.in-Some.count) c.in-Log.report) c.tail_of.ensures.log)
 
 pub returns-in-Table-clause-carried : goal.returns-in-Table-clause-carried
 returns-in-Table-clause-carried g c =
@@ -34,10 +34,10 @@ returns-in-Audit-clause-carried g c =
     c.as_slice.ensures.list c.audit_of.ensures.answer in
     rw c.in-Audit.is (c.put_answer-in-Audit.ensures.carried (audit_of c.in-Audit.job c.in-Audit.log) answer)
 
-pub returns-in-Log-None-clause-carried : goal.returns-in-Log-None-clause-carried
-returns-in-Log-None-clause-carried g c =
-    rw c.in-Log-None.is
-    (c.as_answer.ensures.carried (log_of c.in-Log-None.job None c.in-Log-None.report) _ _ _ _ c.write_log.ensures.tells
+pub returns-in-None-clause-carried : goal.returns-in-None-clause-carried
+returns-in-None-clause-carried g c =
+    rw (c.in-Log.is, c.in-None.is)
+    (c.as_answer.ensures.carried (log_of c.in-Log.job None c.in-Log.report) _ _ _ _ c.write_log.ensures.tells
     c.write_log.ensures.cut c.write_log.ensures.failed)
 
 pub returns-in-Handover-clause-carried : goal.returns-in-Handover-clause-carried
