@@ -49,8 +49,8 @@ job_of _ _ requests = None
 abbrev pub job_in : Inputs → Option Job
 job_in inputs = job_of inputs.system inputs.steps inputs.requests
 
--- what a command asks for of a run, and of one more thing that was read; a handover asks for the log of the replay of the
--- same files, whenever the standby takes over
+-- what a command asks for of a run, and of one more thing that was read; a handover asks for the log of the replay of
+-- the same files, whenever the standby takes over
 abbrev pub asked_by : Verb → Command → Option Job → Inputs → Option Asked
 asked_by Verb.Generate command job inputs = Some (summary_of command.number)
 asked_by Verb.Replay command (Some job) inputs = Some (log_of job command.tail command.report)
@@ -106,11 +106,11 @@ abbrev pub IsOfCalled : Option Command → Asked → Type 0
 IsOfCalled None asked_for = ⊥
 IsOfCalled (Some command) asked_for = IsOfCommand command asked_for
 
--- A call whose words ask for `called`, where `told` are the files, where they are told, and `before` and `behind` are the
--- counts of fetches
+-- A call whose words ask for `called`, where `told` are the files, where they are told, and `before` and `behind` are
+-- the counts of fetches
 
--- it is asked for this: by its files, where they are told, and by its words, whatever the files hold. It fetched all files
--- that the words name, each once
+-- it is asked for this: by its files, where they are told, and by its words, whatever the files hold. It fetched all
+-- files that the words name, each once
 pub record IsAskedFor (called : Option Command) (told : Option NamedFiles) (before behind : ℕ) (asked_for : Asked)
     : Type 0 where
   pub asks : ForSome told (λ files. IsAskedBy files called (Ok asked_for))

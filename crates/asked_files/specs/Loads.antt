@@ -44,8 +44,8 @@ abbrev pub Bars : {S A : Type 0} → (S → Option NamedFiles) → (S → ℕ) �
     → Stop → Type 0
 Bars told_files faults old new IsFor why = IsBarred ⊥ (Rose (faults old) (faults new)) (told_files old) IsFor why
 
--- a call stops for this reason, with so many fetches: of these files it fetched none, where its words ask for nothing, or
--- those up to the first that is refused or could not be read
+-- a call stops for this reason, with so many fetches: of these files it fetched none, where its words ask for nothing,
+-- or those up to the first that is refused or could not be read
 pub record IsHeldUp {A : Type 0} (none rose : Type 0) (told : Option NamedFiles)
     (IsFor : NamedFiles → Result A Stop → Type 0) (sources : List NamedSource) (before behind : ℕ) (why : Stop)
     : Type 0 where
@@ -59,7 +59,8 @@ pub record AreAllRead (told : Option NamedFiles) (sources : List NamedSource) (b
   pub may : MayBeRead sources nothing_read inputs
   pub read : ForSome told (λ files. AreRead files sources nothing_read (Ok inputs))
 
--- what a reader of such files answers to bytes, behind what was read before them: what they mean, or that memory ran out
+-- what a reader of such files answers to bytes, behind what was read before them: what they mean, or that memory ran
+-- out
 abbrev pub Reads : Source → Inputs → List ℕ → Result Content Stop → Type 0
 Reads source before bytes (Ok content) = MayHold source before content × IsMeant source before bytes (Ok content)
 Reads source before bytes (Err (Input refusal)) =

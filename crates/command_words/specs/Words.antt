@@ -132,7 +132,8 @@ argument_rule Report = flag (codes "report")
 
 -- clap's command of a row
 unfoldable pub verb_app : Verb → App
-verb_app verb = fold (λ app argument. with_rule app (argument_rule argument)) (new_app (verb_word verb)) (arguments_of verb)
+verb_app verb =
+    fold (λ app argument. with_rule app (argument_rule argument)) (new_app (verb_word verb)) (arguments_of verb)
 
 -- What is asked
 
@@ -145,9 +146,9 @@ pub record NamedSource : Type 0 where
 abbrev pub file_of : Source → Text → NamedSource
 file_of source name = record { source = source; name = name }
 
--- a command: which one, and the files that it names in the order in which they are fetched; the number of an input, or of
--- opened cycles before a handover; how many of the last rows of a log are asked for, where not all are; and whether a
--- report is
+-- a command: which one, and the files that it names in the order in which they are fetched; the number of an input, or
+-- of opened cycles before a handover; how many of the last rows of a log are asked for, where not all are; and whether
+-- a report is
 pub record Command : Type 0 where
   pub verb : Verb
   pub files : List NamedSource

@@ -80,8 +80,8 @@ said-kept old new rose full is text (inr front) = inr (is front.0, front.1)
 pub rose-some : (before now : ℕ) → Rose before now → now ≢ 0
 rose-some before now rose none = absurd (omega (arith, rose, none))
 
--- what `plain` says of a call over files that are told and over sinks that tell their bytes is a call, where the counts of
--- faults rise only where a room is full, and that of the shelf never does
+-- what `plain` says of a call over files that are told and over sinks that tell their bytes is a call, where the
+-- counts of faults rise only where a room is full, and that of the shelf never does
 pub called : (words spoken : List (List ℕ)) (files : NamedFiles) (before behind : ℕ) (shelf_rose out_rose err_rose : Type 0) (status : Status)
     (refusal : Refusal) (old_out out old_err err : List ℕ) (out_room err_room : ℕ) → spoken ≡ words → old_out ≡ [] → old_err ≡ []
     → (shelf_rose → ⊥) → (out_rose → length out ≡ out_room) → (err_rose → length err ≡ err_room)

@@ -8,8 +8,8 @@ use Rattle.asked_files.specs.declared.tasks.Job.{Job}
 use Rattle.fttcan_top.specs.declared.status.Status.{Status}
 use Rattle.fttcan_top.specs.declared.status.Status.TheVariants.{Done, No}
 
--- what an audit says of these rows: that they are all rows of a whole run; or the least number of first rows that cannot
--- stand; or that all rows can stand, and are not all rows of a whole run
+-- what an audit says of these rows: that they are all rows of a whole run; or the least number of first rows that
+-- cannot stand; or that all rows can stand, and are not all rows of a whole run
 abbrev pub SaysOfRows : Job → List LogRow → Status → List ℕ → Type 0
 SaysOfRows job rows Done text = IsAudited job.system job.steps job.requests rows × (text ≡ codes "yes\n")
 SaysOfRows job rows No text =

@@ -31,8 +31,8 @@ abbrev pub refusal_of : Result Status Stop → Refusal
 refusal_of (Err (Input refusal)) = refusal
 refusal_of _ = Refusal.LaterPlan
 
--- the first bytes of an answer were put; or of the rows of a run that was begun, where the answer is a whole log, which is
--- written while the run goes on
+-- the first bytes of an answer were put; or of the rows of a run that was begun, where the answer is a whole log,
+-- which is written while the run goes on
 abbrev pub PutsPart : Asked → Option (List ℕ) → Option (List ℕ) → Type 0
 PutsPart asked_for old new = TellsFront asked_for old new ⊎ IsCutWhileRun asked_for old new
 
@@ -43,9 +43,9 @@ IsCarried asked_for out_rose old new (Err Write) = out_rose × ((new ≡ old) �
 IsCarried asked_for out_rose old new (Err Memory) = (new ≡ old) ⊎ PutsPart asked_for old new
 IsCarried asked_for out_rose old new (Err _) = ⊥
 
--- What a call did whose words ask for `called`, where `told` are the files, where they are told, `before` and `behind` are
--- the counts of fetches, `shelf_rose` and `out_rose` say that a count of faults rose, and `old` and `new` are what the
--- output tells
+-- What a call did whose words ask for `called`, where `told` are the files, where they are told, `before` and `behind`
+-- are the counts of fetches, `shelf_rose` and `out_rose` say that a count of faults rose, and `old` and `new` are what
+-- the output tells
 module _ (called : Option Command) (told : Option NamedFiles) (before behind : ℕ) (shelf_rose out_rose : Type 0)
     (old new : Option (List ℕ)) where
   -- it was asked for nothing, for this reason, and put nothing
@@ -78,9 +78,9 @@ pub record Ended (called : Option Command) (told : Option NamedFiles) (before be
     (old new : Option (List ℕ)) (ended : Result Status Stop) : Type 0 where
   pub did : Did called told before behind shelf_rose out_rose old new (end_status ended) (refusal_of ended)
 
--- *What a top call says*, of a shelf and of two sinks that show their files, their bytes and their counts so: what it did,
--- and that it put the lines of its status to the second sink. Words that ask for nothing are told, or memory ran out. The
--- files stay, no count falls, and no more fetches are made than the words name files
+-- *What a top call says*, of a shelf and of two sinks that show their files, their bytes and their counts so: what it
+-- did, and that it put the lines of its status to the second sink. Words that ask for nothing are told, or memory ran
+-- out. The files stay, no count falls, and no more fetches are made than the words name files
 pub record Answers (called : Option Command) (told told_after : Option NamedFiles)
     (fetches fetches_after faults faults_after : ℕ) (out out_after : Option (List ℕ)) (out_faults out_faults_after : ℕ)
     (err err_after : Option (List ℕ)) (err_faults err_faults_after : ℕ) (status : Status) : Type 0 where

@@ -35,7 +35,8 @@ pub fn write_polled<O: Sink>(
     ensures done { IfOk result IsDone }
     ensures tells { IfOk result
         (λ status. Tells (poll_of job.now streams.items) status (O.told_bytes out.old) (O.told_bytes out.new)) }
-    ensures cut { OnErr result (PutsPart (poll_of job.now streams.items) (O.told_bytes out.old) (O.told_bytes out.new)) }
+    ensures cut { OnErr result
+        (PutsPart (poll_of job.now streams.items) (O.told_bytes out.old) (O.told_bytes out.new)) }
     ensures failed { IsErrOf result Cut.Write → Rose (O.faults out.old) (O.faults out.new) }
 {
     rows_so_far();

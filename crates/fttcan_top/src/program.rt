@@ -100,7 +100,8 @@ pub fn plain<S: Shelf, O: Sink, R: Sink>(
     out: &mut O,
     err: &mut R,
 ) -> Status
-    ensures answers { Answers (command_of (map string_bytes words.now)) (S.told_files shelf.old) (S.told_files shelf.new)
+    ensures answers { Answers (command_of (map string_bytes words.now))
+        (S.told_files shelf.old) (S.told_files shelf.new)
         (S.fetches shelf.old) (S.fetches shelf.new) (S.faults shelf.old) (S.faults shelf.new)
         (O.told_bytes out.old) (O.told_bytes out.new) (O.faults out.old) (O.faults out.new)
         (R.told_bytes err.old) (R.told_bytes err.new) (R.faults err.old) (R.faults err.new) result }
