@@ -1,13 +1,16 @@
 -- How a call ended, by cases.
-use Rattle.std.proofs.Common.{◌≡◌, List, ℕ, Option, Result, Ok, Err, sym, ap, ◌∙◌, subst, inl, inr}
+use Rattle.std.proofs.Common.{◌≡◌, Bool, true, false, List, ℕ, Option, Result, Ok, Err, refl, sym, ap, ◌∙◌, subst, inl, inr}
 use Rattle.std.specs.Prelude.{◌⊎◌, IfOk, IsErrOf}
 use Rattle.std.specs.Result.{IsErrAnd}
 use Rattle.ftt_io.specs.Files.{NamedFiles}
 use Rattle.command_words.specs.Words.{Command}
-use Rattle.asked_files.specs.Asked.{Asked, IsAskedFor, IsNotAsked}
+use Rattle.asked_files.specs.Asked.{Asked, IsAskedFor, IsNotAsked, asked_of, is_live}
 use Rattle.asked_files.specs.declared.stopping.Refusal.{Refusal}
 use Rattle.asked_files.specs.declared.stopping.Stop.{Stop}
 use Rattle.asked_files.specs.declared.stopping.Stop.TheVariants.{Words, Input, Read, Write, Memory}
+use Rattle.asked_files.specs.declared.tasks.Job.{Job}
+use Rattle.asked_files.specs.declared.tasks.Task.{Task}
+use Rattle.asked_files.specs.declared.tasks.Task.TheVariants as task
 use Rattle.fttcan_top.specs.declared.status.Status.{Status}
 use Rattle.fttcan_top.specs.Ends.{Did, Ended, IsCarried, IsStatusOf, end_status, refusal_of}
 use Rattle.fttcan_top.specs.Output.{IsDone}
@@ -70,3 +73,19 @@ pub command-status : (ended : Result Status Stop) (status : Status) → IsStatus
 command-status ended status (inl same) (inl is) = inl (same ∙ ap end_status is)
 command-status ended status (inl same) (inr is) = inr (same ∙ ap end_status is)
 command-status ended status (inr (input, same)) told = inr same
+
+no-live : false ≡ true → ⊥
+no-live same = cc
+
+-- a task for threads is that of a run by threads
+pub not-live : (one : Task) → ((job : Job) (report : Bool) → one ≡ task.Live job report → ⊥) → is_live (asked_of one) ≡ true
+    → ⊥
+not-live (task.Live job report) other live = other job report refl
+not-live (task.Log job tail report) other live = no-live live
+not-live (task.Table job) other live = no-live live
+not-live (task.Check job certificate) other live = no-live live
+not-live (task.Summary number) other live = no-live live
+not-live (task.Choice job wish) other live = no-live live
+not-live (task.Handover job at) other live = no-live live
+not-live (task.Audit job text) other live = no-live live
+not-live (task.Poll job streams) other live = no-live live
