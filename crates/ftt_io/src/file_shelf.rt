@@ -3,10 +3,10 @@ ghost use Rattle.std.specs.Prelude.{◌≡◌};
 
 use crate::fetch::{FetchFault, Shelf};
 use std::alloc::Global;
+use std::fs::OpenFile;
 use std::io::{ErrorKind, Read};
 use std::marker::Model;
 use std::rt::Files;
-use std::fs::OpenFile;
 use std::{fs, io};
 
 /// So many bytes are read at a time.
