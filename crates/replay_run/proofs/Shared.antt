@@ -6,6 +6,7 @@ use Rattle.std.proofs.lemmas.List.{length-append}
 use Rattle.std.proofs.lemmas.List.Folds.{Any-from_list_any}
 use Rattle.can_frame.specs.declared.data_frame.TimedFrame.{TimedFrame}
 use Rattle.cycle_layout.specs.Layout.{CycleLayout, IsSlots}
+use Rattle.requirement_table.specs.Instance.{bytes_of}
 use Rattle.requirement_table.specs.Slots.{most_slots}
 use Rattle.requirement_table.specs.declared.entries.Order.{Order}
 use Rattle.requirement_table.specs.declared.entries.Placed.{Placed}
@@ -57,7 +58,7 @@ module _ (order : Order) (new : NodesView) (frames : List TimedFrame) where
       × (states_of new.nodes ≡ heard_by frames (learnt_by order.learned states))
       × ((owners : List Owner) (requests : List Request) (placed : List Placed) (past : List TimedFrame)
       → IsBefore layout owners requests placed past order (learnt_by order.learned states)
-      → Follows (offered_in layout requests (opening_of order placed)) past (order.cycle * layout.cycle) ((order.cycle + 1) * layout.cycle) frames)
+      → Follows (offered_in bytes_of layout requests (opening_of order placed)) past (order.cycle * layout.cycle) ((order.cycle + 1) * layout.cycle) frames)
       × ((owners : List Owner) (requests : List Request) (placed : List Placed) (past : List TimedFrame)
       → IsBefore layout owners requests placed past order (learnt_by order.learned states)
       → IsBus layout owners requests placed (past ++ frames) (order.cycle + 1) (states_of new.nodes))
