@@ -142,14 +142,19 @@ module _ (laws : TraceLaws) (setting : Setting) (known : IsSetting setting)
 
 module _ (laws : TraceLaws) (setting : Setting) (known : IsSetting setting) (history : List Event) (trace : List TimedFrame)
     (way : IsUnderWay setting history trace) where
+  -- those of a run under way
+  rows-under-way : (later : List Event) (frames : List TimedFrame) → IsUnderWay setting (history ++ later) frames
+      → events_told frames [] history ≡ events_told trace [] history
+  rows-under-way later frames whole =
+      let (rest, all, behind) = laws.front setting history later trace frames known way whole.legal whole.can_trace in
+      ap (λ l. events_told l [] history) all
+      ∙ rows-same laws setting known history (history ++ later) trace rest way (subst (IsUnderWay setting (history ++ later)) all whole) behind
+
   pub rows-go-on : SendsWhole setting.sends → (later : List Event) (frames : List TimedFrame) → IsLegal setting.rules (history ++ later)
       → IsCanTrace setting.sends setting.layout setting.requests (openings_of (history ++ later)) (next_of (history ++ later)) frames
       → events_told frames [] history ≡ events_told trace [] history
   rows-go-on fully later frames legal is =
-      let (rest, all, behind) = laws.front setting history later trace frames known way legal is in
-      let whole = laws.under_way setting (history ++ later) frames known fully legal is in
-      ap (λ l. events_told l [] history) all
-      ∙ rows-same laws setting known history (history ++ later) trace rest way (subst (IsUnderWay setting (history ++ later)) all whole) behind
+      rows-under-way later frames (laws.under_way setting (history ++ later) frames known fully legal is)
 
   pub log-goes-on : SendsWhole setting.sends → (later : List Event) (frames : List TimedFrame) → IsLegal setting.rules (history ++ later)
       → IsCanTrace setting.sends setting.layout setting.requests (openings_of (history ++ later)) (next_of (history ++ later)) frames
@@ -188,7 +193,7 @@ module _ (laws : TraceLaws) (setting : Setting) (known : IsSetting setting) (his
       ∙ ap (λ l. l ++ filter is_in frames) (none-started setting cycle trace earlier)
       ∙ all-started setting cycle frames here in
       events_told-push (trace ++ frames) history (Open cycle mask)
-      ∙ ap (λ l. l ++ event_told (trace ++ frames) history (Open cycle mask)) (rows-go-on (Open cycle mask ∷ []) (trace ++ frames) new.legal new.can_trace)
+      ∙ ap (λ l. l ++ event_told (trace ++ frames) history (Open cycle mask)) (rows-under-way (Open cycle mask ∷ []) (trace ++ frames) new)
       ∙ ap (λ l. events_told trace [] history
       ++ row.Open cycle mask (width_of (record { cycle = cycle; mask = mask; placed = placed_of history })) ∷ map row.Frame l) started
 
