@@ -1,4 +1,4 @@
--- The headline's definitions: what is written for what the words and the files ask for, and how a call ends.
+-- The headline's definitions: what is written for what the words and the files ask for, and what a status says.
 use Rattle.std.specs.Prelude.{◌≡◌, ℕ, ◌⊎◌, ⊤, Bool, List, [], ◌++◌, length, codes, if◌then◌else◌, Option, None}
 use Rattle.std.specs.Fmt.{decimal}
 use Rattle.can_frame.specs.declared.TimedFrame.{TimedFrame}
@@ -172,7 +172,7 @@ IsCutWhileRun (log_of job None report) old new = TellsBegun job report old new
 IsCutWhileRun (poll_of job streams) old new = TellsPollBegun job streams old new
 IsCutWhileRun _ old new = ⊥
 
--- How a call ends
+-- What a status says
 
 -- what was asked was done
 abbrev pub IsDone : Status → Type 0
