@@ -1,13 +1,8 @@
-use Rattle.std.proofs.Common.{None, Some, false, subst, sym}
+use Rattle.std.proofs.Common.{None, false, subst, sym}
 use Rattle.std.specs.Prelude.{IfOk}
 use Rattle.asked_files.specs.Asked.{audit_of, check_of, choice_of, log_of, plan_of, poll_of, summary_of}
 use Rattle.fttcan_top.specs.Audited.{IsAuditText}
 use Rattle.fttcan_top.proofs.program.carry_out.Goals as goal
-
-pub returns-in-Some-clause-carried : goal.returns-in-Some-clause-carried
-returns-in-Some-clause-carried g c =
-    rw (c.in-Log.is, c.in-Some.is)
-    (c.put_answer.ensures.carried (log_of c.in-Log.job (Some c.in-Some.count) c.in-Log.report) c.tail_of.ensures.log)
 
 pub returns-in-Table-clause-carried : goal.returns-in-Table-clause-carried
 returns-in-Table-clause-carried g c =
@@ -46,8 +41,8 @@ returns-in-Handover-clause-carried g c =
     (c.as_answer-in-Handover.ensures.carried (log_of c.in-Handover.job None false) _ _ _ _ c.write_handed.ensures.tells
     c.write_handed.ensures.cut c.write_handed.ensures.failed)
 
-pub returns-in-Poll-clause-carried : goal.returns-in-Poll-clause-carried
-returns-in-Poll-clause-carried g c =
+pub returns-clause-carried : goal.returns-clause-carried
+returns-clause-carried g c =
     rw (c.in-Poll.is, sym c.into_vec.ensures.list)
     (c.as_answer-in-Poll.ensures.carried (poll_of c.in-Poll.job c.into_vec.result.items) _ _ _ _ c.write_polled.ensures.tells
     c.write_polled.ensures.cut c.write_polled.ensures.failed)
