@@ -9,7 +9,7 @@ returns-clause-called c =
     let plain = c.plain-status.ensures.answers in
     let files = c.args.files in
     called (words_of c.args.words.now) (map string_bytes c.as_slice.result.now)
-    (files_of files.file0.now files.file1.now files.file2.now files.file3.now) files.fetches c.plain-status.new.files.fetches
+    (files_of files.file0.now files.file1.now files.file2.now files.file3.now) files.fetches c.plain-status.new.shelf.fetches
     (Rose 0 0) (Rose c.in_ok-out.out.faults c.plain-status.new.out.faults) (Rose c.in_ok-err.err.faults c.plain-status.new.err.faults)
     c.plain-status.result plain.refusal c.in_ok-out.out.taken c.plain-status.new.out.taken c.in_ok-err.err.taken c.plain-status.new.err.taken
     c.args.out_room c.args.err_room
