@@ -11,35 +11,16 @@ use Rattle.stuff_bound.specs.Stuffing.{worst}
 use Rattle.cycle_layout.specs.Layout.{CycleLayout, IsLayout, async_open, trigger_part}
 use Rattle.requirement_table.specs.Instance.{Instance}
 use Rattle.requirement_table.specs.Opening.{Opening, width_of}
-use Rattle.trigger_codec.specs.Bytes.{second_frame, trigger_frame}
+use Rattle.trigger_kind.specs.Kind.{triggers_of}
+use Rattle.trigger_kind.proofs.Shared.{part-least}
+use Rattle.trigger_codec.specs.Bytes.{trigger_frame}
+use Rattle.trigger_codec.proofs.Shared.{later-room, sent-behind}
 use Rattle.async_window.specs.declared.request.Request.{Request}
 use Rattle.bus_line.specs.Trace.{end_of}
 use Rattle.node_model.specs.Opening.{start_of}
 use Rattle.cycle_engine.specs.Cycle.{IsRequestFrame, IsSlotFrame, RunsCycle, cycle_of, frames_in}
 use Rattle.bounded_runs.specs.Runs.{IsRunOf}
 use Rattle.async_bound.proofs.Shared.{Contains-here, Contains-cases, Contains-nil, Contains-filter, Contains-map}
-
--- the trigger part has room for one frame, and for two where there are two
-part-least : (b : Bool) → 135 ≤ cond b 1 2 * worst 8
-part-least true = omega arith
-part-least false = omega arith
-
-tail-same : (x y : DataFrame) (xs ys : List DataFrame) → x ∷ xs ≡ y ∷ ys → xs ≡ ys
-tail-same x y xs ys same = cc
-
-record IsSecond (b : Bool) (other x : DataFrame) : Type 0 where
-  same : x ≡ other
-  room : 270 ≤ cond b 1 2 * worst 8
-
-second-of : (b : Bool) (first other front : DataFrame) (frames : List DataFrame) (x : DataFrame)
-    → front ∷ frames ≡ first ∷ cond b [] (other ∷ []) → Contains frames x → IsSecond b other x
-second-of true first other front frames x same has =
-    absurd (Contains-nil x (subst (λ fs. Contains fs x) (tail-same front first frames [] same) has))
-second-of false first other front frames x same has =
-    elim (Contains-cases other [] x (subst (λ fs. Contains fs x) (tail-same front first frames (other ∷ []) same) has)) [
-      | inl is ↦ record { same = sym is; room = omega arith }
-      | inr none ↦ absurd (Contains-nil x none)
-    ]
 
 module _ (sends : Instance → List ℕ) (layout : CycleLayout) (known : IsLayout layout) (requests : List Request) (openings : List Opening)
     (count : ℕ) (trace : List TimedFrame) (run : IsRunOf sends layout requests openings count trace)
@@ -71,7 +52,7 @@ module _ (sends : Instance → List ℕ) (layout : CycleLayout) (known : IsLayou
 
     trigger-is : IsApart opening.cycle runs.trigger
     trigger-is =
-        let least : 135 ≤ trigger_part layout = part-least (nat_eq layout.slots 40) in
+        let least : 135 ≤ trigger_part layout = part-least (triggers_of layout.slots) in
         let room = known.room in
         record {
           ends = omega (arith, trigger-ends, least, room);
@@ -81,11 +62,11 @@ module _ (sends : Instance → List ℕ) (layout : CycleLayout) (known : IsLayou
 
     second-is : (sent : TimedFrame) → Contains frames sent → Contains runs.second sent → IsApart opening.cycle sent
     second-is sent has second =
-        let is = second-of (nat_eq layout.slots 40) (trigger_frame opening.cycle (width_of opening) opening.mask) (second_frame opening.cycle opening.mask)
-        runs.trigger.frame (map (λ s. s.frame) runs.second) sent.frame runs.are_triggers (Contains-map (λ s. s.frame) runs.second sent second) in
-        let eight : length (second_frame opening.cycle opening.mask).bytes ≡ 8 = refl in
-        let short = eight-long sent.frame (subst (λ f. length f.bytes ≡ 8) (sym is.same) eight) in
-        let least : 270 ≤ trigger_part layout = is.room in
+        let behind_it = sent-behind layout.slots opening.cycle (width_of opening) opening.mask runs.trigger.frame (map (λ s. s.frame) runs.second) runs.are_triggers in
+        let is = later-room (triggers_of layout.slots) opening.cycle opening.mask sent.frame
+        (subst (λ fs. Contains fs sent.frame) behind_it (Contains-map (λ s. s.frame) runs.second sent second)) in
+        let short = eight-long sent.frame is.0 in
+        let least : 270 ≤ trigger_part layout = is.1 in
         let behind = All-contains (λ s. s.start ≡ end_of runs.trigger) runs.second sent runs.at_once second in
         let room = known.room in
         record {

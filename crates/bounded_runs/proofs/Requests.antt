@@ -9,7 +9,7 @@ use Rattle.can_frame.specs.declared.data_frame.TimedFrame.{TimedFrame}
 use Rattle.cycle_layout.specs.Layout.{CycleLayout}
 use Rattle.requirement_table.specs.Instance.{Instance}
 use Rattle.requirement_table.specs.Opening.{Opening, width_of}
-use Rattle.trigger_codec.specs.Bytes.{second_frame, trigger_frame}
+use Rattle.trigger_codec.proofs.Shared.{low_ids}
 use Rattle.async_window.specs.declared.request.Request.{Request}
 use Rattle.async_window.specs.Waiting.{requests_of}
 use Rattle.bus_line.specs.Trace.{IsLeastOffered, started_before}
@@ -18,12 +18,6 @@ use Rattle.cycle_engine.specs.Offered.{offered, offered_in}
 use Rattle.bounded_runs.specs.Runs.{IsRunOf}
 use Rattle.bounded_runs.proofs.Begun.{begun, begun-step, begun-zero}
 use Rattle.bounded_runs.proofs.Arrivals.{arrived, arrived-le, arrived-least}
-
-low-ids : (b : Bool) (first second : DataFrame) → first.identifier ≤ 1 → second.identifier ≤ 1
-    → All (λ f. f.identifier ≤ 1) (first ∷ cond b [] (second ∷ []))
-low-ids true first second one two = All-cons (λ f. f.identifier ≤ 1) first [] one (All-nil (λ f. f.identifier ≤ 1))
-low-ids false first second one two =
-    All-cons (λ f. f.identifier ≤ 1) first (second ∷ []) one (All-cons (λ f. f.identifier ≤ 1) second [] two (All-nil (λ f. f.identifier ≤ 1)))
 
 module _ (sends : Instance → List ℕ) (layout : CycleLayout) (requests : List Request) (openings : List Opening)
     (count : ℕ) (trace : List TimedFrame) (run : IsRunOf sends layout requests openings count trace)
@@ -39,7 +33,7 @@ module _ (sends : Instance → List ℕ) (layout : CycleLayout) (requests : List
       → offered_in sends layout requests opening (started_before sent.start trace) sent.start sent.frame → OfRequest sent
   from-offer opening sent high (inl trigger) =
       let low = All-contains (λ f. f.identifier ≤ 1) (trigger_frames layout opening) sent.frame
-      (low-ids (nat_eq layout.slots 40) (trigger_frame opening.cycle (width_of opening) opening.mask) (second_frame opening.cycle opening.mask) (omega arith) (omega arith))
+      (low_ids layout.slots opening.cycle (width_of opening) opening.mask)
       trigger.among in
       absurd (omega (arith, high, low))
   from-offer opening sent high (inr (inl its)) = record {

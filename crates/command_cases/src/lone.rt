@@ -1,7 +1,7 @@
 //! Runs of one node, with no requests and one operator.
 
 ghost use Rattle.std.specs.Prelude.{◌≡◌, ◌≤◌, ◌<◌, length};
-ghost use Rattle.profile.specs.Limits.{openings_end};
+ghost use Rattle.profile.specs.Limits.{first_slots, openings_end};
 ghost use Rattle.admission.specs.Verdict.{IsRules};
 
 use crate::gates::{Held, HoldingGate};
@@ -13,6 +13,7 @@ use live_master::LiveMaster;
 use live_run::{ActList, Gate, Script, run_live};
 use master_core::{Event, Master};
 use planner_policies::{Fill, Policy};
+use profile::FIRST_SLOTS;
 use requirement_table::Entry;
 use std::alloc::{AllocError, Global};
 use std::sync::Wait;
@@ -22,12 +23,12 @@ use std::thread::Threads;
 fn rules() -> Rules
     ensures rules { IsRules result }
     ensures nodes { result.nodes ≡ 1 }
-    ensures slots { result.slots ≡ 40 }
+    ensures slots { result.slots ≡ first_slots }
     ensures window { result.window ≡ 135 }
 {
     Rules {
         nodes: 1,
-        slots: 40,
+        slots: FIRST_SLOTS,
         policy: Policy::Rm,
         fill: Fill::Prefix,
         window: 135,
@@ -61,7 +62,7 @@ fn run<T: Threads + Wait + Sync, G: Gate>(
 ) -> Result<Master, AllocError>
     requires cycles { cycles < openings_end }
 {
-    let Ok(layout) = Layout::new(1_000, 0, 135, 40) else {
+    let Ok(layout) = Layout::new(1_000, 0, 135, FIRST_SLOTS) else {
         return Err(AllocError);
     };
     layout.is_in_range();

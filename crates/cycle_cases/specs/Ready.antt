@@ -1,6 +1,6 @@
 -- What holds of the node of a table between two lines.
 use Rattle.std.specs.Prelude.{◌≡◌}
-use Rattle.node_model.specs.Node.{opening_identifier}
+use Rattle.trigger_kind.specs.Kind.{opening_identifier}
 use Rattle.cycle_cases.specs.declared.one_node.Opened.{Opened}
 
 -- the node's next cycle is the number of frames that opened one for it

@@ -1,7 +1,7 @@
 //! Calls of `cycle_layout`.
 
 ghost use Rattle.std.specs.Prelude.{◌≡◌, IfOk};
-ghost use Rattle.cycle_layout.specs.Layout.{IsSlots};
+ghost use Rattle.trigger_kind.specs.Kind.{IsSlots};
 
 use cases::{Fault, Table, cut, length, small, time};
 use cycle_layout::Layout;

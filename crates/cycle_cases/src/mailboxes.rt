@@ -1,6 +1,6 @@
 //! Calls of `async_window`.
 
-ghost use Rattle.cycle_layout.specs.Layout.{IsSlots};
+ghost use Rattle.trigger_kind.specs.Kind.{IsSlots};
 
 use crate::layouts::{after_layout, layout};
 use crate::requests::{are_in_order, requests};

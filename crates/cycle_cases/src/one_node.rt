@@ -1,8 +1,7 @@
 //! Calls of `node_model`.
 
 ghost use Rattle.std.specs.Prelude.{◌≡◌, ◌<◌, ◌^◌, IfSome, IfOk};
-ghost use Rattle.cycle_layout.specs.Layout.{IsSlots};
-ghost use Rattle.node_model.specs.Node.{opening_identifier};
+ghost use Rattle.trigger_kind.specs.Kind.{IsSlots, opening_identifier};
 ghost use Rattle.cycle_cases.specs.Ready.{CountsCycles};
 
 use crate::entries::entries;

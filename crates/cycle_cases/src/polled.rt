@@ -1,13 +1,14 @@
 //! Runs of a bus with one node and one polled slot.
 
 ghost use Rattle.std.specs.Prelude.{◌≡◌, ◌+◌, ◌^◌, ◌<◌, ◌≤◌, true, All, IfOk, IfSome, OnOk};
+ghost use Rattle.profile.specs.Limits.{first_slots};
 ghost use Rattle.requirement_table.specs.Table.{IsWellPlaced};
 ghost use Rattle.sporadic_poll.specs.PolledNodes.{AreNext};
 
 use can_frame::TimedFrame;
 use cases::{Fault, Table, cut, small};
 use cycle_layout::Layout;
-use profile::FIRST_IDENTIFIER;
+use profile::{FIRST_IDENTIFIER, FIRST_SLOTS};
 use requirement_table::{Entry, Mask, Order, Placed, PlacedList, released_in, well_placed};
 use sporadic_poll::{PolledNodes, Stream, read_streams, run_polled};
 use std::alloc::Global;
@@ -19,7 +20,7 @@ const CYCLE: u32 = 1000;
 const WINDOW: u32 = 135;
 
 /// The number of slots.
-const SLOTS: u8 = 40;
+const SLOTS: u8 = FIRST_SLOTS;
 
 /// The longest run, in cycles.
 const LONGEST_RUN: u8 = 10;
@@ -69,9 +70,9 @@ fn asked(alloc: Global, fields: &str) -> Result<String, Fault> {
 
 /// Whether the slots of a set are slots of the bus.
 fn fits(mask: Mask) -> bool
-    ensures slots { result ≡ true → mask < 2 ^ 40 }
+    ensures slots { result ≡ true → mask < 2 ^ first_slots }
 {
-    mask.bits() < 1 << 40
+    mask.bits() < 1 << FIRST_SLOTS
 }
 
 /// The list, where it is to be learnt.
@@ -97,8 +98,8 @@ fn one_cycle(
 ) -> Result<Vec<TimedFrame>, Fault>
     requires well_placed { IsWellPlaced placed.now }
     requires window { nodes.old.nodes.layout.window ≡ 135 }
-    requires slots { nodes.old.nodes.layout.slots ≡ 40 }
-    requires mask { mask < 2 ^ 40 }
+    requires slots { nodes.old.nodes.layout.slots ≡ first_slots }
+    requires mask { mask < 2 ^ first_slots }
     requires next { AreNext cycle nodes.old }
     requires few { cycle < 10 }
     requires short { length ≤ 8 }
@@ -138,7 +139,7 @@ fn run_next(
 ) -> Result<(), Fault>
     requires well_placed { IsWellPlaced placed.now }
     requires window { nodes.old.nodes.layout.window ≡ 135 }
-    requires slots { nodes.old.nodes.layout.slots ≡ 40 }
+    requires slots { nodes.old.nodes.layout.slots ≡ first_slots }
     requires next { AreNext cycle nodes.old }
     requires few { cycle < 10 }
     requires short { entry.length ≤ 8 }
@@ -157,7 +158,7 @@ fn run_next(
 /// cycle and the bytes of each frame of the slot, and then what became of each request. Each request is of one of the
 /// 40 slots of the bus.
 fn run(alloc: Global, streams: &[Stream], entry: Entry, count: u8) -> Result<String, Fault>
-    requires known { All (λ stream. stream.slot < 40) streams.now }
+    requires known { All (λ stream. stream.slot < first_slots) streams.now }
 {
     let placed = [Placed {
         entry,

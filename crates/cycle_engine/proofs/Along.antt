@@ -17,7 +17,9 @@ use Rattle.bus_line.specs.Trace.{Follows, IsNext, NothingOffered, end_of, free_a
 use Rattle.bus_line.specs.Stations.{IsOffered, offers_of, told}
 use Rattle.requirement_table.specs.Opening.{Opening, width_of}
 use Rattle.node_model.specs.Opening.{end_of_cycle, start_of}
-use Rattle.node_model.specs.Node.{IsNode, NodeState, after_hearing, identifiers_of, node_offer, opening_identifier}
+use Rattle.trigger_kind.specs.Kind.{opening_identifier, triggers_of}
+use Rattle.trigger_kind.proofs.Shared.{opening-low}
+use Rattle.node_model.specs.Node.{IsNode, NodeState, after_hearing, identifiers_of, node_offer}
 use Rattle.node_model.specs.Offered.{OffersRequest, trigger_frames}
 use Rattle.async_window.specs.Owners.{AreOwners}
 use Rattle.node_model.specs.Own.{OffersLeastOwn, OffersOwn, Stands, StandsIn}
@@ -70,11 +72,7 @@ IsOwned-kept owners nodes sent request is = record {
 
 -- a frame that is no trigger frame opens no cycle
 pub opens_not : (slots id : ℕ) → 1 < id → id ≡ opening_identifier slots → ⊥
-opens_not slots id high same = low (nat_eq slots 40) same
-  where
-    low : (b : Bool) → id ≡ cond b 0 1 → ⊥
-    low true is = omega (arith, is, high)
-    low false is = omega (arith, is, high)
+opens_not slots id high same = let low = opening-low (triggers_of slots) in omega (arith, same, high, low)
 
 HaveSenders-kept : (opening : Opening) (nodes : List NodeState) (sent : TimedFrame) → HaveSenders nodes opening → HaveSenders (all_hear nodes sent) opening
 HaveSenders-kept opening nodes sent senders slot within flagged =

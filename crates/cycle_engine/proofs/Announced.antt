@@ -12,7 +12,8 @@ use Rattle.requirement_table.specs.Instance.{worst}
 use Rattle.trigger_codec.specs.Bytes.{triggers_with}
 use Rattle.bus_line.specs.Trace.{Follows, IsNext, end_of, free_after}
 use Rattle.bus_line.specs.Stations.{IsOffered, offers_of, told}
-use Rattle.node_model.specs.Node.{IsNode, NodeState, after_hearing, node_offer, opening_identifier}
+use Rattle.trigger_kind.specs.Kind.{opening_identifier}
+use Rattle.node_model.specs.Node.{IsNode, NodeState, after_hearing, node_offer}
 use Rattle.cycle_engine.specs.Nodes.{heard_by}
 use Rattle.cycle_engine.specs.Stations.{DueTrigger, Stationed, all_hear, announced, cycle_line, due_from, frame_by_nodes, offered_by_nodes}
 use Rattle.cycle_engine.specs.SyncWindow.{nodes_alone}

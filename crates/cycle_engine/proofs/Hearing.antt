@@ -3,7 +3,8 @@ use Rattle.std.proofs.Common.{◌≡◌, ◌≢◌, ℕ, ◌+◌, Bool, true, fa
 use Rattle.std.specs.Prelude.{◌==◌, fold}
 use Rattle.std.proofs.lemmas.Bool.{eq-eqb, ne_eqb}
 use Rattle.can_frame.specs.declared.data_frame.TimedFrame.{TimedFrame}
-use Rattle.node_model.specs.Node.{NodeState, after_hearing, is_own_slot, opening_identifier}
+use Rattle.trigger_kind.specs.Kind.{opening_identifier}
+use Rattle.node_model.specs.Node.{NodeState, after_hearing, is_own_slot}
 
 -- one of four nodes
 pub kept_by : (P : NodeState → Type 0) (a b c : Bool) (w x y z : NodeState) → P w → P x → P y → P z → P (cond a w (cond b x (cond c y z)))

@@ -14,7 +14,8 @@ use Rattle.requirement_table.proofs.Shared.{contains_slot-none, contains_slot-se
 use Rattle.trigger_codec.specs.declared.message.Trigger.{Trigger}
 use Rattle.async_window.specs.declared.request.Owner.{Owner}
 use Rattle.async_window.specs.Mailbox.{Mail, unsent_of, without_first}
-use Rattle.node_model.specs.Node.{NodeState, Opened, after_hearing, after_noting, after_opening, after_request, after_slot, counted, entries_of, identifiers_of, is_own_slot, opened_by, opening_identifier, opening_trigger, with_heard}
+use Rattle.trigger_kind.specs.Kind.{opening_identifier}
+use Rattle.node_model.specs.Node.{NodeState, Opened, after_hearing, after_noting, after_opening, after_request, after_slot, counted, entries_of, identifiers_of, is_own_slot, opened_by, opening_trigger, with_heard}
 use Rattle.cycle_engine.specs.Joint.{joint_entries, own_opened, part_of}
 use Rattle.cycle_engine.proofs.Hearing.{kept_by}
 use Rattle.cycle_engine.proofs.JointEntries.{own-id, own-of_all, slots-joint}

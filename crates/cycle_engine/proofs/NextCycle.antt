@@ -6,10 +6,13 @@ use Rattle.std.proofs.lemmas.List.Sums.{fold-append}
 use Rattle.can_frame.specs.DataFrame.{DataFrame}
 use Rattle.can_frame.specs.declared.data_frame.TimedFrame.{TimedFrame}
 use Rattle.cycle_layout.specs.Layout.{CycleLayout}
-use Rattle.trigger_codec.specs.Bytes.{second_frame, trigger_frame, triggers_with}
+use Rattle.trigger_codec.specs.Bytes.{later_frames, second_frame, trigger_frame, triggers_with}
 use Rattle.bus_line.specs.Trace.{Follows, end_of}
 use Rattle.bus_line.specs.Stations.{IsOffered, offers_of, told}
-use Rattle.node_model.specs.Node.{IsNode, NodeState, after_hearing, node_offer, opening_identifier}
+use Rattle.trigger_kind.specs.declared.Triggers.{Triggers}
+use Rattle.trigger_kind.specs.declared.Triggers.TheVariants.{One, Two}
+use Rattle.trigger_kind.specs.Kind.{opening_identifier, opening_of, triggers_of}
+use Rattle.node_model.specs.Node.{IsNode, NodeState, after_hearing, node_offer}
 use Rattle.cycle_engine.specs.Nodes.{heard_by}
 use Rattle.cycle_engine.specs.Stations.{DueTrigger, Stationed, all_hear, announced, cycle_line, offered_by_nodes, triggers_after}
 use Rattle.cycle_engine.specs.SyncWindow.{nodes_alone}
@@ -29,26 +32,26 @@ told-alone (sent ∷ later) before none = told-alone later (cycle_line.next befo
 -- the trigger frames of a cycle open it: the next one is one more
 last_opens : (layout : CycleLayout) (cycle l mask : ℕ) (node : NodeState) (sent : List TimedFrame) → node.layout ≡ layout → node.next ≡ cycle
     → map (λ s. s.frame) sent ≡ triggers_with layout.slots cycle l mask → (fold after_hearing node sent).next ≡ cycle + 1
-last_opens layout cycle l mask node sent same at are = by (nat_eq layout.slots 40) sent refl are
+last_opens layout cycle l mask node sent same at are = by (triggers_of layout.slots) sent refl are
   where
-    opening : (b : Bool) → nat_eq layout.slots 40 ≡ b → (one : NodeState) → one.layout ≡ layout → opening_identifier one.layout.slots ≡ cond b 0 1
-    opening b is one here = ap (λ x. opening_identifier x.slots) here ∙ ap (λ c. cond c 0 1) is
+    opening : (t : Triggers) → triggers_of layout.slots ≡ t → (one : NodeState) → one.layout ≡ layout → opening_identifier one.layout.slots ≡ opening_of t
+    opening t is one here = ap (λ x. opening_identifier x.slots) here ∙ ap opening_of is
 
-    by : (b : Bool) (sent : List TimedFrame) → nat_eq layout.slots 40 ≡ b → map (λ s. s.frame) sent ≡ trigger_frame cycle l mask ∷ cond b [] (second_frame cycle mask ∷ [])
+    by : (t : Triggers) (sent : List TimedFrame) → triggers_of layout.slots ≡ t → map (λ s. s.frame) sent ≡ trigger_frame cycle l mask ∷ later_frames t cycle mask
         → (fold after_hearing node sent).next ≡ cycle + 1
-    by b [] is are = absurd (cc)
-    by true (first ∷ []) is are =
+    by t [] is are = absurd (cc)
+    by One (first ∷ []) is are =
         let frame : first.frame ≡ trigger_frame cycle l mask = cc in
-        next_opened node first (ap (λ f. f.identifier) frame ∙ sym (opening true is node same)) ∙ ap (λ c. c + 1) at
-    by true (first ∷ second ∷ others) is are = absurd (cc)
-    by false (first ∷ []) is are = absurd (cc)
-    by false (first ∷ second ∷ []) is are =
+        next_opened node first (ap (λ f. f.identifier) frame ∙ sym (opening One is node same)) ∙ ap (λ c. c + 1) at
+    by One (first ∷ second ∷ others) is are = absurd (cc)
+    by Two (first ∷ []) is are = absurd (cc)
+    by Two (first ∷ second ∷ []) is are =
         let frame : first.frame ≡ trigger_frame cycle l mask = cc in
         let other : second.frame ≡ second_frame cycle mask = cc in
         let one = after_hearing node first in
-        let kept = next_kept node first (λ opens. absurd (omega (arith, opens, ap (λ f. f.identifier) frame, opening false is node same))) in
-        next_opened one second (ap (λ f. f.identifier) other ∙ sym (opening false is one (layout_kept node first ∙ same))) ∙ ap (λ c. c + 1) (kept ∙ at)
-    by false (first ∷ second ∷ third ∷ others) is are = absurd (cc)
+        let kept = next_kept node first (λ opens. absurd (omega (arith, opens, ap (λ f. f.identifier) frame, opening Two is node same))) in
+        next_opened one second (ap (λ f. f.identifier) other ∙ sym (opening Two is one (layout_kept node first ∙ same))) ∙ ap (λ c. c + 1) (kept ∙ at)
+    by Two (first ∷ second ∷ third ∷ others) is are = absurd (cc)
 
 module _ (in_range : (node : NodeState) (at id : ℕ) → IsNode node → node_offer node at ≡ Some id → (0x100 ≤ id) × (id ≤ 0x7EF))
     (stays : (node : NodeState) (sent : TimedFrame) → (sent.frame.identifier ≡ opening_identifier node.layout.slots → node.next < 2 ^ 42) → IsNode node → IsNode (after_hearing node sent))

@@ -9,7 +9,8 @@ use Rattle.can_frame.specs.declared.data_frame.TimedFrame.{TimedFrame}
 use Rattle.cycle_layout.specs.Layout.{CycleLayout}
 use Rattle.bus_line.specs.Stations.{told}
 use Rattle.requirement_table.specs.declared.entries.Placed.{Placed}
-use Rattle.node_model.specs.Node.{IsNode, NodeState, after_hearing, learnt, node_offer, opening_identifier}
+use Rattle.trigger_kind.specs.Kind.{opening_identifier}
+use Rattle.node_model.specs.Node.{IsNode, NodeState, after_hearing, learnt, node_offer}
 use Rattle.trigger_codec.specs.Bytes.{triggers_with}
 use Rattle.node_model.specs.Own.{AreApart}
 use Rattle.cycle_engine.specs.Stations.{AreDue, AreNodes, AreStations, DueTrigger, Stationed, all_hear, cycle_line, due_from, offered_by_nodes, offered_trigger, triggers_after}

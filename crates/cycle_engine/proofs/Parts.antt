@@ -12,7 +12,8 @@ use Rattle.async_window.specs.declared.request.Owner.{Owner}
 use Rattle.async_window.specs.Mailbox.{Mail, unsent_of, without_first}
 use Rattle.async_window.specs.Owners.{AreOwners}
 use Rattle.async_window.specs.Sorted.{mail_of}
-use Rattle.node_model.specs.Node.{NodeState, NodeView, after_hearing, entries_of, identifiers_of, is_own_slot, opening_identifier}
+use Rattle.trigger_kind.specs.Kind.{opening_identifier}
+use Rattle.node_model.specs.Node.{NodeState, NodeView, after_hearing, entries_of, identifiers_of, is_own_slot}
 use Rattle.cycle_engine.specs.Joint.{identifiers_in, joint_owners, known_by, own_opened, part_of, parts_of}
 use Rattle.cycle_engine.specs.Nodes.{HaveSpare, KeepSpare, heard_by, learnt_by, states_of}
 use Rattle.cycle_engine.proofs.Hearing.{kept_by, number_kept}

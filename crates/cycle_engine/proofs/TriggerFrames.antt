@@ -7,66 +7,19 @@ use Rattle.std.proofs.lemmas.List.Elements.{All-append, All-cons, All-contains, 
 use Rattle.can_frame.specs.DataFrame.{DataFrame}
 use Rattle.can_frame.specs.Wire.{wire_length}
 use Rattle.can_frame.specs.declared.data_frame.TimedFrame.{TimedFrame}
-use Rattle.cycle_layout.specs.Layout.{CycleLayout, trigger_part, trigger_part_of}
+use Rattle.cycle_layout.specs.Layout.{CycleLayout, trigger_part}
 use Rattle.requirement_table.specs.Instance.{Instance, worst}
-use Rattle.trigger_codec.specs.Bytes.{second_frame, trigger_frame, triggers_with}
+use Rattle.trigger_codec.specs.Bytes.{triggers_with}
+use Rattle.trigger_codec.proofs.Shared.{eight_bytes}
+pub use Rattle.trigger_codec.proofs.Shared.{few_frames, frames_long, low_ids, opens_last, rising}
 use Rattle.async_window.specs.declared.request.Request.{Request}
 use Rattle.bus_line.specs.Trace.{Follows, IsNext, Offers, end_of, free_after}
 use Rattle.requirement_table.specs.Opening.{Opening, width_of}
 use Rattle.node_model.specs.Opening.{start_of}
-use Rattle.node_model.specs.Node.{opening_identifier}
+use Rattle.trigger_kind.specs.Kind.{opening_identifier}
 use Rattle.node_model.specs.Offered.{OffersRequest, OffersTrigger, trigger_frames}
 use Rattle.cycle_engine.specs.Offered.{offered_in}
 use Rattle.cycle_engine.proofs.Lists.{AllPairs-cons, AllPairs-head, AllPairs-tail, Contains-cases, Contains-from_map, Contains-here, Contains-later, Contains-nil}
-
--- The frames themselves
-
--- what holds of the first frame, and of the second one
-of_frames : (P : DataFrame → Type 0) (one : Bool) (first second : DataFrame) → P first → P second → All P (first ∷ cond one [] (second ∷ []))
-of_frames P true first second is_first is_second = All-cons P first [] is_first (All-nil P)
-of_frames P false first second is_first is_second = All-cons P first (second ∷ []) is_first (All-cons P second [] is_second (All-nil P))
-
-pairs_of : (R : DataFrame → DataFrame → Type 0) (one : Bool) (first second : DataFrame) → (one ≡ false → R first second) → AllPairs R (first ∷ cond one [] (second ∷ []))
-pairs_of R true first second both = AllPairs-cons R first [] (All-nil (R first)) (λ i j d before within. absurd (omega arith))
-pairs_of R false first second both =
-    AllPairs-cons R first (second ∷ []) (All-cons (R first) second [] (both refl) (All-nil (R first)))
-    (AllPairs-cons R second [] (All-nil (R second)) (λ i j d before within. absurd (omega arith)))
-
-module _ (slots cycle l mask : ℕ) where
-  abbrev all_frames : List DataFrame
-  all_frames = triggers_with slots cycle l mask
-
-  -- their identifiers are below those of all other frames, and rise
-  pub low_ids : All (λ frame. frame.identifier ≤ 1) all_frames
-  low_ids = of_frames (λ frame. frame.identifier ≤ 1) (nat_eq slots 40) (trigger_frame cycle l mask) (second_frame cycle mask) (omega arith) (omega arith)
-
-  pub rising : AllPairs (λ one other. one.identifier < other.identifier) all_frames
-  rising = pairs_of (λ one other. one.identifier < other.identifier) (nat_eq slots 40) (trigger_frame cycle l mask) (second_frame cycle mask) (λ _. omega arith)
-
-  -- none but the last one opens the cycle
-  pub opens_last : AllPairs (λ one other. one.identifier ≢ opening_identifier slots) all_frames
-  opens_last = pairs_of (λ one other. one.identifier ≢ opening_identifier slots) (nat_eq slots 40) (trigger_frame cycle l mask) (second_frame cycle mask)
-      (λ two same. let one : opening_identifier slots ≡ 1 = ap (λ b. cond b 0 1) two in absurd (omega (arith, same, one)))
-
-  -- each has 8 bytes
-  pub eight_bytes : All (λ frame. length frame.bytes ≡ 8) all_frames
-  eight_bytes = of_frames (λ frame. length frame.bytes ≡ 8) (nat_eq slots 40) (trigger_frame cycle l mask) (second_frame cycle mask) refl refl
-
-  -- so many there are
-  count_by : (one : Bool) (first second : DataFrame) → length (first ∷ cond one [] (second ∷ [])) * 135 ≡ cond one 1 2 * worst 8
-  count_by true first second = refl
-  count_by false first second = refl
-
-  pub frames_long : length all_frames * 135 ≡ trigger_part_of slots
-  frames_long = count_by (nat_eq slots 40) (trigger_frame cycle l mask) (second_frame cycle mask)
-
--- there are at most two
-pub few_frames : (slots cycle l mask : ℕ) → length (triggers_with slots cycle l mask) ≤ 2
-few_frames slots cycle l mask = few (nat_eq slots 40)
-  where
-    few : (one : Bool) → length (trigger_frame cycle l mask ∷ cond one [] (second_frame cycle mask ∷ [])) ≤ 2
-    few true = omega arith
-    few false = omega arith
 
 -- so long each is at most
 pub frames_short : (slots cycle l mask : ℕ) → ((frame : DataFrame) → wire_length frame ≤ worst (length frame.bytes))

@@ -13,7 +13,8 @@ use Rattle.requirement_table.specs.Instance.{worst}
 use Rattle.trigger_codec.specs.Bytes.{triggers_with}
 use Rattle.bus_line.specs.Trace.{AgreeAlong, Follows, end_of, free_after}
 use Rattle.bus_line.specs.Stations.{IsOffered, Ran, offers_of, told}
-use Rattle.node_model.specs.Node.{IsNode, NodeState, after_hearing, node_offer, opening_identifier}
+use Rattle.trigger_kind.specs.Kind.{opening_identifier}
+use Rattle.node_model.specs.Node.{IsNode, NodeState, after_hearing, node_offer}
 use Rattle.node_model.specs.Window.{IsInWindow}
 use Rattle.cycle_engine.specs.Nodes.{heard_by}
 use Rattle.cycle_engine.specs.Stations.{AreNodes, Stationed, announced, cycle_line}

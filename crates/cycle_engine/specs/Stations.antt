@@ -10,7 +10,7 @@ use Rattle.can_frame.specs.declared.data_frame.TimedFrame.{TimedFrame}
 use Rattle.cycle_layout.specs.Layout.{CycleLayout}
 use Rattle.bus_line.specs.Stations.{Line}
 use Rattle.node_model.specs.Node.{IsNode, NodeState, NodeView, after_hearing, node_frame, node_offer}
-use Rattle.node_model.specs.Node.{opening_identifier}
+use Rattle.trigger_kind.specs.Kind.{opening_identifier}
 use Rattle.node_model.specs.Own.{AreApart}
 use Rattle.cycle_engine.specs.declared.stations.Due.{Due}
 

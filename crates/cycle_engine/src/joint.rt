@@ -28,10 +28,7 @@ use node_model::laws::{
     hears_a_cycle, offers_in_range, offers_its_part, sends_its_slots, stays_a_node,
 };
 use requirement_table::Order;
-use trigger_codec::{encode, encode_second};
-
-/// The number of slots of a table whose trigger is one frame.
-const SLOTS_OF_ONE: u8 = 40;
+use trigger_codec::{encode, encode_later};
 
 /// Runs the cycle of an order on the bus. The frames of the cycle take the place of those of the list, which has room for
 /// them: one for every 47 bit times, and one.
@@ -126,19 +123,15 @@ fn run_up_to_window(order: &Order, stations: &mut NodeStations, frames: &mut Vec
     let start = order.cycle * u64::from(layout.cycle());
     let window = layout.sync_start(order.cycle, order.l);
     let first = encode(order.cycle, order.l, order.mask);
-    let second = second_trigger(&layout, order);
-    stations.announce(start, first, second);
+    let later = later_trigger(&layout, order);
+    stations.announce(start, first, later);
     window.max(run_until(stations, start, window, frames))
 }
 
-/// The second trigger frame of the cycle of an order, where the layout has one.
-fn second_trigger(layout: &Layout, order: &Order) -> Option<Frame>
+/// The trigger frame of the cycle of an order behind the first one, where the layout has one.
+fn later_trigger(layout: &Layout, order: &Order) -> Option<Frame>
     ensures frames { (l : ℕ) → trigger_frame order.now.cycle l order.now.mask ∷ cons_option result []
         ≡ triggers_with layout.now.slots order.now.cycle l order.now.mask }
 {
-    if layout.slots() == SLOTS_OF_ONE {
-        None
-    } else {
-        Some(encode_second(order.cycle, order.mask))
-    }
+    encode_later(layout.triggers(), order.cycle, order.mask)
 }

@@ -1,8 +1,9 @@
 -- The windows of an elementary cycle. Lengths and times are bit times; cycle c covers the times from c·E to below
 -- (c + 1)·E, and its first trigger frame starts at c·E.
-use Rattle.std.specs.Prelude.{◌≡◌, ℕ, ◌+◌, ◌-◌, ◌*◌, ◌≤◌, ◌⊎◌, nat_eq, if◌then◌else◌}
+use Rattle.std.specs.Prelude.{ℕ, ◌+◌, ◌-◌, ◌*◌, ◌≤◌}
 use Rattle.profile.specs.Limits.{longest_cycle, longest_turnaround, longest_window, shortest_cycle, shortest_window}
 use Rattle.stuff_bound.specs.Stuffing.{worst}
+use Rattle.trigger_kind.specs.Kind.{IsSlots, part_of, triggers_of}
 
 -- the length E of each cycle, the turnaround R behind the trigger part, the largest synchronous window W, and the number
 -- of slots S
@@ -26,25 +27,13 @@ IsTurnaround turnaround = IsWithin 0 longest_turnaround turnaround
 abbrev pub IsWindow : ℕ → Type 0
 IsWindow window = IsWithin shortest_window longest_window window
 
--- a table has 40 slots or 96
-abbrev pub IsSlots : ℕ → Type 0
-IsSlots slots = (slots ≡ 40) ⊎ (slots ≡ 96)
-
--- how many trigger frames flag so many slots: one has room for 40, and a second one for 56 more
-abbrev pub trigger_count : ℕ → ℕ
-trigger_count slots = if nat_eq slots 40 then 1 else 2
-
--- how long the longest trigger frames are together, of 8 data bytes each: the trigger part of a cycle with so many slots
-abbrev pub trigger_part_of : ℕ → ℕ
-trigger_part_of slots = trigger_count slots * worst 8
-
 -- G, the trigger part of each cycle
 abbrev pub trigger_part : CycleLayout → ℕ
-trigger_part layout = trigger_part_of layout.slots
+trigger_part layout = part_of (triggers_of layout.slots)
 
 -- how long the trigger part, the turnaround and the largest synchronous window are together
 abbrev pub needed : ℕ → ℕ → ℕ → ℕ
-needed turnaround window slots = trigger_part_of slots + turnaround + window
+needed turnaround window slots = part_of (triggers_of slots) + turnaround + window
 
 -- what is true of every layout: the four numbers are in range, and the cycle has room for what it needs
 pub record IsLayout (layout : CycleLayout) : Type 0 where

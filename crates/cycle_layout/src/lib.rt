@@ -4,7 +4,8 @@
 
 ghost use Rattle.std.specs.Prelude.{◌≡◌, ℕ, ◌+◌, ◌*◌, ◌/◌, ◌<◌, ◌≤◌, ◌↔◌, IfErr, IfOk, IsTrue};
 ghost use Rattle.profile.specs.Limits.{cycles_end};
-ghost use Rattle.cycle_layout.specs.Layout.{IsAllowed, IsLayout, IsSlots, async_open, sync_start, trigger_part, trigger_part_of};
+ghost use Rattle.trigger_kind.specs.Kind.{IsSlots, triggers_of};
+ghost use Rattle.cycle_layout.specs.Layout.{IsAllowed, IsLayout, async_open, sync_start, trigger_part};
 ghost use Rattle.cycle_layout.specs.LayoutFault.{Refuses};
 
 use profile::{LONGEST_CYCLE, LONGEST_TURNAROUND, LONGEST_WINDOW, SHORTEST_CYCLE, SHORTEST_WINDOW};
@@ -12,12 +13,7 @@ use std::error::Error;
 use std::fmt;
 use std::marker::Model;
 use stuff_bound::bound;
-
-/// The number of data bytes of a trigger frame.
-const TRIGGER_BYTES: u8 = 8;
-
-/// The number of slots that one trigger frame flags.
-const SLOTS_OF_ONE: u8 = 40;
+use trigger_kind::Triggers;
 
 /// What is the same in every cycle: the lengths of the cycle itself, of the turnaround behind the
 /// trigger part and of the largest synchronous window, and the number of slots.
@@ -75,14 +71,6 @@ impl fmt::Display for LayoutFault {
 
 impl Error for LayoutFault {}
 
-/// How long the longest trigger frames are together that flag so many slots, in bit times.
-fn trigger_part_of(slots: u8) -> u32
-    ensures value { result ≡ trigger_part_of slots }
-{
-    let one = bound(TRIGGER_BYTES);
-    if slots == SLOTS_OF_ONE { one } else { 2 * one }
-}
-
 impl Layout {
     /// The layout with cycles of `e` bit times, the turnaround `r`, synchronous windows of at most
     /// `w` bit times, and `slots` slots, 40 or 96.
@@ -105,7 +93,7 @@ impl Layout {
         if !(SHORTEST_WINDOW..=LONGEST_WINDOW).contains(&w) {
             return Err(LayoutFault::WindowRange);
         }
-        let need = trigger_part_of(slots) + r + w;
+        let need = Triggers::of(slots).part() + r + w;
         if need > e {
             return Err(LayoutFault::TooNarrow { need, have: e });
         }
@@ -156,13 +144,21 @@ impl Layout {
         self.slots
     }
 
+    /// The trigger frames of each cycle: one with 40 slots, two with 96.
+    pub fn triggers(&self) -> Triggers
+        ensures kind { result ≡ triggers_of self.now.slots }
+        ensures known { IsLayout self.now }
+    {
+        Triggers::of(self.slots)
+    }
+
     /// G, the trigger part: the length of the longest trigger frames of a cycle together, 135 bit
     /// times with 40 slots and 270 with 96.
     pub fn trigger_part(&self) -> u32
         ensures value { result ≡ trigger_part self.now }
         ensures known { IsLayout self.now }
     {
-        trigger_part_of(self.slots)
+        self.triggers().part()
     }
 
     /// The start of the asynchronous window of a cycle.

@@ -1,6 +1,6 @@
 -- A core that C can have a master of stays one.
 use Rattle.std.proofs.Common.{◌≡◌, ℕ, Bool, true, false, if◌then◌else◌, refl, sym, ◌∙◌, subst}
-use Rattle.cycle_layout.specs.Layout.{IsSlots}
+use Rattle.trigger_kind.specs.Kind.{IsSlots}
 use Rattle.change_protocol.specs.declared.operations.Change.{Change}
 use Rattle.admission_rules.specs.declared.Rules.{Rules}
 use Rattle.admission.specs.declared.verdict.Verdict.{Verdict}

@@ -1,7 +1,7 @@
 -- The core of a saved state is saved as that state again, and the bytes of what is saved of a core are those of no other.
 use Rattle.std.proofs.Common.{◌≡◌, ℕ, ◌+◌, ◌*◌, length, Bool, true, false, List, Option, Some, None, refl, sym, ap, ◌∙◌, subst, true≢false}
 use Rattle.std.specs.Prelude.{is_some, not, if◌then◌else◌}
-use Rattle.cycle_layout.specs.Layout.{IsSlots}
+use Rattle.trigger_kind.specs.Kind.{IsSlots}
 use Rattle.requirement_table.specs.declared.entries.Placed.{Placed}
 use Rattle.master_core.specs.Cores.{CoreView, IsCore, core_of, saved_of}
 use Rattle.master_core.specs.declared.saved.Saved.{Saved}

@@ -17,7 +17,7 @@ use Rattle.master_core.specs.Cores.{CoreView, IsStateOf, onward, opened}
 use Rattle.master_core.specs.History.{IsLegal, IsRightAnswer}
 use Rattle.trigger_codec.specs.Bytes.{triggers_with}
 use Rattle.standby.specs.Core.{core_of}
-use Rattle.standby.specs.Hearing.{heard_of}
+use Rattle.trigger_codec.specs.Heard.{heard_of}
 use Rattle.master_handle.specs.declared.held.Held.{Held}
 use Rattle.master_handle.specs.declared.held.Held.TheVariants.{Master, Standby}
 use Rattle.fttcan_c.specs.declared.hearing.Astray.{Astray}

@@ -4,7 +4,8 @@ use Rattle.std.specs.Prelude.{◌≡◌, ℕ, ◌+◌, ◌*◌, ◌^◌, ◌<◌
 use Rattle.std.specs.Prelude.{nat_eq, if◌then◌else◌}
 use Rattle.profile.specs.Limits.{greatest_identifier, longest_window}
 use Rattle.can_frame.specs.DataFrame.{DataFrame}
-use Rattle.cycle_layout.specs.Layout.{CycleLayout, IsSlots}
+use Rattle.trigger_kind.specs.Kind.{IsSlots}
+use Rattle.cycle_layout.specs.Layout.{CycleLayout}
 use Rattle.requirement_table.specs.declared.entries.Entry.{Entry}
 use Rattle.requirement_table.specs.declared.entries.Placed.{Placed}
 use Rattle.change_protocol.specs.declared.operations.Op.{Op}

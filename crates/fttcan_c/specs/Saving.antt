@@ -1,6 +1,6 @@
 -- The state of a master as bytes, and the master that is made of them.
 use Rattle.std.specs.Prelude.{◌≡◌, ℕ, ◌+◌, ◌*◌, [], List, length, true}
-use Rattle.cycle_layout.specs.Layout.{IsSlots}
+use Rattle.trigger_kind.specs.Kind.{IsSlots}
 use Rattle.master_core.specs.Cores.{CoreView, IsCore, saved_of}
 use Rattle.saved_state.specs.Bytes.{AreBytesOf}
 use Rattle.master_handle.specs.declared.held.Held.{Held}

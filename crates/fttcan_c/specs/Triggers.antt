@@ -1,9 +1,10 @@
 -- The trigger frames of a cycle, as C has them.
 use Rattle.std.specs.Prelude.{◌≡◌, ℕ, ◌<◌, List, [], ◌∷◌, All, Some, None}
+use Rattle.profile.specs.Limits.{first_slots, most_slots}
 use Rattle.can_frame.specs.DataFrame.{DataFrame}
-use Rattle.cycle_layout.specs.Layout.{IsSlots}
+use Rattle.trigger_kind.specs.Kind.{IsSlots}
 use Rattle.trigger_codec.specs.Bytes.{triggers_with}
-use Rattle.standby.specs.Hearing.{heard_of}
+use Rattle.trigger_codec.specs.Heard.{heard_of}
 use Rattle.fttcan_c.specs.declared.plain.FttFrame.{FttFrame}
 use Rattle.fttcan_c.specs.declared.plain.FttTrigger.{FttTrigger}
 use Rattle.fttcan_c.specs.declared.refusal.Refusal.{Refusal}
@@ -38,10 +39,10 @@ RefusesTrigger slots frames Open = ⊥
 RefusesTrigger slots frames Text = IsSlots slots × All IsFrameIn frames × IsNoTrigger slots (frames_of frames)
 RefusesTrigger slots frames No = ⊥
 
--- the same of one frame with 40 slots, and of two with 96
+-- the same of one frame, with as many slots as it flags, and of two
 
 abbrev pub RefusesOne : FttFrame → Refusal → Type 0
-RefusesOne only refusal = RefusesTrigger 40 (only ∷ []) refusal
+RefusesOne only refusal = RefusesTrigger first_slots (only ∷ []) refusal
 
 abbrev pub RefusesTwo : FttFrame → FttFrame → Refusal → Type 0
-RefusesTwo first second refusal = RefusesTrigger 96 (first ∷ second ∷ []) refusal
+RefusesTwo first second refusal = RefusesTrigger most_slots (first ∷ second ∷ []) refusal

@@ -18,7 +18,6 @@ ghost use Rattle.fttcan_c.specs.Room.{IsFilled, IsShort};
 ghost use Rattle.fttcan_c.specs.Told.{frame_told, place_told};
 
 use crate::plain::{FttFrame, FttLayout};
-use crate::plain_in::are_slots;
 use crate::plain_out::frame_out;
 use crate::refusal::{OK, Refusal};
 use crate::room::put;
@@ -27,6 +26,7 @@ use can_frame::{Frame, WireFault, read_wire, wire, wire_len};
 use cycle_layout::Layout;
 use requirement_table::Payload;
 use std::alloc::{AllocError, Global};
+use trigger_kind::are_slots;
 
 /// The wire length of the frame with this identifier, up to 0x7EF, and these data bytes, at most 8: bit times with the
 /// three of intermission.

@@ -2,7 +2,7 @@
 
 ghost use Rattle.std.specs.Prelude.{◌≡◌, ◌≢◌, Some, None, All, IfErr, IfOk, OnErr, OnOk};
 ghost use Rattle.master_core.specs.Cores.{CoreView, IsCoreUpcoming};
-ghost use Rattle.standby.specs.Hearing.{heard_of};
+ghost use Rattle.trigger_codec.specs.Heard.{heard_of};
 ghost use Rattle.master_handle.specs.declared.held.Held.{Held as HeldOf};
 ghost use Rattle.fttcan_c.specs.declared.refusal.Refusal.{Refusal as RefusalOf};
 ghost use Rattle.fttcan_c.specs.declared.refusal.Refusal.TheVariants.{Argument};
@@ -20,10 +20,10 @@ use master_core::Core;
 use master_handle::{FttHandle, Held};
 use profile::OPENINGS_END;
 use requirement_table::Mask;
-use standby::laws::trigger_frames;
 use standby::{Heard, hear};
 use std::alloc::Global;
 use std::mem;
+use trigger_codec::laws::triggers_are_heard;
 
 /// Why a standby does not follow trigger frames.
 #[derive(Clone, Copy, PartialEq, Eq, Debug)]
@@ -106,7 +106,7 @@ fn heard_by(core: &mut Core, frames: &[FttFrame]) -> Result<Option<Astray>, Refu
     ensures same { OnErr result (core.new ≡ core.old) }
     ensures refused { IfErr result (RefusesFrames frames.now core.old) }
 {
-    trigger_frames();
+    triggers_are_heard();
     core.known();
     if !are_frames(frames) {
         return Err(Refusal::Argument);

@@ -2,7 +2,6 @@
 
 ghost use Rattle.std.specs.Prelude.{◌≡◌, ◌<◌, ◌≤◌, ◌^◌, ◌↔◌, All, IsTrue, IfErr, IfOk, OnOk, map};
 ghost use Rattle.can_frame.specs.DataFrame.{IsFrame};
-ghost use Rattle.cycle_layout.specs.Layout.{IsSlots};
 ghost use Rattle.requirement_table.specs.Table.{IsWellPlaced};
 ghost use Rattle.fttcan_c.specs.declared.refusal.Refusal.TheVariants.{Argument};
 ghost use Rattle.fttcan_c.specs.Plain.{AreRules, IsFrameIn, IsMask, IsOp};
@@ -18,6 +17,7 @@ use planner_policies::{Fill, Policy};
 use profile::{GREATEST_HORIZON, GREATEST_IDENTIFIER, LONGEST_WINDOW, MOST_NODES, SHORTEST_WINDOW};
 use requirement_table::{Entry, Mask, Placed, well_placed};
 use std::alloc::{AllocError, Global};
+use trigger_kind::are_slots;
 
 /// The high word of a set of slots is below this.
 const HIGH_END: u64 = 1 << 32;
@@ -35,13 +35,6 @@ pub fn mask_in(mask: FttMask) -> Mask
     ensures value { result ≡ mask_of mask }
 {
     Mask::from_bits((u128::from(mask.high) << 64) + u128::from(mask.low))
-}
-
-/// Whether there are 40 or 96 slots.
-pub fn are_slots(slots: u8) -> bool
-    ensures slots { IsTrue result ↔ IsSlots slots }
-{
-    slots == 40 || slots == 96
 }
 
 /// Whether a frame has an identifier up to 0x7EF, and at most 8 bytes in use.

@@ -11,7 +11,6 @@ ghost use Rattle.fttcan_c.specs.Refused.{status_of};
 ghost use Rattle.fttcan_c.specs.Room.{IsFilled, IsShort};
 ghost use Rattle.fttcan_c.specs.Saving.{AreBytesOfCore, HasBytes, IsCoreOfBytes, IsForC, IsRestored, RefusesRestore};
 
-use crate::plain_in::are_slots;
 use crate::refusal::{OK, Refusal};
 use crate::room::put;
 use admission::Trail;
@@ -21,6 +20,7 @@ use saved_state::laws::one_state;
 use saved_state::{ReadFault, read, write};
 use std::alloc::{AllocError, Global};
 use std::mem;
+use trigger_kind::are_slots;
 
 /// The bytes of what is saved of a core.
 fn bytes_of_core(alloc: Global, core: &Core) -> Result<Vec<u8>, AllocError>

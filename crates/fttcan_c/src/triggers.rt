@@ -1,7 +1,8 @@
 //! The trigger frames of a cycle, written and read.
 
 ghost use Rattle.std.specs.Prelude.{◌≡◌, ◌≢◌, ◌<◌, ◌≤◌, ◌^◌, ◌↔◌, ◌∷◌, [], All, IfErr, IfOk, IsTrue, OnOk, map};
-ghost use Rattle.cycle_layout.specs.Layout.{IsSlots};
+ghost use Rattle.profile.specs.Limits.{first_slots, most_slots};
+ghost use Rattle.trigger_kind.specs.Kind.{IsSlots, slots_of};
 ghost use Rattle.fttcan_c.specs.declared.refusal.Refusal.{Refusal as RefusalOf};
 ghost use Rattle.fttcan_c.specs.declared.refusal.Refusal.TheVariants.{Room};
 ghost use Rattle.fttcan_c.specs.Plain.{IsFrameIn, IsTriggerIn, frame_of, frames_of, mask_of};
@@ -11,25 +12,21 @@ ghost use Rattle.fttcan_c.specs.Told.{frame_told};
 ghost use Rattle.fttcan_c.specs.Triggers.{IsTold, RefusesOne, RefusesTrigger, RefusesTwo, frames_told};
 
 use crate::plain::{FttFrame, FttMask, FttTrigger};
-use crate::plain_in::{are_frames, are_slots, frame_in, is_mask, mask_in};
+use crate::plain_in::{are_frames, frame_in, is_mask, mask_in};
 use crate::plain_out::{frame_out, mask_out};
 use crate::refusal::{OK, Refusal};
 use crate::room::put;
-use profile::LONGEST_WINDOW;
-use trigger_codec::{decode, decode_second, encode, encode_second, flags_of_both};
+use profile::{FIRST_SLOTS, LONGEST_WINDOW};
+use trigger_codec::{decode, decode_second, encode, encode_later, flags_of_both};
+use trigger_kind::{Triggers, are_slots};
 
-/// With so many slots one frame flags all of them.
-const SLOTS_OF_ONE: u8 = 40;
-
-/// Whether a set has slots alone that are below 40, or below 96.
-fn has_slots(mask: FttMask, slots: u8) -> bool
-    requires slots { IsSlots slots }
-    ensures within { IsTrue result ↔ (mask_of mask < 2 ^ slots) }
+/// Whether a set has slots alone that these trigger frames flag.
+fn has_slots(mask: FttMask, triggers: Triggers) -> bool
+    ensures within { IsTrue result ↔ (mask_of mask < 2 ^ slots_of triggers) }
 {
-    if slots == SLOTS_OF_ONE {
-        mask.high == 0 && mask.low < 1 << 40
-    } else {
-        is_mask(mask)
+    match triggers {
+        Triggers::One => mask.high == 0 && mask.low < 1 << FIRST_SLOTS,
+        Triggers::Two => is_mask(mask),
     }
 }
 
@@ -37,7 +34,9 @@ fn has_slots(mask: FttMask, slots: u8) -> bool
 fn is_trigger(slots: u8, trigger: &FttTrigger) -> bool
     ensures trigger { IsTrue result ↔ IsTriggerIn slots trigger.now }
 {
-    are_slots(slots) && trigger.window <= LONGEST_WINDOW && has_slots(trigger.flags, slots)
+    are_slots(slots)
+        && trigger.window <= LONGEST_WINDOW
+        && has_slots(trigger.flags, Triggers::of(slots))
 }
 
 /// Puts the trigger frames of a cycle into the caller's room: one with 40 slots, two with 96.
@@ -54,11 +53,9 @@ fn put_trigger(
 {
     let flags = mask_in(trigger.flags);
     let first = frame_out(&encode(trigger.cycle, trigger.window, flags));
-    if slots == SLOTS_OF_ONE {
-        put(&[first], room, count)
-    } else {
-        let second = frame_out(&encode_second(trigger.cycle, flags));
-        put(&[first, second], room, count)
+    match encode_later(Triggers::of(slots), trigger.cycle, flags) {
+        None => put(&[first], room, count),
+        Some(second) => put(&[first, frame_out(&second)], room, count),
     }
 }
 
@@ -87,10 +84,10 @@ pub extern "C" fn fttcan_trigger_encode(
     }
 }
 
-/// What one trigger frame says, of a table with 40 slots.
+/// What one trigger frame says, where a cycle has one.
 #[tactic(auto, using(crate::proofs::Silent::none_heard))]
 fn one_decoded(only: &FttFrame) -> Result<FttTrigger, Refusal>
-    ensures trigger { IfOk result (IsTold 40 (frame_of only.now ∷ [])) }
+    ensures trigger { IfOk result (IsTold first_slots (frame_of only.now ∷ [])) }
     ensures known { OnOk result (IsFrameIn only.now) }
     ensures refused { IfErr result (RefusesOne only.now) }
 {
@@ -105,10 +102,10 @@ fn one_decoded(only: &FttFrame) -> Result<FttTrigger, Refusal>
     })
 }
 
-/// What two trigger frames say, of a table with 96 slots.
+/// What two trigger frames say, where a cycle has two.
 #[tactic(auto, using(crate::proofs::Silent::none_first, crate::proofs::Silent::none_second, crate::proofs::Silent::other_cycle))]
 fn both_decoded(first: &FttFrame, second: &FttFrame) -> Result<FttTrigger, Refusal>
-    ensures trigger { IfOk result (IsTold 96 (frame_of first.now ∷ frame_of second.now ∷ [])) }
+    ensures trigger { IfOk result (IsTold most_slots (frame_of first.now ∷ frame_of second.now ∷ [])) }
     ensures known { OnOk result (IsFrameIn first.now × IsFrameIn second.now) }
     ensures refused { IfErr result (RefusesTwo first.now second.now) }
 {
@@ -139,16 +136,15 @@ fn decoded(slots: u8, frames: &[FttFrame]) -> Result<FttTrigger, Refusal>
     if !are_slots(slots) || !are_frames(frames) {
         return Err(Refusal::Argument);
     }
-    if slots == SLOTS_OF_ONE {
-        match frames {
+    match Triggers::of(slots) {
+        Triggers::One => match frames {
             [only] => one_decoded(only),
             _ => Err(Refusal::Text),
-        }
-    } else {
-        match frames {
+        },
+        Triggers::Two => match frames {
             [first, second] => both_decoded(first, second),
             _ => Err(Refusal::Text),
-        }
+        },
     }
 }
 

@@ -13,7 +13,7 @@ use Rattle.master_core.specs.History.{IsLegal, IsPlainlyLegal, is_changed, next_
 use Rattle.master_core.specs.Journals.{LeanView}
 use Rattle.master_core.specs.Openings.{openings_of}
 use Rattle.master_core.specs.Orders.{IsOrder}
-use Rattle.cycle_layout.specs.Layout.{IsSlots}
+use Rattle.trigger_kind.specs.Kind.{IsSlots}
 use Rattle.system_file.specs.SystemFile.{IsSystem}
 use Rattle.system_file.specs.declared.system.System.{System}
 use Rattle.kept_run.specs.Progress.{AreReady, IsUnderWay}

@@ -1,12 +1,14 @@
 -- The frames that a standby hears of an opening.
-use Rattle.std.proofs.Common.{◌≡◌, ℕ, Bool, false, List, [], ◌∷◌, ◌++◌, map, get_or, nat_eq, sym, ap, ◌∙◌}
-use Rattle.std.specs.Prelude.{if◌then◌else◌}
+use Rattle.std.proofs.Common.{◌≡◌, ℕ, List, [], ◌∷◌, ◌++◌, map, get_or, sym, ap, ◌∙◌}
 use Rattle.can_frame.specs.DataFrame.{DataFrame}
 use Rattle.can_frame.specs.declared.data_frame.TimedFrame.{TimedFrame}
 use Rattle.requirement_table.specs.Slots.{contains_slot}
 use Rattle.requirement_table.specs.Table.{width_in}
 use Rattle.admission_rules.specs.declared.Rules.{Rules}
-use Rattle.trigger_codec.specs.Bytes.{second_frame, trigger_frame, triggers_with}
+use Rattle.trigger_kind.specs.declared.Triggers.{Triggers}
+use Rattle.trigger_kind.specs.declared.Triggers.TheVariants.{Two}
+use Rattle.trigger_kind.specs.Kind.{triggers_of}
+use Rattle.trigger_codec.specs.Bytes.{later_frames, second_frame, trigger_frame, triggers_with}
 use Rattle.master_core.specs.declared.event.Event.{Event}
 use Rattle.master_core.specs.History.{next_of, placed_of}
 use Rattle.replay_run.specs.Progress.{BeginWithTriggers}
@@ -39,11 +41,11 @@ two-of first second [] d e later same = absurd (cc)
 two-of first second (one ∷ []) d e later same = absurd (cc)
 two-of first second (one ∷ other ∷ more) d e later same = cc
 
--- of a standby with other slots than 40 they are the trigger frames that are due
-pub two-due : (standby : StandbyView) (frames : List TimedFrame) (d e : TimedFrame) → nat_eq standby.rules.slots 40 ≡ false → HearsDue standby frames
+-- where there are two, they are the trigger frames that are due
+pub two-due : (standby : StandbyView) (frames : List TimedFrame) (d e : TimedFrame) → triggers_of standby.rules.slots ≡ Two → HearsDue standby frames
     → (get_or frames 0 d).frame ∷ (get_or frames 1 e).frame ∷ [] ≡ due_frames standby
 two-due standby frames d e many heard =
     let first : DataFrame = trigger_frame (next_of standby.history) (sum_of standby) (planned_of standby) in
     let second : DataFrame = second_frame (next_of standby.history) (planned_of standby) in
-    let due : due_frames standby ≡ first ∷ second ∷ [] = ap (λ (b : Bool). first ∷ (if b then [] else second ∷ [])) many in
+    let due : due_frames standby ≡ first ∷ second ∷ [] = ap (λ (t : Triggers). first ∷ later_frames t (next_of standby.history) (planned_of standby)) many in
     two-of first second frames d e heard.later (heard.begin ∙ ap (λ (l : List DataFrame). l ++ heard.later) due) ∙ sym due

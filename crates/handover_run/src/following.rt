@@ -17,6 +17,7 @@ use master_core::Event;
 use standby::laws::follows_each;
 use standby::{FollowFault, Standby};
 use std::alloc::{AllocError, Global};
+use trigger_kind::Triggers;
 
 /// What a standby answers to what is due: it finds no fault, and there may be no memory.
 fn only_memory(answer: Result<(), FollowFault>) -> Result<(), AllocError>
@@ -34,7 +35,7 @@ fn only_memory(answer: Result<(), FollowFault>) -> Result<(), AllocError>
 }
 
 /// Tells a standby the opening of its next cycle, below 2^41, by the trigger frames with which the frames of the cycle
-/// begin: one with 40 slots, else two.
+/// begin: one or two, by the number of slots.
 fn hear_opening(
     standby: &mut Standby,
     alloc: Global,
@@ -47,10 +48,9 @@ fn hear_opening(
     ensures rules { standby.new.rules ≡ standby.old.rules }
     ensures opened { OnOk result (IsOpened standby.old (due_frames standby.old) standby.new.history) }
 {
-    if slots == 40 {
-        only_memory(standby.trigger(alloc, &[frames[0].frame]))
-    } else {
-        only_memory(standby.trigger(alloc, &[frames[0].frame, frames[1].frame]))
+    match Triggers::of(slots) {
+        Triggers::One => only_memory(standby.trigger(alloc, &[frames[0].frame])),
+        Triggers::Two => only_memory(standby.trigger(alloc, &[frames[0].frame, frames[1].frame])),
     }
 }
 

@@ -19,7 +19,8 @@ use Rattle.master_core.specs.History.{IsLegal, IsRight, is_changed, is_open, nex
 use Rattle.master_core.specs.Orders.{IsOrder}
 use Rattle.async_window.specs.declared.request.Owner.{Owner}
 use Rattle.async_window.specs.declared.request.Request.{Request}
-use Rattle.node_model.specs.Node.{NodeState, NodeView, after_frame, after_hearing, counted, entries_of, is_own_slot, learnt, opening_identifier}
+use Rattle.trigger_kind.specs.Kind.{opening_identifier}
+use Rattle.node_model.specs.Node.{NodeState, NodeView, after_frame, after_hearing, counted, entries_of, is_own_slot, learnt}
 use Rattle.node_model.specs.Own.{Stands}
 use Rattle.node_model.proofs.Shared.{instance-of_own}
 use Rattle.cycle_engine.specs.Cycle.{FitsWindow}

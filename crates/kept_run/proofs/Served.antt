@@ -19,7 +19,7 @@ use Rattle.change_protocol.specs.Applied.{without_end}
 use Rattle.planner_policies.specs.Plan.{Planning, flags_of, mask_at}
 use Rattle.admission_rules.specs.declared.Rules.{Rules}
 use Rattle.master_core.specs.History.{plan_of}
-use Rattle.trigger_codec.specs.Bytes.{second_frame, trigger_frame}
+use Rattle.trigger_codec.proofs.Shared.{behind-ids}
 use Rattle.cycle_engine.specs.Cycle.{IsRequestFrame, IsSentOnce, IsSlotFrame, RunsCycle, RunsCycles, cycle_of, frames_in, of_slot}
 use Rattle.kept_run.specs.Served.{AllGuarded, AllServed, ForgetsEnds, IsInWindow, NoStrangers, frames_of}
 use Rattle.kept_run.proofs.Lists.{Contains-cases, Contains-filter, Contains-nil, filter-filter, filter-none, filter-same, place-of}
@@ -32,24 +32,14 @@ use Rattle.kept_run.proofs.Plans.{PlanLaws, mask-planned, mask-sendable, planned
 abbrev IsLaterFrame : CycleLayout → Opening → TimedFrame → Type 0
 IsLaterFrame layout opening sent = IsRequestFrame layout opening sent ⊎ IsSlotFrame layout opening sent
 
-ids-second : (one : Bool) (first second : DataFrame) (sent : TimedFrame) (later : List TimedFrame) → second.identifier ≡ 1
-    → map (λ s. s.frame) (sent ∷ later) ≡ first ∷ cond one [] (second ∷ []) → All (λ s. s.frame.identifier ≡ 1) later
-ids-second one first second sent [] id are = All-nil (λ s. s.frame.identifier ≡ 1)
-ids-second true first second sent (x ∷ xs) id are = absurd (cc)
-ids-second false first second sent (x ∷ []) id are =
-    let same : x.frame ≡ second = cc in
-    All-cons (λ s. s.frame.identifier ≡ 1) x [] (ap (λ f. f.identifier) same ∙ id) (All-nil (λ s. s.frame.identifier ≡ 1))
-ids-second false first second sent (x ∷ y ∷ ys) id are = absurd (cc)
-
 module _ {sends : Instance → List ℕ} (layout : CycleLayout) (opening : Opening) (frames : List TimedFrame) (runs : RunsCycle sends layout opening frames) where
-  -- the first trigger frame has identifier 0, and the second one identifier 1
+  -- the first trigger frame has identifier 0, and one behind it identifier 1
   pub trigger_identifier : runs.trigger.frame.identifier ≡ 0
   trigger_identifier = ap (λ f. f.identifier) runs.is_trigger
 
   pub second_identifiers : All (λ sent. sent.frame.identifier ≡ 1) runs.second
   second_identifiers =
-      ids-second (nat_eq layout.slots 40) (trigger_frame opening.cycle (width_of opening) opening.mask) (second_frame opening.cycle opening.mask)
-      runs.trigger runs.second refl runs.are_triggers
+      behind-ids layout.slots opening.cycle (width_of opening) opening.mask runs.trigger runs.second runs.are_triggers
 
   -- a frame of the cycle is one of its trigger frames, or one behind them
   first_or_later : (sent : TimedFrame) → Contains frames sent → (sent.frame.identifier ≤ 1) ⊎ Contains runs.later sent

@@ -1,6 +1,7 @@
 //! The calls of a shared master by one thread.
 
 ghost use Rattle.std.specs.Prelude.{◌≡◌};
+ghost use Rattle.profile.specs.Limits.{first_slots};
 ghost use Rattle.turn_lock.specs.Passes.{IsOf};
 ghost use Rattle.admission.specs.Verdict.{IsRules};
 
@@ -9,7 +10,7 @@ use change_protocol::{Change, Op, Ops};
 use live_master::{DispatcherPass, LiveMaster, OperatorPass};
 use master_core::Event;
 use planner_policies::{Fill, Policy};
-use profile::OPENINGS_END;
+use profile::{FIRST_SLOTS, OPENINGS_END};
 use requirement_table::Entry;
 use std::alloc::{AllocError, Global};
 
@@ -17,12 +18,12 @@ use std::alloc::{AllocError, Global};
 fn rules() -> Rules
     ensures rules { IsRules result }
     ensures nodes { result.nodes ≡ 1 }
-    ensures slots { result.slots ≡ 40 }
+    ensures slots { result.slots ≡ first_slots }
     ensures window { result.window ≡ 135 }
 {
     Rules {
         nodes: 1,
-        slots: 40,
+        slots: FIRST_SLOTS,
         policy: Policy::Rm,
         fill: Fill::Prefix,
         window: 135,

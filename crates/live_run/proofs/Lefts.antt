@@ -11,7 +11,8 @@ use Rattle.async_window.specs.declared.request.Owner.{Owner}
 use Rattle.async_window.specs.declared.request.Request.{Request}
 use Rattle.async_window.specs.Mailbox.{Mail, left, mail_after}
 use Rattle.async_window.specs.Waiting.{unsent_after}
-use Rattle.node_model.specs.Node.{NodeState, after_hearing, counted, identifiers_of, is_own_slot, learnt, opening_identifier}
+use Rattle.trigger_kind.specs.Kind.{opening_identifier}
+use Rattle.node_model.specs.Node.{NodeState, after_hearing, counted, identifiers_of, is_own_slot, learnt}
 use Rattle.node_model.specs.Own.{Stands}
 use Rattle.cycle_engine.specs.Nodes.{heard_by, learnt_by, left_in}
 use Rattle.live_run.specs.Left.{left_at, left_of, numbers_of}

@@ -14,7 +14,7 @@ use Rattle.requirement_table.specs.declared.entries.Placed.{Placed}
 use Rattle.requirement_table.specs.Slots.{contains_slot, set_of, most_slots}
 use Rattle.requirement_table.specs.Table.{IsInRange, IsWellPlaced}
 use Rattle.requirement_table.proofs.Shared.{contains_slot-set_of, contains_slot-none}
-use Rattle.trigger_codec.specs.declared.message.Trigger.{Trigger}
+use Rattle.trigger_codec.specs.Heard.{Noted}
 use Rattle.trigger_codec.specs.Bytes.{triggers_with}
 use Rattle.async_window.specs.declared.request.Owner.{Owner}
 use Rattle.async_window.specs.declared.request.Request.{Request}
@@ -64,11 +64,11 @@ module _ (layout : CycleLayout) (owners : List Owner) (requests : List Request) 
   stands_marked number past heard = (slot : ℕ) → slot < most_slots → list_any (λ p. p.entry.slot == slot) (entries_of number opening.placed) ≡ true
       → contains_slot heard slot ≡ was_sent layout opening past slot
 
-  abbrev in_cycle : ℕ → Option Trigger → List TimedFrame → ℕ → ℕ → NodeState
+  abbrev in_cycle : ℕ → Noted → List TimedFrame → ℕ → ℕ → NodeState
   in_cycle number noted past heard frames =
       standing layout owners requests opening.placed past (opening.cycle + 1) number (Some (opened_for opening heard)) frames noted
 
-  in_cycle-stands : (number : ℕ) (noted : Option Trigger) (past : List TimedFrame) (heard frames : ℕ) → stands_marked number past heard
+  in_cycle-stands : (number : ℕ) (noted : Noted) (past : List TimedFrame) (heard frames : ℕ) → stands_marked number past heard
       → StandsIn layout owners requests opening past (in_cycle number noted past heard frames)
   in_cycle-stands number noted past heard frames marked = record {
     stands = record { same_layout = refl; own_entries = refl; own_mail = refl; next_cycle = refl };
@@ -115,7 +115,7 @@ module _ (layout : CycleLayout) (owners : List Owner) (requests : List Request) 
       ∙ same_mail-all number are taken rest (past ++ one ∷ []) (All-tail IsBelowTwo one rest triggers)
       ∙ ap (mail_after (identifiers_of number owners) requests) (append_assoc past (one ∷ []) rest)
 
-  module _ (past : List TimedFrame) (sent : TimedFrame) (number frames : ℕ) (noted : Option Trigger) (are : AreOwners owners)
+  module _ (past : List TimedFrame) (sent : TimedFrame) (number frames : ℕ) (noted : Noted) (are : AreOwners owners)
       (taken : mail_after (identifiers_of number owners) requests (past ++ sent ∷ [])
       ≡ without_first sent.frame.identifier (mail_after (identifiers_of number owners) requests past)) where
     abbrev mail : List Mail
@@ -238,7 +238,7 @@ module _ (layout : CycleLayout) (owners : List Owner) (requests : List Request) 
       let opens = opens-next node (width_of opening) opening.mask (subst IsLayout same is) (subst (λ l. width_of opening ≤ l.window) same small)
       (subst (λ l. opening.mask < 2 ^ l.slots) same below) sent its in
       subst (λ (n : NodeState). StandsIn layout owners requests opening (past ++ sent) n) (sym opens.1)
-      (stands-opened node opens.0 before (trigger-identifiers layout.slots opening.cycle (width_of opening) opening.mask is.slots_range sent triggers) stands)
+      (stands-opened node opens.0 before (trigger-identifiers layout.slots opening.cycle (width_of opening) opening.mask sent triggers) stands)
 
 pub stands-later : (layout : CycleLayout) (owners : List Owner) (requests : List Request) (opening : Opening) (past : List TimedFrame)
     (sent : TimedFrame) (node : NodeState)

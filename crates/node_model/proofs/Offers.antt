@@ -7,7 +7,9 @@ use Rattle.std.proofs.lemmas.Option.{none-some, same_Some}
 use Rattle.std.proofs.Math.Nat.{div-eq_of_lt-le, div-lt_iff_lt-mul, le-div_iff_mul-le}
 use Rattle.profile.specs.Limits.{first_identifier}
 use Rattle.stuff_bound.specs.Stuffing.{worst}
-use Rattle.cycle_layout.specs.Layout.{sync_start, trigger_part, trigger_part_of}
+use Rattle.cycle_layout.specs.Layout.{sync_start, trigger_part}
+use Rattle.trigger_kind.specs.Kind.{part_of, triggers_of}
+use Rattle.trigger_kind.proofs.Shared.{part-least}
 use Rattle.requirement_table.specs.Slots.{contains_slot, most_slots}
 use Rattle.requirement_table.specs.Instance.{bytes_of}
 use Rattle.requirement_table.specs.Table.{instance_in}
@@ -167,13 +169,9 @@ offers-in true true slot other some = (refl, inl refl)
 offers-in true false slot other some = (refl, inr some)
 offers-in false late slot other some = absurd (false≢true some)
 
-counted-part : (one : Bool) → 0 < cond one 1 2 * worst 8
-counted-part true = omega arith
-counted-part false = omega arith
-
 -- the trigger part is not empty
-positive-part : (slots : ℕ) → 0 < trigger_part_of slots
-positive-part slots = counted-part (nat_eq slots 40)
+positive-part : (slots : ℕ) → 0 < part_of (triggers_of slots)
+positive-part slots = let least = part-least (triggers_of slots) in omega (arith, least)
 
 -- a node offers something only in its open cycle, behind the cycle's start
 offers-within : (node : NodeState) (at : ℕ) (o : Opened) → IsNode node → node.opened ≡ Some o → IsSome (node_offer node at)

@@ -1,18 +1,16 @@
 -- A frame that is none of the trigger frames, as a node hears it; and what holds after each kind of frame.
-use Rattle.std.proofs.Common.{◌≡◌, ℕ, ◌-◌, ◌<◌, ◌==◌, Bool, true, false, cond, eqb, refl, ◌∙◌, arith}
+use Rattle.std.proofs.Common.{◌≡◌, ℕ, ◌-◌, ◌<◌, ◌==◌, Bool, true, false, cond, refl, ◌∙◌, arith}
 use Rattle.std.proofs.lemmas.Bool.{cond-false, eqb-true, ne_eqb}
 use Rattle.profile.specs.Limits.{first_identifier}
 use Rattle.can_frame.specs.declared.data_frame.TimedFrame.{TimedFrame}
-use Rattle.node_model.specs.Node.{NodeState, after_hearing, after_noting, after_opening, after_request, after_slot, is_own_slot, opening_identifier}
+use Rattle.trigger_kind.specs.Kind.{opening_identifier, triggers_of}
+use Rattle.node_model.specs.Node.{NodeState, after_hearing, after_noting, after_opening, after_request, after_slot, is_own_slot}
+use Rattle.trigger_kind.proofs.Shared.{opening-low}
 use Rattle.node_model.specs.Own.{counting}
-
-small-opening : (one : Bool) → cond one 0 1 < 2
-small-opening true = omega arith
-small-opening false = omega arith
 
 -- an identifier above 1 opens no cycle
 pub no-opening : (slots id : ℕ) → 1 < id → (id == opening_identifier slots) ≡ false
-no-opening slots id above = ne_eqb id (opening_identifier slots) (λ same. omega (arith, same, above, small-opening (eqb slots 40)))
+no-opening slots id above = ne_eqb id (opening_identifier slots) (λ same. omega (arith, same, above, opening-low (triggers_of slots)))
 
 -- a frame of such an identifier is one of a slot, or takes away a request, where the node has one
 pub other-frame : (node : NodeState) (sent : TimedFrame) → 1 < sent.frame.identifier

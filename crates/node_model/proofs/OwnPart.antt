@@ -19,7 +19,7 @@ use Rattle.async_window.specs.declared.request.Request.{Request}
 use Rattle.async_window.specs.Waiting.{MayStart, frames_with, requests_of, unsent_after}
 use Rattle.async_window.specs.Mailbox.{IsLeastWith, IsMail, Mail, Offers, mail_after, mail_offer, unsent_of}
 use Rattle.requirement_table.specs.Opening.{Opening, width_of}
-use Rattle.trigger_codec.specs.declared.message.Trigger.{Trigger}
+use Rattle.trigger_codec.specs.Heard.{Noted}
 use Rattle.node_model.specs.Opening.{start_of, window_start}
 use Rattle.node_model.specs.Offered.{IsUnsent}
 use Rattle.slot_sets.specs.Least.{least_where}
@@ -126,7 +126,7 @@ same_frame frame id bytes same also =
     ap (λ n. record { identifier = n; bytes = bytes }) same ∙ ap (λ b. record { identifier = frame.identifier; bytes = b }) also
 
 module _ (layout : CycleLayout) (owners : List Owner) (requests : List Request) (opening : Opening) (past : List TimedFrame)
-    (at number frames heard : ℕ) (noted : Option Trigger) (positive : 0 < layout.cycle) (well : IsWellPlaced opening.placed) (time : at / layout.cycle ≡ opening.cycle)
+    (at number frames heard : ℕ) (noted : Noted) (positive : 0 < layout.cycle) (well : IsWellPlaced opening.placed) (time : at / layout.cycle ≡ opening.cycle)
     (marked : (slot : ℕ) → slot < most_slots → list_any (λ p. p.entry.slot == slot) (entries_of number opening.placed) ≡ true
     → contains_slot heard slot ≡ was_sent layout opening past slot) where
   abbrev node : NodeState

@@ -5,7 +5,7 @@ use Rattle.cycle_layout.specs.Layout.{CycleLayout}
 use Rattle.requirement_table.specs.declared.entries.Placed.{Placed}
 use Rattle.async_window.specs.declared.request.Owner.{Owner}
 use Rattle.async_window.specs.declared.request.Request.{Request}
-use Rattle.trigger_codec.specs.declared.message.Trigger.{Trigger}
+use Rattle.trigger_codec.specs.Heard.{Noted}
 use Rattle.async_window.specs.Mailbox.{Mail, mail_after}
 use Rattle.requirement_table.specs.Opening.{Opening, width_of}
 use Rattle.node_model.specs.Node.{NodeState, Opened, entries_of, identifiers_of}
@@ -31,7 +31,7 @@ same_node node layout entries mail opened next l e m o n =
     ∙ ap (λ x. record node { layout = layout; entries = entries; mail = mail; opened = opened; next = x }) n
 
 -- the node of this number, with this cycle open, that heard so many frames and noted this one
-abbrev pub standing : CycleLayout → List Owner → List Request → List Placed → List TimedFrame → ℕ → ℕ → Option Opened → ℕ → Option Trigger → NodeState
+abbrev pub standing : CycleLayout → List Owner → List Request → List Placed → List TimedFrame → ℕ → ℕ → Option Opened → ℕ → Noted → NodeState
 standing layout owners requests placed past next number opened frames noted = record {
   number = number;
   layout = layout;

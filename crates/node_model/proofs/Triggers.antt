@@ -1,15 +1,18 @@
 -- The trigger frames of a cycle, one or two, as a node hears them: they open the cycle.
-use Rattle.std.proofs.Common.{◌≡◌, ℕ, ◌+◌, ◌%◌, ◌^◌, ◌<◌, ◌≤◌, ◌&&◌, ◌==◌, Bool, true, false, cond, leb, Option, Some, None, List, [], ◌∷◌, get_or, length, map, All, inl, inr, refl, sym, ap, ◌∙◌, subst, arith}
+use Rattle.std.proofs.Common.{◌≡◌, ℕ, ◌+◌, ◌%◌, ◌^◌, ◌<◌, ◌≤◌, ◌==◌, true, false, Option, Some, None, List, [], ◌∷◌, get_or, length, map, All, inl, inr, refl, sym, ap, ◌∙◌, subst, arith}
 use Rattle.std.specs.Prelude.{fold}
-use Rattle.std.proofs.lemmas.Bool.{and_from, cond-false, cond-true, eq-eqb, le-leb}
-use Rattle.std.proofs.lemmas.List.Elements.{All-cons, All-nil}
+use Rattle.std.proofs.lemmas.Bool.{cond-false, cond-true}
+use Rattle.std.proofs.lemmas.List.Elements.{All-weaker}
+use Rattle.profile.specs.Limits.{first_slots, most_slots}
 use Rattle.can_frame.specs.DataFrame.{DataFrame}
 use Rattle.can_frame.specs.declared.data_frame.TimedFrame.{TimedFrame}
-use Rattle.cycle_layout.specs.Layout.{IsLayout, IsSlots}
+use Rattle.trigger_kind.specs.Kind.{IsSlots, opening_identifier, triggers_of}
+use Rattle.cycle_layout.specs.Layout.{IsLayout}
 use Rattle.trigger_codec.specs.declared.message.Trigger.{Trigger}
-use Rattle.trigger_codec.specs.Bytes.{flags_of_both, high_slots, low_slots, second_frame, trigger_frame, trigger_of, triggers_with}
-use Rattle.trigger_codec.proofs.Shared.{both-parts, first-part, second_of-second, trigger_of-first}
-use Rattle.node_model.specs.Node.{NodeState, Opened, after_hearing, joined, next_trigger, opened_by, opening_identifier}
+use Rattle.trigger_codec.specs.Bytes.{low_slots, second_frame, second_of, trigger_frame, triggers_with}
+use Rattle.trigger_codec.specs.Heard.{joined, last_heard}
+use Rattle.trigger_codec.proofs.Shared.{both-heard, first-heard, first-part, sent-low}
+use Rattle.node_model.specs.Node.{NodeState, Opened, after_hearing, next_trigger, opened_by, opening_trigger}
 use Rattle.node_model.specs.Own.{counting}
 
 -- The trigger frames of a cycle are one or two
@@ -33,9 +36,9 @@ two-triggers P first second double (one ∷ two ∷ []) are =
 two-triggers P first second double (one ∷ two ∷ three ∷ rest) are = let long = ap length are in absurd (omega (arith, long))
 
 -- what holds of one and of two holds of the trigger frames of a cycle
-pub trigger_cases : (P : List TimedFrame → Type 0) (slots cycle l mask : ℕ) → IsSlots slots
-    → (slots ≡ 40 → (one : TimedFrame) → one.frame ≡ trigger_frame cycle l mask → P (one ∷ []))
-    → (slots ≡ 96 → (one two : TimedFrame) → one.frame ≡ trigger_frame cycle l mask → two.frame ≡ second_frame cycle mask → P (one ∷ two ∷ []))
+trigger_cases : (P : List TimedFrame → Type 0) (slots cycle l mask : ℕ) → IsSlots slots
+    → (slots ≡ first_slots → (one : TimedFrame) → one.frame ≡ trigger_frame cycle l mask → P (one ∷ []))
+    → (slots ≡ most_slots → (one two : TimedFrame) → one.frame ≡ trigger_frame cycle l mask → two.frame ≡ second_frame cycle mask → P (one ∷ two ∷ []))
     → (sent : List TimedFrame) → frames_of sent ≡ triggers_with slots cycle l mask → P sent
 trigger_cases P slots cycle l mask (inl few) single double sent are =
     one-trigger P (trigger_frame cycle l mask) (single few) sent (are ∙ ap (λ n. triggers_with n cycle l mask) few)
@@ -43,17 +46,6 @@ trigger_cases P slots cycle l mask (inr many) single double sent are =
     two-triggers P (trigger_frame cycle l mask) (second_frame cycle mask) (double many) sent (are ∙ ap (λ n. triggers_with n cycle l mask) many)
 
 -- A node hears them
-
--- a trigger that passes a test
-abbrev pub passing : (Trigger → Bool) → Option Trigger → Option Trigger
-passing fits None = None
-passing fits (Some trigger) = cond (fits trigger) (Some trigger) None
-
-next_trigger-fits : (node : NodeState) (frame : DataFrame) (trigger : Trigger) → trigger_of frame ≡ Some trigger
-    → trigger.l ≤ node.layout.window → trigger.low ≡ node.next % 256 → next_trigger node frame ≡ Some trigger
-next_trigger-fits node frame trigger is small same =
-    ap (passing (λ t. leb t.l node.layout.window && (t.low == node.next % 256))) is
-    ∙ cond-true (leb trigger.l node.layout.window && (trigger.low == node.next % 256)) _ _ (and_from _ _ (le-leb _ _ small) (eq-eqb _ _ same))
 
 -- what the first frame says to a node whose next cycle it is of
 abbrev first_of : NodeState → ℕ → ℕ → Trigger
@@ -73,24 +65,22 @@ module _ (node : NodeState) (l mask : ℕ) (small : l ≤ node.layout.window) (l
   first_frame = trigger_frame node.next l mask
 
   fits-first : next_trigger (counting node) first_frame ≡ Some (first_of node l mask)
-  fits-first =
-      next_trigger-fits (counting node) first_frame (first_of node l mask)
-      (trigger_of-first node.next l mask (omega (arith, small, largest))) small refl
+  fits-first = first-heard node.layout.window node.next l mask small (omega (arith, small, largest))
 
   -- one frame opens the cycle
-  pub opens-one : node.layout.slots ≡ 40 → mask < 2 ^ 40 → (one : TimedFrame) → one.frame ≡ first_frame
+  pub opens-one : node.layout.slots ≡ first_slots → mask < 2 ^ first_slots → (one : TimedFrame) → one.frame ≡ first_frame
       → after_hearing node one ≡ opening_done node l mask (counting node).frames
   opens-one few below one is =
       let opening : (0 == opening_identifier node.layout.slots) ≡ true = ap (λ n. (0 == opening_identifier n)) few in
-      let single : (node.layout.slots == 40) ≡ true = ap (λ n. (n == 40)) few in
+      let said : opening_trigger (counting node) first_frame ≡ next_trigger (counting node) first_frame
+      = ap (λ n. last_heard (triggers_of n) node.layout.window node.next node.noted first_frame) few in
       ap (λ f. after_hearing node (record one { frame = f })) is
       ∙ cond-true (0 == opening_identifier node.layout.slots) _ _ opening
-      ∙ ap (λ t. record (counting node) { opened = Some (opened_by node.next t); next = node.next + 1; noted = None })
-      (cond-true (node.layout.slots == 40) _ _ single ∙ fits-first)
+      ∙ ap (λ t. record (counting node) { opened = Some (opened_by node.next t); next = node.next + 1; noted = None }) (said ∙ fits-first)
       ∙ ap (λ flags. opening_done node l flags (counting node).frames) (first-part mask below)
 
   -- the first of two is noted
-  pub notes-first : node.layout.slots ≡ 96 → (one : TimedFrame) → one.frame ≡ first_frame
+  pub notes-first : node.layout.slots ≡ most_slots → (one : TimedFrame) → one.frame ≡ first_frame
       → after_hearing node one ≡ record (counting node) { noted = Some (first_of node l mask) }
   notes-first many one is =
       let other : (0 == opening_identifier node.layout.slots) ≡ false = ap (λ n. (0 == opening_identifier n)) many in
@@ -101,25 +91,19 @@ module _ (node : NodeState) (l mask : ℕ) (small : l ≤ node.layout.window) (l
   abbrev noting : NodeState
   noting = record (counting node) { noted = Some (first_of node l mask) }
 
-  joined-both : joined (Some (first_of node l mask)) (Some (record { low = node.next % 256; mask = high_slots mask }))
-      ≡ Some (record { low = node.next % 256; l = l; mask = flags_of_both (low_slots mask) (high_slots mask) })
-  joined-both = cond-true (node.next % 256 == node.next % 256) _ _ (eq-eqb (node.next % 256) (node.next % 256) refl)
-
   -- and the second one opens the cycle
-  opens-second : node.layout.slots ≡ 96 → mask < 2 ^ 96 → (two : TimedFrame) → two.frame ≡ second_frame node.next mask
+  opens-second : node.layout.slots ≡ most_slots → mask < 2 ^ most_slots → (two : TimedFrame) → two.frame ≡ second_frame node.next mask
       → after_hearing noting two ≡ opening_done node l mask (counting (counting node)).frames
   opens-second many below two is =
       let opening : (1 == opening_identifier node.layout.slots) ≡ true = ap (λ n. (1 == opening_identifier n)) many in
-      let double : (node.layout.slots == 40) ≡ false = ap (λ n. (n == 40)) many in
+      let said : opening_trigger (counting noting) (second_frame node.next mask) ≡ joined (Some (first_of node l mask)) (second_of (second_frame node.next mask))
+      = ap (λ n. last_heard (triggers_of n) node.layout.window node.next (Some (first_of node l mask)) (second_frame node.next mask)) many in
       ap (λ f. after_hearing noting (record two { frame = f })) is
       ∙ cond-true (1 == opening_identifier node.layout.slots) _ _ opening
       ∙ ap (λ t. record (counting noting) { opened = Some (opened_by node.next t); next = node.next + 1; noted = None })
-      (cond-false (node.layout.slots == 40) _ _ double
-      ∙ ap (λ second. joined (Some (first_of node l mask)) second) (second_of-second node.next mask below)
-      ∙ joined-both)
-      ∙ ap (λ flags. opening_done node l flags (counting (counting node)).frames) (both-parts mask below)
+      (said ∙ both-heard node.next l mask below)
 
-  pub opens-two : node.layout.slots ≡ 96 → mask < 2 ^ 96 → (one two : TimedFrame) → one.frame ≡ first_frame → two.frame ≡ second_frame node.next mask
+  pub opens-two : node.layout.slots ≡ most_slots → mask < 2 ^ most_slots → (one two : TimedFrame) → one.frame ≡ first_frame → two.frame ≡ second_frame node.next mask
       → after_hearing (after_hearing node one) two ≡ opening_done node l mask (counting (counting node)).frames
   opens-two many below one two is also =
       ap (λ n. after_hearing n two) (notes-first many one is) ∙ opens-second many below two also
@@ -139,14 +123,6 @@ opens-next node l mask is small below =
 abbrev pub IsBelowTwo : TimedFrame → Type 0
 IsBelowTwo one = one.frame.identifier < 2
 
-below-two : (frame trigger : DataFrame) → frame ≡ trigger → trigger.identifier < 2 → frame.identifier < 2
-below-two frame trigger same below = subst (λ f. f.identifier < 2) (sym same) below
-
-pub trigger-identifiers : (slots cycle l mask : ℕ) → IsSlots slots → (sent : List TimedFrame) → frames_of sent ≡ triggers_with slots cycle l mask
-    → All IsBelowTwo sent
-trigger-identifiers slots cycle l mask is =
-    trigger_cases (All IsBelowTwo) slots cycle l mask is
-    (λ few one same. All-cons IsBelowTwo one [] (below-two one.frame (trigger_frame cycle l mask) same (omega arith)) (All-nil IsBelowTwo))
-    (λ many one two same also.
-    All-cons IsBelowTwo one (two ∷ []) (below-two one.frame (trigger_frame cycle l mask) same (omega arith))
-    (All-cons IsBelowTwo two [] (below-two two.frame (second_frame cycle mask) also (omega arith)) (All-nil IsBelowTwo)))
+pub trigger-identifiers : (slots cycle l mask : ℕ) (sent : List TimedFrame) → frames_of sent ≡ triggers_with slots cycle l mask → All IsBelowTwo sent
+trigger-identifiers slots cycle l mask sent are =
+    All-weaker (λ one. one.frame.identifier ≤ 1) IsBelowTwo (λ one low. omega (arith, low)) sent (sent-low slots cycle l mask sent are)

@@ -1,5 +1,5 @@
 -- One node: what it knows, what it does with a frame that it hears, and what it offers. Times are bit times.
-use Rattle.std.specs.Prelude.{◌≡◌, ◌≢◌, ℕ, ◌+◌, ◌-◌, ◌/◌, ◌%◌, ◌^◌, ◌<◌, ◌≤◌, ◌==◌, ◌&&◌, ◌||◌, not}
+use Rattle.std.specs.Prelude.{◌≡◌, ℕ, ◌+◌, ◌-◌, ◌/◌, ◌%◌, ◌^◌, ◌<◌, ◌≤◌, ◌==◌, ◌&&◌, ◌||◌, not}
 use Rattle.std.specs.Prelude.{Bool, nat_le, nat_eq, if◌then◌else◌, List, [], map, filter, min, Option}
 use Rattle.std.specs.Prelude.{Some, None, IfSome, IsSome, is_some, option_map, slice_get}
 use Rattle.std.specs.Option.{option_map_or}
@@ -8,14 +8,15 @@ use Rattle.profile.specs.Limits.{cycles_end, first_identifier, least_asynchronou
 use Rattle.can_frame.specs.DataFrame.{DataFrame}
 use Rattle.can_frame.specs.declared.data_frame.TimedFrame.{TimedFrame}
 use Rattle.cycle_layout.specs.Layout.{CycleLayout, IsLayout, sync_start}
+use Rattle.trigger_kind.specs.Kind.{opening_identifier, triggers_of}
 use Rattle.requirement_table.specs.declared.entries.Placed.{Placed}
 use Rattle.requirement_table.specs.Slots.{contains_slot, set_of, most_slots}
 use Rattle.requirement_table.specs.Instance.{bytes_of}
 use Rattle.requirement_table.specs.Table.{instance_in, IsWellPlaced}
 use Rattle.slot_sets.specs.Least.{least_where}
 use Rattle.trigger_codec.specs.declared.message.Trigger.{Trigger}
-use Rattle.trigger_codec.specs.declared.message.Second.{Second}
-use Rattle.trigger_codec.specs.Bytes.{flags_of_both, second_of, trigger_of}
+use Rattle.trigger_codec.specs.Bytes.{trigger_of}
+use Rattle.trigger_codec.specs.Heard.{IsNoted, Noted, first_heard, last_heard}
 use Rattle.async_window.specs.declared.request.Owner.{Owner}
 use Rattle.async_window.specs.declared.request.Request.{Request}
 use Rattle.async_window.specs.Mailbox.{IsLeastWith, IsMail, Mail, mail_after, mail_offer, unsent_of, without_first}
@@ -29,8 +30,8 @@ pub record Opened : Type 0 where
   pub heard : ℕ
 
 -- what a node knows: its number, the layout, the placed entries that it learnt, its unsent requests, the cycle that is
--- open for it, the next cycle, the number of frames that it heard, and the first trigger frame of the next cycle, where
--- it heard that one and awaits the second
+-- open for it, the next cycle, the number of frames that it heard, and what it heard of the trigger frames of
+-- the next cycle, of which the last one did not come yet
 pub record NodeState : Type 0 where
   pub number : ℕ
   pub layout : CycleLayout
@@ -39,19 +40,12 @@ pub record NodeState : Type 0 where
   pub opened : Option Opened
   pub next : ℕ
   pub frames : ℕ
-  pub noted : Option Trigger
+  pub noted : Noted
 
 -- a node: what it knows, and the greatest length of a list that it can learn without memory
 pub record NodeView : Type 0 where
   pub state : NodeState
   pub spare : ℕ
-
--- a first trigger frame that a node may await the second one of: there are two, its window is at most the largest one,
--- and its byte 0 is the next cycle modulo 256
-pub record IsAwaiting (layout : CycleLayout) (next : ℕ) (trigger : Trigger) : Type 0 where
-  pub two : layout.slots ≢ 40
-  pub fits : trigger.l ≤ layout.window
-  pub same : trigger.low ≡ next % 256
 
 -- what holds of every node
 pub record IsNode (node : NodeState) : Type 0 where
@@ -61,7 +55,7 @@ pub record IsNode (node : NodeState) : Type 0 where
   pub opened : IfSome node.opened (λ o. (o.width ≤ node.layout.window) × (o.cycle < node.next))
   pub next : node.next ≤ cycles_end
   pub frames : node.frames < 2 ^ 64
-  pub noted : IfSome node.noted (IsAwaiting node.layout node.next)
+  pub noted : IfSome node.noted (IsNoted (triggers_of node.layout.slots) node.layout.window node.next)
 
 -- the placed entries of a node
 abbrev pub entries_of : ℕ → List Placed → List Placed
@@ -93,30 +87,12 @@ learnt placed node = record node { entries = entries_of node.number placed }
 -- what a first trigger frame of the next cycle says, where the frame is one: its window is at most the largest one, and
 -- its byte 0 is that cycle modulo 256
 abbrev pub next_trigger : NodeState → DataFrame → Option Trigger
-next_trigger node frame =
-    trigger_where (λ trigger. nat_le trigger.l node.layout.window && (trigger.low == node.next % 256))
-    (trigger_of frame)
-  where
-    trigger_where : (Trigger → Bool) → Option Trigger → Option Trigger
-    trigger_where fits None = None
-    trigger_where fits (Some trigger) = if fits trigger then Some trigger else None
-
--- what two trigger frames say together, where the first one was noted and the second one is of the same cycle: the
--- window of the first one, and the flags of both
-abbrev pub joined : Option Trigger → Option Second → Option Trigger
-joined None second = None
-joined (Some first) None = None
-joined (Some first) (Some second) =
-    if second.low == first.low then Some (record first { mask = flags_of_both first.mask second.mask }) else None
-
--- the identifier of the frame that opens a cycle of a table with so many slots: that of the last of its trigger frames
-abbrev pub opening_identifier : ℕ → ℕ
-opening_identifier slots = if nat_eq slots 40 then 0 else 1
+next_trigger node frame = first_heard node.layout.window node.next (trigger_of frame)
 
 -- what the trigger frames of the next cycle say, where the frame is the last of them
 abbrev pub opening_trigger : NodeState → DataFrame → Option Trigger
 opening_trigger node frame =
-    if nat_eq node.layout.slots 40 then next_trigger node frame else joined node.noted (second_of frame)
+    last_heard (triggers_of node.layout.slots) node.layout.window node.next node.noted frame
 
 -- the next cycle as such a trigger opens it; without one it is opened with nothing synchronous
 abbrev pub opened_by : ℕ → Option Trigger → Opened
@@ -131,7 +107,8 @@ after_opening node frame = record node {
   noted = None;
 }
 
--- a node that notes the first of two trigger frames where it is of the next cycle, and else awaits no second one
+-- a node that notes the first trigger frame, where that is not the last one; where it is not of the next cycle, nothing
+-- was heard of that cycle's trigger frames
 abbrev pub after_noting : NodeState → DataFrame → NodeState
 after_noting node frame = record node { noted = next_trigger node frame }
 

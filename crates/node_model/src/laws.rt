@@ -15,7 +15,8 @@ ghost use Rattle.async_window.specs.declared.request.Request.{Request};
 ghost use Rattle.requirement_table.specs.Opening.{Opening, width_of};
 ghost use Rattle.node_model.specs.Opening.{start_of};
 ghost use Rattle.node_model.specs.Node.{IsNode, NodeState, after_hearing, after_request, learnt, node_frame};
-ghost use Rattle.node_model.specs.Node.{node_offer, opening_identifier};
+ghost use Rattle.trigger_kind.specs.Kind.{opening_identifier};
+ghost use Rattle.node_model.specs.Node.{node_offer};
 ghost use Rattle.node_model.specs.Offered.{trigger_frames};
 ghost use Rattle.node_model.specs.Window.{IsInWindow, due_frame, is_due_slot};
 ghost use Rattle.async_window.specs.Owners.{AreOwners};
@@ -36,7 +37,7 @@ pub fn offers_its_part()
 }
 
 /// What a node knows as it hears the frames of a cycle: the trigger frames first, and then frames of other identifiers.
-/// Between two trigger frames it offers nothing. With 40 slots a frame with identifier 1 is only counted.
+/// Between two trigger frames it offers nothing. Where a cycle has one, a frame with identifier 1 is only counted.
 pub fn hears_a_cycle()
     ensures learnt { (layout : CycleLayout) (owners : List Owner) (requests : List Request) (placed other : List Placed)
         (past : List TimedFrame) (next : ℕ) (node : NodeState)
@@ -50,10 +51,11 @@ pub fn hears_a_cycle()
         → Stands layout owners requests opening.placed past opening.cycle node
         → StandsIn layout owners requests opening (past ++ sent) (fold after_hearing node sent) }
     ensures between { (node : NodeState) (sent : TimedFrame) (at : ℕ)
-        → IsNode node → sent.frame.identifier ≡ 0 → node.layout.slots ≢ 40 → node.next ≤ at / node.layout.cycle
+        → IsNode node → sent.frame.identifier ≡ 0 → opening_identifier node.layout.slots ≢ 0
+        → node.next ≤ at / node.layout.cycle
         → node_offer (after_hearing node sent) at ≡ None }
     ensures only_counted { (node : NodeState) (sent : TimedFrame)
-        → IsNode node → node.layout.slots ≡ 40 → sent.frame.identifier ≡ 1
+        → IsNode node → opening_identifier node.layout.slots ≡ 0 → sent.frame.identifier ≡ 1
         → after_hearing node sent ≡ counting node }
     ensures later { (layout : CycleLayout) (owners : List Owner) (requests : List Request) (opening : Opening)
         (past : List TimedFrame) (sent : TimedFrame) (node : NodeState)

@@ -1,18 +1,17 @@
 //! A node, which offers what follows from what it learnt and heard.
 
-ghost use Rattle.std.specs.Prelude.{◌≡◌, ◌≢◌, ◌↔◌, ℕ, ◌+◌, ◌-◌, ◌*◌, ◌/◌, ◌%◌, ◌^◌, ◌<◌, ◌≤◌, not, nat_eq, min};
+ghost use Rattle.std.specs.Prelude.{◌≡◌, ◌≢◌, ◌↔◌, ℕ, ◌+◌, ◌-◌, ◌*◌, ◌/◌, ◌%◌, ◌^◌, ◌<◌, ◌≤◌, min};
 ghost use Rattle.std.specs.Prelude.{All, AllPairs, IfOk, IfSome};
 ghost use Rattle.std.specs.Prelude.{IsSome, MatchOption, OnErr, OnOk, Some, None, false, true, length, option_map};
 ghost use Rattle.profile.specs.Limits.{arrivals_end, cycles_end, first_identifier, least_asynchronous, times_end};
-ghost use Rattle.can_frame.specs.DataFrame.{DataFrame};
-ghost use Rattle.trigger_codec.specs.Bytes.{second_of, trigger_of};
 ghost use Rattle.requirement_table.specs.Slots.{most_slots};
 ghost use Rattle.requirement_table.specs.Table.{IsWellPlaced};
 ghost use Rattle.async_window.specs.Mailbox.{IsNextInCycle, left};
 ghost use Rattle.async_window.specs.Owners.{AreOwners};
 ghost use Rattle.node_model.specs.Node.{IsNextOffer, IsNode, after_hearing, after_request, after_slot, fresh_node};
-ghost use Rattle.node_model.specs.Node.{is_own_slot, joined, learnt, next_trigger, node_frame, node_offer};
-ghost use Rattle.node_model.specs.Node.{opened_by, opening_identifier};
+ghost use Rattle.node_model.specs.Node.{is_own_slot, learnt, next_trigger, node_frame, node_offer};
+ghost use Rattle.trigger_kind.specs.Kind.{opening_identifier};
+ghost use Rattle.node_model.specs.Node.{opened_by, opening_trigger};
 ghost use Rattle.node_model.specs.Ahead.{IsAhead, Stays, next_time};
 ghost use Rattle.node_model.specs.Kept.{IsClosedAt, IsOpenAt};
 ghost use Rattle.node_model.specs.Own.{HasRequest, counting};
@@ -27,12 +26,7 @@ use profile::{FIRST_IDENTIFIER, LEAST_ASYNCHRONOUS, TIMES_END};
 use requirement_table::{Mask, Placed};
 use std::alloc::{AllocError, Global};
 use std::marker::Model;
-use trigger_codec::{
-    SECOND_IDENTIFIER, Second, TRIGGER_IDENTIFIER, Trigger, decode, decode_second, flags_of_both,
-};
-
-/// The number of slots of a table whose cycles have one trigger frame. With more slots they have two.
-const SLOTS_OF_ONE: u8 = 40;
+use trigger_codec::{Noted, TRIGGER_IDENTIFIER, Trigger, decode, first_heard, last_heard};
 
 /// A node of the bus. Contracts see what it knows, and the greatest length of a list that it can learn without memory.
 #[derive(Drop)]
@@ -45,8 +39,8 @@ pub struct Node {
     pub(crate) ahead: Option<Ahead>,
     pub(crate) opened: Option<Open>,
     next: u64,
-    /// What the first trigger frame of the next cycle said, where the node heard it and awaits the second one.
-    noted: Option<Trigger>,
+    /// What the node heard of the trigger frames of the next cycle, of which the last one did not come yet.
+    noted: Noted,
     layout: Layout,
     number: u8,
     /// The node's entries, as it learnt them. This vector and that of the remaining ones have room for a list that can
@@ -175,55 +169,37 @@ impl Node {
         ensures spare { self.new.spare ≡ self.old.spare }
     {
         let id = heard.frame.id();
-        if id == TRIGGER_IDENTIFIER {
-            self.hear_trigger(heard, &decode(&heard.frame).ok());
-        } else if id == SECOND_IDENTIFIER && self.has_two_triggers() {
-            self.hear_second(heard, &decode_second(&heard.frame).ok());
+        if id == self.layout.triggers().opening() {
+            self.hear_last(heard);
+        } else if id == TRIGGER_IDENTIFIER {
+            self.note(heard);
         } else if self.hear_other(heard) {
             self.look_ahead(last_bit(heard));
         }
     }
 
-    /// Whether the cycles of the bus have two trigger frames.
-    fn has_two_triggers(&self) -> bool
-        ensures two { result ≡ not (nat_eq self.now.state.layout.slots 40) }
-    {
-        self.layout.slots() != SLOTS_OF_ONE
-    }
-
-    /// Hears a frame with identifier 0, whose reading as a first trigger frame is handed over. Where cycles have
-    /// one trigger frame it opens the next cycle, and where they have two it is noted.
-    pub fn hear_trigger(&mut self, heard: &TimedFrame, trigger: &Option<Trigger>)
-        requires identifier { heard.now.frame.identifier ≡ 0 }
-        requires reading { trigger.now ≡ trigger_of heard.now.frame }
-        requires cycle { self.old.state.layout.slots ≡ 40 → self.old.state.next < cycles_end }
-        ensures heard { self.new.state ≡ after_hearing self.old.state heard.now }
-        ensures spare { self.new.spare ≡ self.old.spare }
-    {
-        self.count();
-        let trigger = self.next_trigger(trigger);
-        if self.has_two_triggers() {
-            self.noted = trigger;
-        } else {
-            self.open_next(trigger);
-            self.look_ahead(last_bit(heard));
-        }
-    }
-
-    /// Hears a frame with identifier 1 where cycles have two trigger frames. Its reading as a second one is
-    /// handed over.
-    pub fn hear_second(&mut self, heard: &TimedFrame, second: &Option<Second>)
-        requires identifier { heard.now.frame.identifier ≡ 1 }
-        requires two { self.old.state.layout.slots ≢ 40 }
-        requires reading { second.now ≡ second_of heard.now.frame }
+    /// Hears the last trigger frame of a cycle, which opens the next cycle.
+    fn hear_last(&mut self, heard: &TimedFrame)
+        requires opens { heard.now.frame.identifier ≡ opening_identifier self.old.state.layout.slots }
         requires cycle { self.old.state.next < cycles_end }
         ensures heard { self.new.state ≡ after_hearing self.old.state heard.now }
         ensures spare { self.new.spare ≡ self.old.spare }
     {
         self.count();
-        let trigger = self.joined(second);
+        let trigger = self.opening_trigger(&heard.frame);
         self.open_next(trigger);
         self.look_ahead(last_bit(heard));
+    }
+
+    /// Notes the first trigger frame, where it is not the last one.
+    fn note(&mut self, heard: &TimedFrame)
+        requires first { heard.now.frame.identifier ≡ 0 }
+        requires more { heard.now.frame.identifier ≢ opening_identifier self.old.state.layout.slots }
+        ensures heard { self.new.state ≡ after_hearing self.old.state heard.now }
+        ensures spare { self.new.spare ≡ self.old.spare }
+    {
+        self.count();
+        self.noted = self.next_trigger(&heard.frame);
     }
 
     /// Hears a frame that is none of the trigger frames, without a look ahead. The answer is whether the frame is
@@ -377,32 +353,22 @@ impl Node {
         self.next += 1;
     }
 
-    /// What a first trigger frame of the next cycle says, where a frame with this reading is one.
-    fn next_trigger(&self, trigger: &Option<Trigger>) -> Option<Trigger>
-        ensures trigger { (frame : DataFrame) → trigger.now ≡ trigger_of frame
-            → result ≡ next_trigger self.now.state frame }
+    /// What a frame says as the first trigger frame of the next cycle, where it is that.
+    fn next_trigger(&self, frame: &Frame) -> Option<Trigger>
+        ensures trigger { result ≡ next_trigger self.now.state frame.now }
         ensures fits { IfSome result (λ trigger. trigger.l ≤ self.now.state.layout.window) }
         ensures same { IfSome result (λ trigger. trigger.low ≡ self.now.state.next % 256) }
     {
-        let trigger = (*trigger)?;
-        let fits = trigger.l <= self.layout.window() && u64::from(trigger.low) == self.next % 256;
-        fits.then_some(trigger)
+        first_heard(self.layout.window(), self.next, &decode(frame).ok())
     }
 
-    /// What the noted first trigger frame and the second one say together, where both are of one cycle.
-    fn joined(&self, second: &Option<Second>) -> Option<Trigger>
-        ensures joined { result ≡ joined self.now.state.noted second.now }
+    /// What the trigger frames of the next cycle say, where the frame is the last of them.
+    fn opening_trigger(&self, frame: &Frame) -> Option<Trigger>
+        ensures trigger { result ≡ opening_trigger self.now.state frame.now }
         ensures fits { IfSome result (λ trigger. trigger.l ≤ self.now.state.layout.window) }
     {
-        let first = self.noted?;
-        let second = (*second)?;
-        if second.low != first.low {
-            return None;
-        }
-        Some(Trigger {
-            mask: flags_of_both(first.mask, second.mask),
-            ..first
-        })
+        let layout = &self.layout;
+        last_heard(layout.triggers(), layout.window(), self.next, &self.noted, frame)
     }
 
     /// The slot of an identifier, where the node has an entry in it.

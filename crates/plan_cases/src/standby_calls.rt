@@ -15,6 +15,7 @@ use requirement_table::Entry;
 use standby::{Frames, Standby, Told, follow};
 use std::alloc::{AllocError, Global};
 use trigger_codec::{encode, encode_second};
+use trigger_kind::are_slots;
 
 /// A standby: `fresh` makes a new one, the other words tell it something, and behind `over` there is none.
 #[derive(Drop)]
@@ -61,7 +62,7 @@ fn begun(alloc: Global, numbers: &str) -> Result<Option<Standby>, AllocError> {
         nodes: 2,
         ..rules_of(slots, Fill::Prefix, window, number(horizon))
     };
-    if !known(&rules) || rules.slots != 40 && rules.slots != 96 {
+    if !known(&rules) || !are_slots(rules.slots) {
         return Ok(None);
     }
     Ok(Some(Standby::new(alloc, rules)?))

@@ -44,6 +44,17 @@ shortest_window = 55
 abbrev pub longest_window : ℕ
 longest_window = 16383
 
+-- numbers of slots
+
+-- the number of slots that one trigger frame flags: those below it, five bytes of flags
+abbrev pub first_slots : ℕ
+first_slots = 40
+
+-- the greatest number of slots of a bus, and the room of a set of slots; slots are numbered from 0, and two trigger frames
+-- flag so many
+abbrev pub most_slots : ℕ
+most_slots = 96
+
 -- counts
 
 -- the greatest number of nodes of a bus; nodes are numbered from 0

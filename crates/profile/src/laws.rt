@@ -4,14 +4,15 @@ ghost use Rattle.std.specs.Prelude.{◌≡◌, ◌+◌, ◌/◌};
 ghost use Rattle.profile.specs.Limits.{first_identifier, greatest_identifier, least_asynchronous};
 ghost use Rattle.profile.specs.Limits.{longest_cycle, longest_turnaround, longest_window, shortest_cycle};
 ghost use Rattle.profile.specs.Limits.{shortest_frame, shortest_window};
+ghost use Rattle.profile.specs.Limits.{first_slots, most_slots};
 ghost use Rattle.profile.specs.Limits.{greatest_horizon, most_cycles, most_nodes};
 ghost use Rattle.profile.specs.Limits.{arrivals_end, cycles_end, openings_end, starts_end, times_end};
 
 use crate::{
-    ARRIVALS_END, CYCLES_END, FIRST_IDENTIFIER, GREATEST_HORIZON, GREATEST_IDENTIFIER,
+    ARRIVALS_END, CYCLES_END, FIRST_IDENTIFIER, FIRST_SLOTS, GREATEST_HORIZON, GREATEST_IDENTIFIER,
     LEAST_ASYNCHRONOUS, LONGEST_CYCLE, LONGEST_TURNAROUND, LONGEST_WINDOW, MOST_CYCLES,
-    MOST_FRAMES, MOST_NODES, OPENINGS_END, SHORTEST_CYCLE, SHORTEST_FRAME, SHORTEST_WINDOW,
-    STARTS_END, TIMES_END,
+    MOST_FRAMES, MOST_NODES, MOST_SLOTS, OPENINGS_END, SHORTEST_CYCLE, SHORTEST_FRAME,
+    SHORTEST_WINDOW, STARTS_END, TIMES_END,
 };
 
 /// Identifiers.
@@ -29,6 +30,12 @@ pub fn lengths()
     ensures longest_turnaround { LONGEST_TURNAROUND ≡ longest_turnaround }
     ensures shortest_window { SHORTEST_WINDOW ≡ shortest_window }
     ensures longest_window { LONGEST_WINDOW ≡ longest_window }
+{}
+
+/// Numbers of slots.
+pub fn slots()
+    ensures first { FIRST_SLOTS ≡ first_slots }
+    ensures most { MOST_SLOTS ≡ most_slots }
 {}
 
 /// Counts.

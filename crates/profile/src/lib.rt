@@ -38,6 +38,13 @@ pub const SHORTEST_WINDOW: u32 = 55;
 /// trigger tells it.
 pub const LONGEST_WINDOW: u32 = 16_383;
 
+/// The number of slots that one trigger frame flags: those below it, five bytes of flags.
+pub const FIRST_SLOTS: u8 = 40;
+
+/// The greatest number of slots of a bus, which is the room of a set of slots. Slots are numbered from 0, and two trigger
+/// frames flag so many.
+pub const MOST_SLOTS: u8 = 96;
+
 /// The greatest number of nodes of a bus.
 pub const MOST_NODES: u8 = 30;
 

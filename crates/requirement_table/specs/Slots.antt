@@ -1,10 +1,7 @@
 -- Sets of slots, as numbers: slot s is bit s.
 use Rattle.std.specs.Prelude.{ℕ, suc, zero, ◌+◌, ◌^◌, Bool, nat_eq, if◌then◌else◌}
 use Rattle.std.specs.Int.{bit_at}
-
--- the greatest number of slots of a table, and the room of a set of slots; slots are numbered from 0
-abbrev pub most_slots : ℕ
-most_slots = 96
+pub use Rattle.profile.specs.Limits.{most_slots}
 
 -- whether the slot stands in the set
 abbrev pub contains_slot : ℕ → ℕ → Bool

@@ -16,4 +16,5 @@ pub use lists::{
     copy_with_room, drop_over, first_over, is_over, is_over_in_range, not_over, put_near,
     released_in, well_placed,
 };
-pub use slots::{MOST_SLOTS, Mask};
+pub use profile::MOST_SLOTS;
+pub use slots::Mask;

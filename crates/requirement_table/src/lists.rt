@@ -8,8 +8,8 @@ ghost use Rattle.requirement_table.specs.Table.{free_from, is_over, near_of, not
 
 use crate::entries::{Entry, Placed};
 use crate::instances::releases;
-use crate::slots::{MOST_SLOTS, Mask};
-use profile::CYCLES_END;
+use crate::slots::Mask;
+use profile::{CYCLES_END, MOST_SLOTS};
 use std::alloc::{AllocError, Global};
 
 /// Of how many entries at most the room is taken before it is known how many there are: a slot has one live entry.

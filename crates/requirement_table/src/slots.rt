@@ -5,9 +5,6 @@ ghost use Rattle.requirement_table.specs.Slots.{contains_slot, set_of, most_slot
 
 use std::marker::Model;
 
-/// The greatest number of slots of a table, which is the room of a set of slots; slots are numbered from 0.
-pub const MOST_SLOTS: u8 = 96;
-
 /// A set of slots, as the number whose bit s is slot s. It is two words of the processor, so that a value that holds it
 /// is aligned to one word. Contracts see the number.
 #[derive(Clone, Copy, Debug)]

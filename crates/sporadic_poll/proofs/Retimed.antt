@@ -5,7 +5,7 @@ use Rattle.std.specs.Prelude.{◌↔◌}
 use Rattle.std.proofs.Math.Nat.{add-mul}
 use Rattle.std.proofs.Math.Seq.{drop-nil}
 use Rattle.std.proofs.lemmas.Bool.{cases_lt, le-ltb, lt-ltb}
-use Rattle.std.proofs.lemmas.List.Elements.{All-head, All-pop, All-push, All-tail}
+use Rattle.std.proofs.lemmas.List.Elements.{All-contains, All-head, All-pop, All-push, All-tail}
 use Rattle.std.proofs.lemmas.Option.{none-some, slice_get_within}
 use Rattle.std.specs.List.{slice_get}
 use Rattle.profile.specs.Limits.{first_identifier}
@@ -17,7 +17,8 @@ use Rattle.requirement_table.specs.Instance.{Instance, bytes_of}
 use Rattle.requirement_table.specs.Opening.{Opening, width_of}
 use Rattle.requirement_table.specs.Slots.{contains_slot, most_slots}
 use Rattle.requirement_table.specs.Table.{instance_in}
-use Rattle.trigger_codec.specs.Bytes.{second_frame, triggers_with}
+use Rattle.trigger_codec.specs.Bytes.{triggers_with}
+use Rattle.trigger_codec.proofs.Shared.{low_ids}
 use Rattle.async_window.specs.Waiting.{frames_with, unsent_after}
 use Rattle.bus_line.specs.Trace.{Follows, IsLeastOffered, IsNext, NothingOffered, end_of}
 use Rattle.node_model.specs.Opening.{end_of_cycle, start_of, window_start}
@@ -29,14 +30,7 @@ use Rattle.sporadic_poll.specs.Rides.{sent_anew}
 
 -- a trigger frame has the identifier 0 or 1
 pub low : (slots cycle l mask : ℕ) (frame : DataFrame) → Contains (triggers_with slots cycle l mask) frame → frame.identifier ≤ 1
-low slots cycle l mask frame (zero, within, is) = omega (arith, ap (λ (f : DataFrame). f.identifier) is)
-low slots cycle l mask frame (suc k, within, is) = later (nat_eq slots 40) k (omega (arith, within)) is
-  where
-    later : (one : Bool) (place : ℕ) → place < length (if one then [] else second_frame cycle mask ∷ [])
-        → get_or (if one then [] else second_frame cycle mask ∷ []) place frame ≡ frame → frame.identifier ≤ 1
-    later true place within is = absurd (omega (arith, within))
-    later false zero within is = omega (arith, ap (λ (f : DataFrame). f.identifier) is)
-    later false (suc place) within is = absurd (omega (arith, within))
+low slots cycle l mask frame has = All-contains (λ f. f.identifier ≤ 1) (triggers_with slots cycle l mask) frame (low_ids slots cycle l mask) has
 
 -- where there are no requests, none is offered
 pub no_request : (layout : CycleLayout) (opening : Opening) (past : List TimedFrame) (at : ℕ) (frame : DataFrame) → OffersRequest layout [] opening past at frame → ⊥

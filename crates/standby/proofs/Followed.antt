@@ -1,11 +1,13 @@
 -- What a standby has followed, and that it follows what is due.
-use Rattle.std.proofs.Common.{◌≡◌, ◌==◌, ℕ, Bool, true, false, if◌then◌else◌, List, [], ◌∷◌, ◌++◌, Option, Some, refl, sym, ap, ◌∙◌, subst, arith}
+use Rattle.std.proofs.Common.{◌≡◌, ◌==◌, ℕ, ◌^◌, ◌<◌, ◌≤◌, inl, inr, Bool, true, false, if◌then◌else◌, List, [], ◌∷◌, ◌++◌, Option, Some, refl, sym, ap, ◌∙◌, subst, arith}
 use Rattle.std.proofs.lemmas.List.Elements.{All-append, All-cons, All-nil}
 use Rattle.std.proofs.lemmas.List.{append-nil}
 use Rattle.std.proofs.lemmas.Option.{same_Some}
 use Rattle.can_frame.specs.DataFrame.{DataFrame}
 use Rattle.requirement_table.specs.declared.entries.Placed.{Placed}
-use Rattle.requirement_table.specs.Slots.{contains_slot}
+use Rattle.requirement_table.specs.Slots.{contains_slot, most_slots}
+use Rattle.trigger_kind.specs.Kind.{IsSlots}
+use Rattle.profile.specs.Limits.{longest_window}
 use Rattle.requirement_table.specs.Table.{width_in}
 use Rattle.trigger_codec.specs.Bytes.{triggers_with}
 use Rattle.change_protocol.specs.declared.operations.Change.{Change}
@@ -23,13 +25,13 @@ use Rattle.master_core.specs.declared.event.Event.TheVariants.{Submit, Open}
 use Rattle.master_core.specs.History.{IsLegal, IsPlannedNow, IsRight, IsRightAnswer, accepted_of, next_of, placed_of, plan_of}
 use Rattle.standby.specs.Core.{Item, changed, opened, core_of, items_of}
 use Rattle.standby.specs.Following.{IsChanged, IsInCore, IsOpened, IsOwnVerdict, IsStandby, StandbyView, due_frames, planned_of, sum_of}
-use Rattle.standby.specs.Hearing.{heard_of}
-use Rattle.standby.specs.declared.heard.Heard.{Heard}
+use Rattle.trigger_codec.specs.Heard.{heard_of}
+use Rattle.trigger_codec.specs.declared.heard.Heard.{Heard}
 use Rattle.standby.proofs.Behind.{own-next}
 use Rattle.standby.proofs.Cores.{core_of-push, next-core, placed-core}
 use Rattle.master_core.proofs.Shared.{OneVerdict}
 use Rattle.standby.proofs.GoingOn.{after-both, after-rest}
-use Rattle.standby.proofs.Triggers.{heard-triggers}
+use Rattle.trigger_codec.proofs.Shared.{heard-triggers}
 
 abbrev seen : Rules → List Event → StandbyView
 seen rules own = record { rules = rules; history = own }
@@ -136,6 +138,15 @@ standby-opened rules own cycle mask new was is legal =
     subst (IsStandby rules) (sym is)
     (standby-on rules own (Open cycle mask) was (subst (IsLegal rules) is legal) tt (opened cycle mask, refl))
 
+most-slots : (slots : ℕ) → IsSlots slots → slots ≤ most_slots
+most-slots slots (inl few) = omega (arith, few)
+most-slots slots (inr many) = omega (arith, many)
+
+-- the trigger frames of a cycle say what they were made of
+pub heard-in_range : (slots cycle l mask : ℕ) → IsSlots slots → l ≤ longest_window → mask < 2 ^ slots
+    → heard_of slots cycle (triggers_with slots cycle l mask) ≡ Some (record { l = l; mask = mask })
+heard-in_range slots cycle l mask is small below = heard-triggers slots cycle l mask (most-slots slots is) small below
+
 -- the frames that are due say what is upcoming
 pub due-heard : (rules : Rules) (own : List Event) (upcoming : Upcoming) (frames : List DataFrame) → IsStandby rules own → IsUpcoming rules own upcoming
     → frames ≡ due_frames (seen rules own) → heard_of rules.slots (next_of own) frames ≡ Some (record { l = upcoming.l; mask = upcoming.mask })
@@ -147,7 +158,7 @@ due-heard rules own upcoming frames was is due =
     ap (heard_of rules.slots (next_of own)) due
     ∙ ap (λ (m : ℕ). heard_of rules.slots (next_of own) (triggers_with rules.slots (next_of own) (sum_of (seen rules own)) m)) (sym flags)
     ∙ ap (λ (n : ℕ). heard_of rules.slots (next_of own) (triggers_with rules.slots (next_of own) n upcoming.mask)) (sym width)
-    ∙ heard-triggers rules.slots (next_of own) upcoming.l upcoming.mask was.slots (omega arith) is.order.slots
+    ∙ heard-in_range rules.slots (next_of own) upcoming.l upcoming.mask was.slots (omega arith) is.order.slots
 
 -- what is heard where this is due
 pub heard-is : (heard : Option Heard) (other due : Heard) → heard ≡ Some other → heard ≡ Some due → other ≡ due

@@ -3,4 +3,3 @@ mod Cores
 mod Followed
 mod GoingOn
 mod Telling
-mod Triggers

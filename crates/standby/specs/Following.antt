@@ -2,7 +2,7 @@
 -- are bit times.
 use Rattle.std.specs.Prelude.{◌≡◌, ◌≢◌, ℕ, false, List, [], ◌∷◌, ◌++◌, Some, None, All}
 use Rattle.can_frame.specs.DataFrame.{DataFrame}
-use Rattle.cycle_layout.specs.Layout.{IsSlots}
+use Rattle.trigger_kind.specs.Kind.{IsSlots}
 use Rattle.requirement_table.specs.Slots.{contains_slot}
 use Rattle.requirement_table.specs.Table.{width_in}
 use Rattle.change_protocol.specs.declared.operations.Change.{Change}
@@ -18,7 +18,7 @@ use Rattle.trigger_codec.specs.Bytes.{triggers_with}
 use Rattle.standby.specs.declared.follow_fault.FollowFault.{FollowFault}
 use Rattle.standby.specs.declared.follow_fault.FollowFault.TheVariants.{Refused, Trigger, Differs, Window, Memory}
 use Rattle.standby.specs.Core.{Item, items_of}
-use Rattle.standby.specs.Hearing.{heard_of}
+use Rattle.trigger_codec.specs.Heard.{heard_of}
 
 -- what contracts see of a standby: its rules and its history
 pub record StandbyView : Type 0 where

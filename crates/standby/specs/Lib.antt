@@ -1,5 +1,4 @@
 pub mod Core
 pub mod Following
 pub mod Handover
-pub mod Hearing
 pub mod Telling

@@ -6,7 +6,7 @@ ghost use Rattle.can_frame.specs.DataFrame.{DataFrame};
 ghost use Rattle.requirement_table.specs.declared.entries.Order.{Order};
 ghost use Rattle.requirement_table.specs.Slots.{contains_slot};
 ghost use Rattle.requirement_table.specs.Table.{width_in};
-ghost use Rattle.cycle_layout.specs.Layout.{IsSlots};
+ghost use Rattle.trigger_kind.specs.Kind.{IsSlots};
 ghost use Rattle.change_protocol.specs.declared.operations.Change.{Change};
 ghost use Rattle.admission_rules.specs.declared.Rules.{Rules};
 ghost use Rattle.admission.specs.Verdict.{is_accepted};
@@ -21,7 +21,7 @@ ghost use Rattle.trigger_codec.specs.Bytes.{triggers_with};
 ghost use Rattle.standby.specs.Core.{core_of, items_of};
 ghost use Rattle.standby.specs.Following.{IsChanged, IsOpened, due_frames};
 ghost use Rattle.standby.specs.Handover.{IsBehind, told_after};
-ghost use Rattle.standby.specs.Hearing.{heard_of};
+ghost use Rattle.trigger_codec.specs.Heard.{heard_of};
 
 use admission::laws::one_verdict;
 

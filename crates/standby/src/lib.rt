@@ -5,12 +5,11 @@
 #![tactic(auto)]
 
 mod follow_fault;
-mod heard;
 pub mod laws;
 mod standby;
 mod told;
 
 pub use follow_fault::FollowFault;
-pub use heard::{Heard, hear};
 pub use standby::Standby;
 pub use told::{Frames, Told, follow};
+pub use trigger_codec::{Heard, hear};

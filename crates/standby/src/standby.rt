@@ -2,7 +2,7 @@
 
 ghost use Rattle.std.specs.Prelude.{◌≡◌, ℕ, ◌<◌, ◌≤◌, [], List, All, IfErr, IfOk, OnErr, OnOk, true};
 ghost use Rattle.profile.specs.Limits.{openings_end};
-ghost use Rattle.cycle_layout.specs.Layout.{IsSlots};
+ghost use Rattle.trigger_kind.specs.Kind.{IsSlots};
 ghost use Rattle.admission.specs.Verdict.{IsRules, is_accepted};
 ghost use Rattle.admission.specs.declared.verdict.Verdict.{Verdict as VerdictOf};
 ghost use Rattle.master_core.specs.declared.event.Event.{Event};
@@ -12,7 +12,6 @@ ghost use Rattle.standby.specs.declared.follow_fault.FollowFault.TheVariants.{Me
 ghost use Rattle.standby.specs.Following.{IsChangeFault, IsChanged, IsInCore, IsOpened, IsTriggerFault, due_frames};
 
 use crate::follow_fault::FollowFault;
-use crate::heard::hear;
 use admission::Rules;
 use admission::laws::one_verdict;
 use can_frame::Frame;
@@ -21,6 +20,7 @@ use master_core::laws::accepted_anew;
 use master_core::{Event, Master, plan_apart};
 use std::alloc::{AllocError, Global};
 use std::marker::Model;
+use trigger_codec::hear;
 
 /// A standby. Contracts see its rules and its history, which has accepted changes and openings alone. Each change was
 /// planned when it was told.

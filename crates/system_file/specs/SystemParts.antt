@@ -10,7 +10,8 @@ use Rattle.toml.specs.Data.{Data, integer, Members, no_members}
 use Rattle.toml.specs.View.{table_view}
 use Rattle.toml.specs.declared.value.Value.{Value}
 use Rattle.async_window.specs.declared.request.Owner.{Owner}
-use Rattle.cycle_layout.specs.Layout.{IsCycleLength, IsSlots, IsTurnaround, IsWindow}
+use Rattle.trigger_kind.specs.Kind.{IsSlots}
+use Rattle.cycle_layout.specs.Layout.{IsCycleLength, IsTurnaround, IsWindow}
 use Rattle.system_file.specs.declared.system.Bus.{Bus}
 use Rattle.system_file.specs.declared.system.Plan.{Plan}
 use Rattle.system_file.specs.SystemFile.{cycle_row, turnaround_row, window_row, nodes_row, slots_row, policy_row}

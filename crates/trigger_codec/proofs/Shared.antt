@@ -1,4 +1,6 @@
 -- What proofs of the crates above may take from here: lemmas about the definitions of this crate. What its code does is
 -- known by its clauses alone.
-pub use Rattle.trigger_codec.proofs.Halves.{both-parts, first-part}
-pub use Rattle.trigger_codec.proofs.Told.{second_of-second, trigger_of-first}
+pub use Rattle.trigger_codec.proofs.Frames.{behind-ids, eight_bytes, few_frames, frames_long, later-room, low_ids, opens_last, rising, sent-behind, sent-low}
+pub use Rattle.trigger_codec.proofs.Halves.{first-part}
+pub use Rattle.trigger_codec.proofs.HeardTriggers.{both-heard, first-heard, heard-triggers}
+pub use Rattle.trigger_codec.proofs.Noted.{first-noted, last-fits}

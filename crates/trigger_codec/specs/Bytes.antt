@@ -3,17 +3,16 @@
 use Rattle.std.specs.Prelude.{ℕ, ◌+◌, ◌*◌, ◌/◌, ◌%◌, ◌^◌, List, [], ◌∷◌}
 use Rattle.std.specs.Prelude.{length, slice_index, nat_eq, nat_le, ◌&&◌, ◌||◌, if◌then◌else◌, Option, Some, None}
 use Rattle.std.specs.Int.{byte_at}
-use Rattle.profile.specs.Limits.{longest_window}
+use Rattle.profile.specs.Limits.{first_slots, longest_window}
+use Rattle.trigger_kind.specs.declared.Triggers.{Triggers}
+use Rattle.trigger_kind.specs.declared.Triggers.TheVariants.{One, Two}
+use Rattle.trigger_kind.specs.Kind.{triggers_of}
 use Rattle.can_frame.specs.DataFrame.{DataFrame}
 use Rattle.requirement_table.specs.Slots.{contains_slot, most_slots, set_of}
 use Rattle.trigger_codec.specs.declared.message.Trigger.{Trigger}
 use Rattle.trigger_codec.specs.declared.message.Second.{Second}
 
--- the number of slots that the first trigger frame flags; the second one flags those from it on
-abbrev pub first_slots : ℕ
-first_slots = 40
-
--- the slots of a set that the first frame flags, and those that the second one flags
+-- the slots of a set that the first frame flags, and those that the second one flags: those from 40 on
 abbrev pub low_slots : ℕ → ℕ
 low_slots mask = set_of first_slots (contains_slot mask)
 
@@ -42,10 +41,14 @@ second_bytes cycle mask =
 abbrev pub second_frame : ℕ → ℕ → DataFrame
 second_frame cycle mask = record { identifier = 1; bytes = second_bytes cycle mask }
 
+-- the trigger frames of a cycle behind the first one
+abbrev pub later_frames : Triggers → ℕ → ℕ → List DataFrame
+later_frames One cycle mask = []
+later_frames Two cycle mask = second_frame cycle mask ∷ []
+
 -- the trigger frames of a cycle of a table with so many slots, in the order in which they are sent
 abbrev pub triggers_with : ℕ → ℕ → ℕ → ℕ → List DataFrame
-triggers_with slots cycle l mask =
-    trigger_frame cycle l mask ∷ (if nat_eq slots first_slots then [] else second_frame cycle mask ∷ [])
+triggers_with slots cycle l mask = trigger_frame cycle l mask ∷ later_frames (triggers_of slots) cycle mask
 
 -- the slots that two trigger frames flag, where the first one and the second one flag these
 abbrev pub flags_of_both : ℕ → ℕ → ℕ

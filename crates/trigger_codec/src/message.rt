@@ -1,10 +1,11 @@
 //! What the trigger frames of a cycle say, and these frames.
 
-ghost use Rattle.std.specs.Prelude.{◌≡◌, ℕ, ◌%◌, ◌^◌, ◌<◌, ◌≤◌, Ok, IfOk, IfErr, length};
+ghost use Rattle.std.specs.Prelude.{◌≡◌, ℕ, ◌%◌, ◌^◌, ◌<◌, ◌≤◌, [], Ok, IfOk, IfErr, length};
+ghost use Rattle.std.specs.List.{cons_option};
 ghost use Rattle.std.specs.Result.{result_ok};
-ghost use Rattle.profile.specs.Limits.{longest_window};
+ghost use Rattle.profile.specs.Limits.{first_slots, longest_window};
 ghost use Rattle.requirement_table.specs.Slots.{most_slots};
-ghost use Rattle.trigger_codec.specs.Bytes.{first_slots, flags_of_both, low_slots, high_slots};
+ghost use Rattle.trigger_codec.specs.Bytes.{flags_of_both, later_frames, low_slots, high_slots};
 ghost use Rattle.trigger_codec.specs.Bytes.{trigger_frame, trigger_of, flags_in};
 ghost use Rattle.trigger_codec.specs.Bytes.{second_frame, second_of, second_flags_in};
 ghost use Rattle.trigger_codec.specs.Refusal.{Refuses, RefusesSecond};
@@ -14,6 +15,7 @@ use can_frame::Frame;
 use profile::LONGEST_WINDOW;
 use requirement_table::Mask;
 use slot_sets::union;
+use trigger_kind::Triggers;
 
 /// The identifier of the first trigger frame of a cycle: the least there is, so it wins every
 /// arbitration.
@@ -85,6 +87,16 @@ pub fn encode_second(cycle: u64, mask: Mask) -> Frame
     match Frame::new(SECOND_IDENTIFIER, &bytes) {
         Ok(frame) => frame,
         Err(_) => unreachable!(),
+    }
+}
+
+/// The trigger frame of a cycle behind the first one, where there is one.
+pub fn encode_later(triggers: Triggers, cycle: u64, mask: Mask) -> Option<Frame>
+    ensures frames { cons_option result [] ≡ later_frames triggers cycle mask }
+{
+    match triggers {
+        Triggers::One => None,
+        Triggers::Two => Some(encode_second(cycle, mask)),
     }
 }
 

@@ -16,9 +16,9 @@ pub announce-requires-clause-due : goal.announce-requires-clause-due
 announce-requires-clause-due c =
     let order = c.args.order.now in
     let layout = c.layout.result.now in
-    let triggers : c.encode-first.result ∷ cons_option c.second_trigger-second.result [] ≡ triggers_with layout.slots order.cycle order.l order.mask =
-    ap (λ frame. frame ∷ cons_option c.second_trigger-second.result []) c.encode-first.ensures.frame ∙ c.second_trigger-second.ensures.frames order.l in
-    subst (λ l. AreDue l (due_from (order.cycle * c.from.result) (c.encode-first.result ∷ cons_option c.second_trigger-second.result []))) c.layout.ensures.layout
+    let triggers : c.encode-first.result ∷ cons_option c.later_trigger-later.result [] ≡ triggers_with layout.slots order.cycle order.l order.mask =
+    ap (λ frame. frame ∷ cons_option c.later_trigger-later.result []) c.encode-first.ensures.frame ∙ c.later_trigger-later.ensures.frames order.l in
+    subst (λ l. AreDue l (due_from (order.cycle * c.from.result) (c.encode-first.result ∷ cons_option c.later_trigger-later.result []))) c.layout.ensures.layout
     (subst (λ fs. AreDue layout (due_from (order.cycle * c.from.result) fs)) (sym triggers)
     (AreDue-triggers layout (order.cycle * c.from.result) order.cycle order.l order.mask))
 
@@ -37,9 +37,9 @@ returns-clause-before_window c =
     let start : order.cycle * c.from.result ≡ order.cycle * layout.cycle = ap (λ n. order.cycle * n) length in
     let window : c.sync_start-window.result ≡ sync_start layout order.cycle order.l =
     c.sync_start-window.ensures.value ∙ ap (λ l. sync_start l order.cycle order.l) c.layout.ensures.layout in
-    let triggers : c.encode-first.result ∷ cons_option c.second_trigger-second.result [] ≡ triggers_with layout.slots order.cycle order.l order.mask =
-    ap (λ frame. frame ∷ cons_option c.second_trigger-second.result []) c.encode-first.ensures.frame
-    ∙ c.second_trigger-second.ensures.frames order.l ∙ ap (λ l. triggers_with l.slots order.cycle order.l order.mask) c.layout.ensures.layout in
+    let triggers : c.encode-first.result ∷ cons_option c.later_trigger-later.result [] ≡ triggers_with layout.slots order.cycle order.l order.mask =
+    ap (λ frame. frame ∷ cons_option c.later_trigger-later.result []) c.encode-first.ensures.frame
+    ∙ c.later_trigger-later.ensures.frames order.l ∙ ap (λ l. triggers_with l.slots order.cycle order.l order.mask) c.layout.ensures.layout in
     let before : stationed c.announce.new.self ≡ announced layout (order.cycle * layout.cycle) (triggers_with layout.slots order.cycle order.l order.mask) nodes =
     ap stationed c.announce.ensures.announced
     ∙ announced-same layout layout _ _ _ _ nodes nodes refl start triggers refl in

@@ -5,8 +5,8 @@ use Rattle.requirement_table.specs.Slots.{contains_slot}
 use Rattle.requirement_table.specs.Table.{width_in}
 use Rattle.master_core.specs.Cores.{IsStateOf}
 use Rattle.master_core.specs.declared.event.Event.TheVariants.{Open}
-use Rattle.standby.specs.declared.heard.Heard.{Heard}
-use Rattle.standby.specs.Hearing.{heard_of}
+use Rattle.trigger_codec.specs.declared.heard.Heard.{Heard}
+use Rattle.trigger_codec.specs.Heard.{heard_of}
 use Rattle.fttcan_c.specs.Following.{due_frames, planned_of, sum_of}
 use Rattle.fttcan_c.specs.Plain.{frames_of}
 use Rattle.fttcan_c.proofs.DueFrames.{due-heard, slots-heard}
@@ -31,7 +31,7 @@ returns-then-ne-clause-due c due =
     let slots = ap (λ (r : Rules). heard_of r.slots c.next-cycle.result (frames_of c.args.frames.now)) c.rules-rules.ensures.rules in
     let cycle = ap (λ (n : ℕ). heard_of c.args.core.now.rules.slots n (frames_of c.args.frames.now)) c.next-cycle.ensures.next in
     let heard = sym cycle ∙ sym slots ∙ sym c.in_ok-heard.ensures.heard ∙ c.in-Some.is in
-    let said = due-heard c.trigger_frames.ensures.heard c.args.core.now c.upcoming-upcoming.result c.known.ensures.core c.upcoming-upcoming.ensures.upcoming in
+    let said = due-heard c.triggers_are_heard.ensures.heard c.args.core.now c.upcoming-upcoming.result c.known.ensures.core c.upcoming-upcoming.ensures.upcoming in
     let same = ap slots-heard (sym heard ∙ ap (heard_of c.args.core.now.rules.slots c.args.core.now.cycle) due ∙ said) in
     absurd (let ne = c.if-ne.ensures in grind (arith, common_steps))
 

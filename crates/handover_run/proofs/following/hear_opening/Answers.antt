@@ -1,11 +1,11 @@
-use Rattle.std.proofs.Common.{◌∙◌}
-use Rattle.std.proofs.lemmas.Bool.{ne_eqb}
+use Rattle.std.proofs.Common.{ap, sym, ◌∙◌}
+use Rattle.trigger_kind.specs.Kind.{triggers_of}
 use Rattle.handover_run.proofs.Due.{two-due}
 use Rattle.handover_run.proofs.following.hear_opening.Goals as goal
 
-pub only_memory-requires-else-slots-eq40 : goal.only_memory-requires-else-slots-eq40
-only_memory-requires-else-slots-eq40 c = record {
-  memory = c.trigger-else-slots-eq40.ensures.due
-      (two-due c.args.standby.now c.args.frames.now c.index-frames-0-else-slots-eq40.result c.index-frames-1.result
-      (ne_eqb _ _ (λ same. c.if-slots-eq40.false (c.requires.slots ∙ same))) c.requires.due);
+pub only_memory-requires-in-Two : goal.only_memory-requires-in-Two
+only_memory-requires-in-Two c = record {
+  memory = c.trigger-in-Two.ensures.due
+      (two-due c.args.standby.now c.args.frames.now c.index-frames-0-in-Two.result c.index-frames-1.result
+      (ap triggers_of (sym c.requires.slots) ∙ sym c.of.ensures.kind ∙ c.in-Two.is) c.requires.due);
 }

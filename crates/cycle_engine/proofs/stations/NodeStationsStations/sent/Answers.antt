@@ -1,7 +1,8 @@
 use Rattle.std.proofs.Common.{◌≡◌, ◌^◌, ◌<◌, [], ◌∷◌, sym, ap, ◌∙◌, subst}
 use Rattle.std.proofs.lemmas.List.Elements.{All-head}
 use Rattle.bus_line.specs.Stations.{IsSending}
-use Rattle.node_model.specs.Node.{NodeState, opening_identifier}
+use Rattle.trigger_kind.specs.Kind.{opening_identifier}
+use Rattle.node_model.specs.Node.{NodeState}
 use Rattle.cycle_engine.specs.Stations.{AreStations, all_hear, cycle_line, due_list, stationed, triggers_after}
 use Rattle.cycle_engine.proofs.NodesApart.{AreStations-told, can-hear}
 use Rattle.cycle_engine.proofs.stations.NodeStationsStations.sent.Goals as goal

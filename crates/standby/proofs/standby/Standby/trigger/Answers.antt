@@ -5,8 +5,8 @@ use Rattle.master_core.specs.History.{IsLegal, next_of}
 use Rattle.master_core.specs.declared.event.Event.{Event}
 use Rattle.master_core.specs.declared.event.Event.TheVariants.{Open}
 use Rattle.standby.specs.Following.{StandbyView, due_frames, planned_of}
-use Rattle.standby.specs.Hearing.{heard_of}
-use Rattle.standby.specs.declared.heard.Heard.{Heard}
+use Rattle.trigger_codec.specs.Heard.{heard_of}
+use Rattle.trigger_codec.specs.declared.heard.Heard.{Heard}
 use Rattle.standby.proofs.Followed.{due-heard, heard-is, standby-opened}
 use Rattle.standby.proofs.standby.Standby.trigger.Goals as goal
 
