@@ -10,8 +10,8 @@ use Rattle.std.specs.List.{filter, flat_map, list_any}
 use Rattle.std.specs.Option.{option_or}
 use Rattle.std.specs.Ordering.{is_lt, nat_cmp}
 use Rattle.std.specs.Str.{bytes_eq, is_utf8}
-use Rattle.profile.specs.Limits.{greatest_horizon, greatest_identifier, least_asynchronous, longest_cycle}
-use Rattle.profile.specs.Limits.{longest_turnaround, longest_window, most_nodes, shortest_cycle, shortest_window}
+use Rattle.profile.specs.Limits.{first_slots, greatest_horizon, greatest_identifier, least_asynchronous, longest_cycle}
+use Rattle.profile.specs.Limits.{longest_turnaround, longest_window, most_nodes, most_slots, shortest_cycle, shortest_window}
 use Rattle.toml.specs.Data.{Data, string, integer, array, table, Items, no_items, item, Members}
 use Rattle.toml.specs.Data.{no_members, member, as_array, as_integer, as_str, as_table, get_member}
 use Rattle.toml.specs.Parse.{parse_document}
@@ -71,7 +71,11 @@ abbrev pub nodes_row : Row
 nodes_row = record { key = codes "nodes"; kind = whole 1 most_nodes; default = None }
 
 abbrev pub slots_row : Row
-slots_row = record { key = codes "slots"; kind = either (40 ∷ 96 ∷ []); default = Some (integer (pos 40)) }
+slots_row = record {
+  key = codes "slots";
+  kind = either (first_slots ∷ most_slots ∷ []);
+  default = Some (integer (pos first_slots));
+}
 
 abbrev pub bus_rows : List Row
 bus_rows = cycle_row ∷ turnaround_row ∷ window_row ∷ nodes_row ∷ slots_row ∷ []

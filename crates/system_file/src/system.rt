@@ -30,8 +30,8 @@ use async_window::Owner;
 use cycle_layout::{Layout, LayoutFault};
 use planner_policies::{Fill, Policy};
 use profile::{
-    GREATEST_HORIZON, GREATEST_IDENTIFIER, LEAST_ASYNCHRONOUS, LONGEST_CYCLE, LONGEST_TURNAROUND,
-    LONGEST_WINDOW, MOST_NODES, SHORTEST_CYCLE, SHORTEST_WINDOW,
+    FIRST_SLOTS, GREATEST_HORIZON, GREATEST_IDENTIFIER, LEAST_ASYNCHRONOUS, LONGEST_CYCLE,
+    LONGEST_TURNAROUND, LONGEST_WINDOW, MOST_NODES, MOST_SLOTS, SHORTEST_CYCLE, SHORTEST_WINDOW,
 };
 use std::alloc::Global;
 use toml::{Table, Value};
@@ -49,11 +49,6 @@ pub struct System {
 
 /// The most nodes.
 const MAX_NODES: u32 = MOST_NODES as u32;
-
-/// The numbers of slots that a bus may have; without another word it has the first one.
-const SLOTS: u8 = 40;
-
-const MORE_SLOTS: u8 = 96;
 
 /// The least horizon, in elementary cycles.
 const LEAST_HORIZON: u32 = 1;
@@ -268,7 +263,8 @@ struct Bus {
     slots: u8,
 }
 
-/// The number of slots of `bus`, where it is one of the two.
+/// The number of slots of `bus`, where it is one of the two. Without a word of it there are as many as one trigger frame
+/// flags.
 fn read_slots(alloc: Global, bus: Section) -> Result<u8, SystemFault>
     ensures slots { IfOk result (λ slots. slots ≡ number_in (value_of slots_row (members_at bus.entry.table))) }
     ensures known { IfOk result IsSlots }
@@ -277,15 +273,15 @@ fn read_slots(alloc: Global, bus: Section) -> Result<u8, SystemFault>
         (IsFirst (range_at (prefix_of bus.entry.place) (members_at bus.entry.table) slots_row)) }
 {
     let Some(value) = bus.value("slots") else {
-        return Ok(SLOTS);
+        return Ok(FIRST_SLOTS);
     };
     let Some(number) = value.as_integer() else {
         return Err(bus.range_fault(alloc, "slots"));
     };
-    if number == i64::from(SLOTS) {
-        Ok(SLOTS)
-    } else if number == i64::from(MORE_SLOTS) {
-        Ok(MORE_SLOTS)
+    if number == i64::from(FIRST_SLOTS) {
+        Ok(FIRST_SLOTS)
+    } else if number == i64::from(MOST_SLOTS) {
+        Ok(MOST_SLOTS)
     } else {
         Err(bus.range_fault(alloc, "slots"))
     }
