@@ -127,16 +127,13 @@ fn both_decoded(first: &FttFrame, second: &FttFrame) -> Result<FttTrigger, Refus
     })
 }
 
-/// What the trigger frames of a cycle say.
-fn decoded(slots: u8, frames: &[FttFrame]) -> Result<FttTrigger, Refusal>
-    ensures trigger { IfOk result (IsTold slots (frames_of frames.now)) }
-    ensures known { OnOk result (IsSlots slots × All IsFrameIn frames.now) }
-    ensures refused { IfErr result (RefusesTrigger slots frames.now) }
+/// What the trigger frames of a cycle say, where there are so many.
+fn decoded_by(triggers: Triggers, frames: &[FttFrame]) -> Result<FttTrigger, Refusal>
+    requires known { All IsFrameIn frames.now }
+    ensures trigger { IfOk result (IsTold (slots_of triggers) (frames_of frames.now)) }
+    ensures refused { IfErr result (RefusesTrigger (slots_of triggers) frames.now) }
 {
-    if !are_slots(slots) || !are_frames(frames) {
-        return Err(Refusal::Argument);
-    }
-    match Triggers::of(slots) {
+    match triggers {
         Triggers::One => match frames {
             [only] => one_decoded(only),
             _ => Err(Refusal::Text),
@@ -146,6 +143,18 @@ fn decoded(slots: u8, frames: &[FttFrame]) -> Result<FttTrigger, Refusal>
             _ => Err(Refusal::Text),
         },
     }
+}
+
+/// What the trigger frames of a cycle say, with so many slots.
+fn decoded(slots: u8, frames: &[FttFrame]) -> Result<FttTrigger, Refusal>
+    ensures trigger { IfOk result (IsTold slots (frames_of frames.now)) }
+    ensures known { OnOk result (IsSlots slots × All IsFrameIn frames.now) }
+    ensures refused { IfErr result (RefusesTrigger slots frames.now) }
+{
+    if !are_slots(slots) || !are_frames(frames) {
+        return Err(Refusal::Argument);
+    }
+    decoded_by(Triggers::of(slots), frames)
 }
 
 /// What the trigger frames of a cycle say: one with 40 slots, two with 96. Of the cycle they tell the low 8 bits.

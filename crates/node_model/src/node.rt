@@ -368,7 +368,13 @@ impl Node {
         ensures fits { IfSome result (λ trigger. trigger.l ≤ self.now.state.layout.window) }
     {
         let layout = &self.layout;
-        last_heard(layout.triggers(), layout.window(), self.next, &self.noted, frame)
+        last_heard(
+            layout.triggers(),
+            layout.window(),
+            self.next,
+            &self.noted,
+            frame,
+        )
     }
 
     /// The slot of an identifier, where the node has an entry in it.

@@ -96,7 +96,13 @@ fn trigger_in(triggers: Triggers, cycle: u64, frames: &[Frame]) -> Option<Trigge
         },
         Triggers::Two => match frames {
             [first, second] => {
-                last_heard(triggers, LONGEST_WINDOW, cycle, &first_of(cycle, first), second)
+                last_heard(
+                    triggers,
+                    LONGEST_WINDOW,
+                    cycle,
+                    &first_of(cycle, first),
+                    second,
+                )
             }
             _ => None,
         },
