@@ -3,6 +3,5 @@ mod Flags
 mod Frames
 mod Halves
 mod HeardTriggers
-mod Noted
 pub mod Shared
 mod Told

@@ -2,5 +2,4 @@
 -- known by its clauses alone.
 pub use Rattle.trigger_codec.proofs.Frames.{behind-ids, eight_bytes, few_frames, frames_long, later-room, low_ids, opens_last, rising, sent-behind, sent-low}
 pub use Rattle.trigger_codec.proofs.Halves.{first-part}
-pub use Rattle.trigger_codec.proofs.HeardTriggers.{both-heard, first-heard, heard-triggers}
-pub use Rattle.trigger_codec.proofs.Noted.{first-noted, last-fits}
+pub use Rattle.trigger_codec.proofs.HeardTriggers.{both-heard, first-heard, first-noted, heard-triggers, last-fits}
