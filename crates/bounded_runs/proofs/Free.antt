@@ -1,6 +1,6 @@
 -- The bus is free when the asynchronous window of a cycle opens.
-use Rattle.std.proofs.Common.{◌≡◌, ℕ, ◌+◌, ◌*◌, ◌/◌, ◌<◌, ◌≤◌, Bool, true, false, cond, List, [], ◌∷◌, ◌++◌, map, length, Contains, ◌⊎◌, inl, inr, refl, sym, ◌∙◌, subst, arith, div-lt_iff_lt-mul, le-div_iff_mul-le, mul-le-mul_right}
-use Rattle.std.specs.Prelude.{nat_eq, ◌==◌}
+use Rattle.std.proofs.Common.{◌≡◌, ℕ, ◌+◌, ◌*◌, ◌/◌, ◌<◌, ◌≤◌, List, ◌++◌, map, length, Contains, ◌⊎◌, inl, inr, refl, sym, ◌∙◌, subst, arith, div-lt_iff_lt-mul, le-div_iff_mul-le, mul-le-mul_right}
+use Rattle.std.specs.Prelude.{◌==◌}
 use Rattle.std.proofs.lemmas.Bool.{cases_lt, eq-eqb}
 use Rattle.std.proofs.lemmas.List.Elements.{All-contains, All-filter, Contains-append_cases}
 use Rattle.profile.specs.Limits.{least_asynchronous}
@@ -20,7 +20,7 @@ use Rattle.bus_line.specs.Trace.{end_of}
 use Rattle.node_model.specs.Opening.{start_of}
 use Rattle.cycle_engine.specs.Cycle.{IsRequestFrame, IsSlotFrame, RunsCycle, cycle_of, frames_in}
 use Rattle.bounded_runs.specs.Runs.{IsRunOf}
-use Rattle.async_bound.proofs.Shared.{Contains-here, Contains-cases, Contains-nil, Contains-filter, Contains-map}
+use Rattle.async_bound.proofs.Shared.{Contains-here, Contains-cases, Contains-filter, Contains-map}
 
 module _ (sends : Instance → List ℕ) (layout : CycleLayout) (known : IsLayout layout) (requests : List Request) (openings : List Opening)
     (count : ℕ) (trace : List TimedFrame) (run : IsRunOf sends layout requests openings count trace)

@@ -1,7 +1,6 @@
 -- The frames of requests in a trace.
-use Rattle.std.proofs.Common.{◌≡◌, ℕ, zero, suc, ◌<◌, ◌≤◌, Bool, true, false, cond, List, [], ◌∷◌, All, AllPairs, Contains, Some, inl, inr, subst, arith, drop, slice_get, get_or}
-use Rattle.std.specs.Prelude.{nat_eq}
-use Rattle.std.proofs.lemmas.List.Elements.{All-contains, All-cons, All-nil}
+use Rattle.std.proofs.Common.{◌≡◌, ℕ, zero, suc, ◌<◌, ◌≤◌, List, All, AllPairs, Contains, Some, inl, inr, subst, arith, drop, slice_get, get_or}
+use Rattle.std.proofs.lemmas.List.Elements.{All-contains}
 use Rattle.profile.specs.Limits.{least_asynchronous}
 use Rattle.can_frame.specs.DataFrame.{DataFrame}
 use Rattle.can_frame.specs.Wire.{wire_length}

@@ -1,6 +1,6 @@
 -- The trigger frames of a cycle: which of them are left behind some that were sent, and what the bus does with them.
-use Rattle.std.proofs.Common.{◌≡◌, ◌≢◌, ℕ, zero, suc, ◌+◌, ◌*◌, ◌<◌, ◌≤◌, Bool, true, false, cond, List, [], ◌∷◌, ◌++◌, length, map, All, AllPairs, Contains, get_or, inl, inr, refl, sym, ap, ◌∙◌, subst, arith, append_assoc, append-nil}
-use Rattle.std.specs.Prelude.{⊤, nat_eq}
+use Rattle.std.proofs.Common.{◌≡◌, ℕ, zero, suc, ◌+◌, ◌*◌, ◌<◌, ◌≤◌, List, [], ◌∷◌, ◌++◌, length, map, All, AllPairs, Contains, get_or, inl, inr, refl, sym, ap, ◌∙◌, subst, arith, append_assoc, append-nil}
+use Rattle.std.specs.Prelude.{⊤}
 use Rattle.std.proofs.lemmas.Bool.{cases_lt}
 use Rattle.std.proofs.lemmas.List.{map-append}
 use Rattle.std.proofs.lemmas.List.Elements.{All-append, All-cons, All-contains, All-head, All-nil, All-push, All-tail, All-weaker, Contains-append_cases, Contains-append_right}
@@ -16,10 +16,9 @@ use Rattle.async_window.specs.declared.request.Request.{Request}
 use Rattle.bus_line.specs.Trace.{Follows, IsNext, Offers, end_of, free_after}
 use Rattle.requirement_table.specs.Opening.{Opening, width_of}
 use Rattle.node_model.specs.Opening.{start_of}
-use Rattle.trigger_kind.specs.Kind.{opening_identifier}
 use Rattle.node_model.specs.Offered.{OffersRequest, OffersTrigger, trigger_frames}
 use Rattle.cycle_engine.specs.Offered.{offered_in}
-use Rattle.cycle_engine.proofs.Lists.{AllPairs-cons, AllPairs-head, AllPairs-tail, Contains-cases, Contains-from_map, Contains-here, Contains-later, Contains-nil}
+use Rattle.cycle_engine.proofs.Lists.{AllPairs-head, AllPairs-tail, Contains-cases, Contains-from_map, Contains-here, Contains-later, Contains-nil}
 
 -- so long each is at most
 pub frames_short : (slots cycle l mask : ℕ) → ((frame : DataFrame) → wire_length frame ≤ worst (length frame.bytes))

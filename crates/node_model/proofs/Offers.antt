@@ -1,12 +1,11 @@
 -- What a node offers at the times of its open cycle.
-use Rattle.std.proofs.Common.{◌≡◌, ℕ, ◌+◌, ◌-◌, ◌*◌, ◌/◌, ◌<◌, ◌≤◌, ◌&&◌, Bool, true, false, max, nat_eq, nat_le, nat_lt, is_some, if◌then◌else◌, cond, Option, Some, None, IsSome, List, [], slice_get, ◌⊎◌, inl, inr, refl, sym, ap, ◌∙◌, subst, arith, ⊎_elim}
+use Rattle.std.proofs.Common.{◌≡◌, ℕ, ◌+◌, ◌-◌, ◌*◌, ◌/◌, ◌<◌, ◌≤◌, ◌&&◌, Bool, true, false, max, nat_eq, nat_le, nat_lt, is_some, if◌then◌else◌, Option, Some, None, IsSome, List, [], slice_get, ◌⊎◌, inl, inr, refl, sym, ap, ◌∙◌, subst, arith, ⊎_elim}
 use Rattle.std.specs.Option.{option_map, option_map_or}
 use Rattle.std.proofs.lemmas.Bool.{cond-false, eq-eqb, eqb-true, leb-true, le-leb, lt-leb, cases_Bool, ltb-true, lt-ltb, cases_lt, false≢true, and_parts, and_from}
 use Rattle.std.proofs.lemmas.Bool.Decides.{nat_tests}
 use Rattle.std.proofs.lemmas.Option.{none-some, same_Some}
 use Rattle.std.proofs.Math.Nat.{div-eq_of_lt-le, div-lt_iff_lt-mul, le-div_iff_mul-le}
 use Rattle.profile.specs.Limits.{first_identifier}
-use Rattle.stuff_bound.specs.Stuffing.{worst}
 use Rattle.cycle_layout.specs.Layout.{sync_start, trigger_part}
 use Rattle.trigger_kind.specs.Kind.{part_of, triggers_of}
 use Rattle.trigger_kind.proofs.Shared.{part-least}

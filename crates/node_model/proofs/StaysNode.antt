@@ -2,9 +2,7 @@
 use Rattle.std.proofs.Common.{◌≡◌, ◌≢◌, ℕ, ◌+◌, ◌-◌, ◌^◌, ◌<◌, ◌≤◌, ◌==◌, false, Option, Some, None, IfSome, List, sym, ◌∙◌, arith, option_map}
 use Rattle.std.proofs.lemmas.Bool.{both_ways, eq-eqb}
 use Rattle.profile.specs.Limits.{first_identifier}
-use Rattle.can_frame.specs.DataFrame.{DataFrame}
 use Rattle.can_frame.specs.declared.data_frame.TimedFrame.{TimedFrame}
-use Rattle.cycle_layout.specs.Layout.{CycleLayout}
 use Rattle.requirement_table.specs.declared.entries.Placed.{Placed}
 use Rattle.requirement_table.specs.Table.{IsWellPlaced}
 use Rattle.trigger_codec.specs.declared.message.Trigger.{Trigger}
