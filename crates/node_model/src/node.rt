@@ -179,6 +179,7 @@ impl Node {
     }
 
     /// Hears the last trigger frame of a cycle, which opens the next cycle.
+    #[inline(never)]
     fn hear_last(&mut self, heard: &TimedFrame)
         requires opens { heard.now.frame.identifier ≡ opening_identifier self.old.state.layout.slots }
         requires cycle { self.old.state.next < cycles_end }
@@ -192,6 +193,7 @@ impl Node {
     }
 
     /// Notes the first trigger frame, where it is not the last one.
+    #[inline(never)]
     fn note(&mut self, heard: &TimedFrame)
         requires first { heard.now.frame.identifier ≡ 0 }
         requires more { heard.now.frame.identifier ≢ opening_identifier self.old.state.layout.slots }
