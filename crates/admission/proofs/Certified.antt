@@ -2,7 +2,7 @@
 use Rattle.std.proofs.Common.{◌≡◌, ℕ, ◌+◌, ◌-◌, ◌%◌, ◌<◌, ◌≤◌, false, List, ◌++◌, All, length, sym, ap, ◌∙◌, subst, ⊎_elim, zero-add, arith}
 use Rattle.std.proofs.lemmas.Bool.{cases_lt}
 use Rattle.requirement_table.specs.declared.entries.Placed.{Placed}
-use Rattle.requirement_table.specs.Slots.{most_slots}
+use Rattle.bit_sets.specs.Sets.{most_slots}
 use Rattle.requirement_table.specs.Table.{IsWellPlaced}
 use Rattle.planner_policies.specs.declared.state.PlanState.{PlanState}
 use Rattle.planner_policies.specs.Loop.{RepeatsFrom}
@@ -15,7 +15,7 @@ use Rattle.admission.specs.declared.verdict.Verdict.TheVariants.{Accepted}
 use Rattle.admission.specs.Certified.{IsCertificateFrom, IsCertificateOf, IsRepeated, end_of}
 use Rattle.admission.specs.Recurrence.{IsRecurrence}
 use Rattle.admission.specs.Verdict.{IsVerdictOnPlan, masks_of, plan_from}
-use Rattle.requirement_table.proofs.Shared.{contains_slot-none, set_of-same}
+use Rattle.bit_sets.proofs.Shared.{has_bit-none, set_of-same}
 use Rattle.admission.proofs.Divided.{divided-along, divided-gap}
 use Rattle.admission.proofs.Listed.{later_plan, masks-length, on-masks}
 use Rattle.admission.proofs.Once.{repeat-never}
@@ -108,7 +108,7 @@ module _ (rules : Rules) (placed : List Placed) (cycle pending : ℕ) (left : pe
         }
 
     none-valid : IsValid placed 0 0
-    none-valid slot has = let none = contains_slot-none slot in absurd (cc)
+    none-valid slot has = let none = has_bit-none slot in absurd (cc)
 
     row-is : (certificate : CertificateView) → certificate.from ≡ 0 → certificate.pending ≡ 0 → certificate.first ≡ b → certificate.masks ≡ opened ++ planned
         → row laws rules placed 0 0 b d well none-valid some ≡ certificate

@@ -4,6 +4,8 @@ use Rattle.std.specs.Option.{option_map, option_map_or}
 use Rattle.std.proofs.Math.Nat.{add-mod_right, mul-le-mul_right}
 use Rattle.std.proofs.lemmas.Bool.{cases_Bool, cases_lt}
 use Rattle.std.proofs.lemmas.List.Elements.{All-contains}
+use Rattle.bit_sets.specs.Sets.{most_slots}
+use Rattle.bit_sets.proofs.Shared.{set_of-none}
 use Rattle.requirement_table.specs.declared.entries.Placed.{Placed}
 use Rattle.requirement_table.specs.Instance.{Instance, IsReleasedIn, MaySend, release_of}
 use Rattle.requirement_table.specs.Table.{IsHeldFrom, IsInRange, IsWellPlaced, instance_in}
@@ -11,7 +13,7 @@ use Rattle.requirement_table.proofs.Shared.{instance_in-sound}
 use Rattle.planner_policies.specs.Loop.{settled_at}
 use Rattle.planner_policies.specs.Plan.{HasNoMiss, IsValid, NeverMisses, Planning, pending_at, pending_before}
 use Rattle.admission.specs.Recurrence.{AllRelease, AreAlike, HasNoRecurrence, IsCommonPeriod, IsLeastCommonPeriod, bound_of}
-use Rattle.admission.proofs.Cycles.{agree-set, set-none}
+use Rattle.admission.proofs.Cycles.{agree-set}
 use Rattle.admission.proofs.Divided.{parts-of}
 use Rattle.admission.proofs.Reduced.{bound-above, settled-by}
 
@@ -59,7 +61,7 @@ module _ (placed : List Placed) (c : ℕ) (well : IsWellPlaced placed) (settled 
 pub nothing-pending : (plan : Planning) (n : ℕ) → IsWellPlaced plan.placed → IsValid plan.placed (plan.from + n) (pending_at plan n)
     → bound_of plan.from plan.placed ≤ plan.from + n → AllRelease plan.placed (plan.from + n) → pending_at plan n ≡ 0
 nothing-pending plan n well valid settled all =
-    set-none (pending_before plan n)
+    set_of-none most_slots (pending_before plan n)
     (λ slot known.
     ⊎_elim
     (λ (is : pending_before plan n slot ≡ true).

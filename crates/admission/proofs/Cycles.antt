@@ -2,9 +2,9 @@
 use Rattle.std.proofs.Common.{◌≡◌, ℕ, zero, suc, ◌+◌, ◌<◌, Bool, false, ◌&&◌, List, ◌++◌, ◌∷◌, [], refl, sym, ap, ◌∙◌, arith}
 use Rattle.std.proofs.lemmas.Bool.{lt-ltb}
 use Rattle.requirement_table.specs.declared.entries.Placed.{Placed}
-use Rattle.requirement_table.specs.Slots.{contains_slot, set_of, most_slots}
+use Rattle.bit_sets.specs.Sets.{has_bit, set_of, most_slots}
 use Rattle.requirement_table.specs.Table.{is_last_in, releases_in, worst_in}
-use Rattle.requirement_table.proofs.Shared.{contains_slot-none, contains_slot-set_of, set_of-contains_slot, set_of-same}
+use Rattle.bit_sets.proofs.Shared.{has_bit-none, has_bit-set_of, set_of-same}
 use Rattle.planner_policies.specs.declared.Policy.{Policy}
 use Rattle.planner_policies.specs.Plan.{HasNoMiss, Planning, Ranking, is_by, is_missed_at, is_missed_in, left_after, mask_at, pending_at, pending_before, planned_in, planning_of}
 use Rattle.planner_policies.proofs.Shared.{AreAlike, left-alike, missed-alike, planned-alike}
@@ -34,16 +34,11 @@ like-sym policy one other c d like = record {
 }
 
 -- a set contains the slots of which it was made
-pub agree-set : (p : ℕ → Bool) → Agree (contains_slot (set_of most_slots p)) p
-agree-set p slot known = contains_slot-set_of most_slots p slot ∙ ap (λ b. b && p slot) (lt-ltb slot most_slots known)
-
-pub set-none : (p : ℕ → Bool) → ((slot : ℕ) → slot < most_slots → p slot ≡ false) → set_of most_slots p ≡ 0
-set-none p none =
-    set_of-same most_slots p (contains_slot 0) (λ slot known. none slot known ∙ sym (contains_slot-none slot))
-    ∙ sym (set_of-contains_slot most_slots 0 (omega arith))
+pub agree-set : (p : ℕ → Bool) → Agree (has_bit (set_of most_slots p)) p
+agree-set p slot known = has_bit-set_of most_slots p slot ∙ ap (λ b. b && p slot) (lt-ltb slot most_slots known)
 
 pub none-set : (p : ℕ → Bool) (slot : ℕ) → set_of most_slots p ≡ 0 → slot < most_slots → p slot ≡ false
-none-set p slot empty known = sym (agree-set p slot known) ∙ ap (λ mask. contains_slot mask slot) empty ∙ contains_slot-none slot
+none-set p slot empty known = sym (agree-set p slot known) ∙ ap (λ mask. has_bit mask slot) empty ∙ has_bit-none slot
 
 -- the two lists with the same ranking otherwise
 module _ (ranking : Ranking) (other : List Placed) (c d : ℕ) (like : IsLike ranking.policy ranking.placed other c d) where

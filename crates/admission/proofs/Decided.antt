@@ -1,7 +1,7 @@
 -- What is decided of a list, by what was found in the walk over its planning.
 use Rattle.std.proofs.Common.{◌≡◌, ℕ, ◌+◌, ◌-◌, ◌<◌, ◌≤◌, true, false, Option, Some, None, IfOk, Result, Ok, Err, List, [], refl, sym, ap, ◌∙◌, subst, arith}
 use Rattle.requirement_table.specs.declared.entries.Placed.{Placed}
-use Rattle.requirement_table.specs.Slots.{contains_slot}
+use Rattle.bit_sets.specs.Sets.{has_bit}
 use Rattle.requirement_table.specs.Table.{IsWellPlaced, not_over}
 use Rattle.requirement_table.proofs.Shared.{not_over-well_placed}
 use Rattle.planner_policies.specs.declared.state.Miss.{Miss as MissedInstance}
@@ -217,9 +217,9 @@ module _ (rules : Rules) (list : List Placed) (from pending : ℕ) (walked : Ran
 -- what a walk over the planning needs
 module _ (rules : Rules) (list : List Placed) (walked : Ranking) (from pending : ℕ) (walked_is : walked ≡ ranking_of rules list from)
     (well : IsWellPlaced list) where
-  pub walked-held : IsValid list from pending → (slot : ℕ) → contains_slot pending slot ≡ true → is_held_from walked.placed from slot ≡ true
+  pub walked-held : IsValid list from pending → (slot : ℕ) → has_bit pending slot ≡ true → is_held_from walked.placed from slot ≡ true
   walked-held valid =
-      subst (λ (r : Ranking). (slot : ℕ) → contains_slot pending slot ≡ true → is_held_from r.placed from slot ≡ true) (sym walked_is)
+      subst (λ (r : Ranking). (slot : ℕ) → has_bit pending slot ≡ true → is_held_from r.placed from slot ≡ true) (sym walked_is)
       (held-tests (not_over from list) from pending (held-reduced list from pending valid))
 
   pub walked-positive : (period : Option ℕ) → IsPeriodUpTo rules.horizon list period → (length : ℕ) → period ≡ Some length → 0 < length

@@ -3,8 +3,8 @@ use Rattle.std.proofs.Common.{◌≡◌, ℕ, zero, suc, ◌+◌, ◌-◌, ◌<�
 use Rattle.std.proofs.lemmas.List.Elements.{All-append, All-cons, All-nil}
 use Rattle.profile.specs.Limits.{cycles_end, openings_end}
 use Rattle.requirement_table.specs.declared.entries.Placed.{Placed}
-use Rattle.requirement_table.specs.Slots.{contains_slot, most_slots}
-use Rattle.requirement_table.proofs.Shared.{contains_slot-none, set_of-below}
+use Rattle.bit_sets.specs.Sets.{has_bit, most_slots}
+use Rattle.bit_sets.proofs.Shared.{has_bit-none, set_of-below}
 use Rattle.planner_policies.specs.Plan.{IsValid, Planning, mask_at, planned_at}
 use Rattle.planner_policies.specs.declared.state.PlanState.{PlanState}
 use Rattle.plan_check.specs.Certificate.{CertificateView, length_of}
@@ -25,10 +25,10 @@ masks-below plan (suc n) =
 
 module _ (rules : Rules) (placed : List Placed) (opened : List ℕ) (state : PlanState) (certificate : CertificateView)
     (made : IsCertificateOf rules placed opened state certificate) where
-  pub nothing-pending : HasPending placed certificate.from (contains_slot certificate.pending)
+  pub nothing-pending : HasPending placed certificate.from (has_bit certificate.pending)
   nothing-pending slot has =
-      let empty : contains_slot 0 slot ≡ true = subst (λ n. contains_slot n slot ≡ true) made.nothing_pending has in
-      let none = contains_slot-none slot in
+      let empty : has_bit 0 slot ≡ true = subst (λ n. has_bit n slot ≡ true) made.nothing_pending has in
+      let none = has_bit-none slot in
       absurd (cc)
 
   module _ (ranges : IsRules rules) (whole : certificate.masks ≡ masks_of (plan_from rules placed 0 0) (end_of certificate)) where
@@ -70,10 +70,10 @@ module _ (rules : Rules) (placed : List Placed) (opened : List ℕ) (state : Pla
 
 -- the certificate from a state on
 module _ (rules : Rules) (placed : List Placed) (state : PlanState) (certificate : CertificateView) (made : IsCertificateFrom rules placed state certificate) where
-  pub pending-from : IsValid placed state.cycle state.pending → HasPending placed certificate.from (contains_slot certificate.pending)
+  pub pending-from : IsValid placed state.cycle state.pending → HasPending placed certificate.from (has_bit certificate.pending)
   pending-from valid =
-      subst (λ c. HasPending placed c (contains_slot certificate.pending)) (sym made.start)
-      (subst (λ n. HasPending placed state.cycle (contains_slot n)) (sym made.before) valid)
+      subst (λ c. HasPending placed c (has_bit certificate.pending)) (sym made.start)
+      (subst (λ n. HasPending placed state.cycle (has_bit n)) (sym made.before) valid)
 
   pub cycles-from : IsRules rules → state.cycle ≤ openings_end → certificate.from + length certificate.masks ≤ cycles_end
   cycles-from ranges low =

@@ -3,8 +3,8 @@ use Rattle.std.proofs.Common.{◌≡◌, ℕ, zero, suc, ◌+◌, ◌<◌, ◌�
 use Rattle.std.proofs.Math.Seq.{get_or-append_seam}
 use Rattle.std.proofs.lemmas.Bool.{cases_lt}
 use Rattle.std.proofs.lemmas.List.{append-nil, append_assoc, get_or_append_left}
-use Rattle.requirement_table.specs.Slots.{most_slots}
-use Rattle.requirement_table.proofs.Shared.{set_of-same}
+use Rattle.bit_sets.specs.Sets.{most_slots}
+use Rattle.bit_sets.proofs.Shared.{set_of-same}
 use Rattle.planner_policies.specs.Plan.{Planning, mask_at, pending_at, planned_at}
 use Rattle.planner_policies.proofs.Shared.{on-planned}
 use Rattle.admission.specs.Verdict.{masks_of}

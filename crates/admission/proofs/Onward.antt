@@ -3,9 +3,9 @@ use Rattle.std.proofs.Common.{◌≡◌, ℕ, ◌+◌, ◌-◌, ◌%◌, ◌<◌
 use Rattle.std.proofs.Math.Nat.{mod-add-mod}
 use Rattle.profile.specs.Limits.{openings_end}
 use Rattle.requirement_table.specs.declared.entries.Placed.{Placed}
-use Rattle.requirement_table.specs.Slots.{most_slots}
+use Rattle.bit_sets.specs.Sets.{most_slots}
 use Rattle.requirement_table.specs.Table.{IsWellPlaced}
-use Rattle.requirement_table.proofs.Shared.{set_of-same}
+use Rattle.bit_sets.proofs.Shared.{set_of-same}
 use Rattle.planner_policies.specs.Loop.{RepeatsFrom, settled_at}
 use Rattle.planner_policies.specs.Plan.{Planning, pending_at, pending_before}
 use Rattle.planner_policies.proofs.Shared.{on-missed, on-pending}

@@ -1,8 +1,8 @@
 -- Cycles that are planned one after the other.
 use Rattle.std.proofs.Common.{◌≡◌, ℕ, suc, ◌+◌, ◌^◌, ◌<◌, ◌≤◌, false, None, List, [], ◌∷◌, ◌++◌, refl, sym, ap, ◌∙◌, subst, arith, ⊎_elim}
 use Rattle.std.proofs.lemmas.Bool.{cases_lt}
-use Rattle.requirement_table.specs.Slots.{contains_slot, set_of, most_slots}
-use Rattle.requirement_table.proofs.Shared.{set_of-contains_slot, set_of-same}
+use Rattle.bit_sets.specs.Sets.{has_bit, set_of, most_slots}
+use Rattle.bit_sets.proofs.Shared.{set_of-has_bit, set_of-same}
 use Rattle.planner_policies.specs.declared.state.PlanState.{PlanState}
 use Rattle.planner_policies.specs.Plan.{HasNoMiss, HasNoMissIn, IsMissAt, IsMissIn, IsValid, Planning, Ranking, Standing, going_from, is_missed_at, is_missed_in, left_after, mask_at, pending_at, pending_before, planned_at, planned_in, planning_of}
 use Rattle.release_wheel.specs.Passed.{IsPassed}
@@ -15,11 +15,11 @@ use Rattle.admission.proofs.Cycles.{Agree, agree-set, like-left, like-missed, li
 -- what is planned, left and missed in a state
 abbrev pub planned_from : Ranking → ℕ → PlanState → ℕ
 planned_from ranking window state =
-    set_of most_slots (planned_in (planning_of ranking window state.cycle state.pending) state.cycle (contains_slot state.pending))
+    set_of most_slots (planned_in (planning_of ranking window state.cycle state.pending) state.cycle (has_bit state.pending))
 
 abbrev pub remains_from : Ranking → ℕ → PlanState → ℕ
 remains_from ranking window state =
-    set_of most_slots (left_after (planning_of ranking window state.cycle state.pending) state.cycle (contains_slot state.pending))
+    set_of most_slots (left_after (planning_of ranking window state.cycle state.pending) state.cycle (has_bit state.pending))
 
 pub state-parts : (x y : PlanState) → x.cycle ≡ y.cycle → x.pending ≡ y.pending → x ≡ y
 state-parts x y cycle pending =
@@ -31,7 +31,7 @@ module _ (ranking : Ranking) (window from pending : ℕ) where
 
   pending-first : pending < 2 ^ most_slots → pending_at plan 0 ≡ pending
   unfolding pending_before
-  pending-first known = sym (set_of-contains_slot most_slots pending known)
+  pending-first known = sym (set_of-has_bit most_slots pending known)
 
   pub planned-start : pending < 2 ^ most_slots → IsValid ranking.placed from pending
       → IsPlannedUpTo plan 0 [] (record { cycle = from; pending = pending })
@@ -44,24 +44,24 @@ module _ (ranking : Ranking) (window from pending : ℕ) where
 
   planned-at : (n : ℕ) → planned_from ranking window (state_at plan n) ≡ mask_at plan n
   planned-at n =
-      set_of-same most_slots (planned_in (planning_of ranking window (from + n) (pending_at plan n)) (from + n) (contains_slot (pending_at plan n)))
+      set_of-same most_slots (planned_in (planning_of ranking window (from + n) (pending_at plan n)) (from + n) (has_bit (pending_at plan n)))
       (planned_at plan n)
       (like-planned ranking ranking.placed (from + n) (from + n) (like-refl ranking.policy ranking.placed (from + n)) window (from + n)
-      from (pending_at plan n) pending (contains_slot (pending_at plan n)) (pending_before plan n) (agree-set (pending_before plan n)))
+      from (pending_at plan n) pending (has_bit (pending_at plan n)) (pending_before plan n) (agree-set (pending_before plan n)))
 
   left-before : (n : ℕ) → remains_from ranking window (state_at plan n) ≡ pending_at plan (suc n)
   unfolding pending_before
   left-before n =
-      set_of-same most_slots (left_after (planning_of ranking window (from + n) (pending_at plan n)) (from + n) (contains_slot (pending_at plan n)))
+      set_of-same most_slots (left_after (planning_of ranking window (from + n) (pending_at plan n)) (from + n) (has_bit (pending_at plan n)))
       (left_after plan (from + n) (pending_before plan n))
       (like-left ranking ranking.placed (from + n) (from + n) (like-refl ranking.policy ranking.placed (from + n)) window (from + n)
-      from (pending_at plan n) pending (contains_slot (pending_at plan n)) (pending_before plan n) (agree-set (pending_before plan n)))
+      from (pending_at plan n) pending (has_bit (pending_at plan n)) (pending_before plan n) (agree-set (pending_before plan n)))
 
   missed-same : (n : ℕ)
-      → Agree (is_missed_in (planning_of ranking window (from + n) (pending_at plan n)) (from + n) (contains_slot (pending_at plan n))) (is_missed_at plan n)
+      → Agree (is_missed_in (planning_of ranking window (from + n) (pending_at plan n)) (from + n) (has_bit (pending_at plan n))) (is_missed_at plan n)
   missed-same n =
       like-missed ranking ranking.placed (from + n) (from + n) (like-refl ranking.policy ranking.placed (from + n)) window (from + n)
-      from (pending_at plan n) pending (contains_slot (pending_at plan n)) (pending_before plan n) (agree-set (pending_before plan n))
+      from (pending_at plan n) pending (has_bit (pending_at plan n)) (pending_before plan n) (agree-set (pending_before plan n))
 
   pub planned-next : (n mask : ℕ) (masks : List ℕ) (state next : PlanState) → IsPlannedUpTo plan n masks state
       → mask ≡ planned_from ranking window state → next.cycle ≡ state.cycle + 1 → next.pending ≡ remains_from ranking window state
@@ -117,11 +117,11 @@ module _ (ranking : Ranking) (window from pending : ℕ) where
 
   -- a state in which nothing is missed
   pub none-more : (n : ℕ) (state : PlanState) → state ≡ state_at plan n
-      → HasNoMissIn (planning_of ranking window state.cycle state.pending) state.cycle (contains_slot state.pending) → HasNoMiss plan n
+      → HasNoMissIn (planning_of ranking window state.cycle state.pending) state.cycle (has_bit state.pending) → HasNoMiss plan n
       → HasNoMiss plan (n + 1)
   none-more n state is here before m slot below known =
-      let at : HasNoMissIn (planning_of ranking window (from + n) (pending_at plan n)) (from + n) (contains_slot (pending_at plan n)) =
-      subst (λ (s : PlanState). HasNoMissIn (planning_of ranking window s.cycle s.pending) s.cycle (contains_slot s.pending)) is here in
+      let at : HasNoMissIn (planning_of ranking window (from + n) (pending_at plan n)) (from + n) (has_bit (pending_at plan n)) =
+      subst (λ (s : PlanState). HasNoMissIn (planning_of ranking window s.cycle s.pending) s.cycle (has_bit s.pending)) is here in
       ⊎_elim
       (λ (less : m < n). before m slot less known)
       (λ (last : n ≤ m).
@@ -130,11 +130,11 @@ module _ (ranking : Ranking) (window from pending : ℕ) where
       (cases_lt m n)
 
   pub miss-at : (n slot release : ℕ) (state : PlanState) → state ≡ state_at plan n
-      → IsMissIn (planning_of ranking window state.cycle state.pending) state.cycle (contains_slot state.pending) slot release
+      → IsMissIn (planning_of ranking window state.cycle state.pending) state.cycle (has_bit state.pending) slot release
       → IsMissAt plan n slot release
   miss-at n slot release state is here =
-      let at : IsMissIn (planning_of ranking window (from + n) (pending_at plan n)) (from + n) (contains_slot (pending_at plan n)) slot release =
-      subst (λ (s : PlanState). IsMissIn (planning_of ranking window s.cycle s.pending) s.cycle (contains_slot s.pending) slot release) is here in
+      let at : IsMissIn (planning_of ranking window (from + n) (pending_at plan n)) (from + n) (has_bit (pending_at plan n)) slot release =
+      subst (λ (s : PlanState). IsMissIn (planning_of ranking window s.cycle s.pending) s.cycle (has_bit s.pending) slot release) is here in
       let known = at.known in
       record {
         known = known;
@@ -147,26 +147,26 @@ module _ (ranking : Ranking) (window from pending : ℕ) where
 
   -- what is missed where a planner of the ranking stands
   pub missed-there : (slot release : ℕ) (here : Standing) → here.ranking ≡ ranking
-      → IsMissIn (going_from here window) here.cycle (contains_slot here.pending) slot release
-      → IsMissIn (planning_of ranking window here.cycle here.pending) here.cycle (contains_slot here.pending) slot release
+      → IsMissIn (going_from here window) here.cycle (has_bit here.pending) slot release
+      → IsMissIn (planning_of ranking window here.cycle here.pending) here.cycle (has_bit here.pending) slot release
   missed-there slot release here same miss =
-      subst (λ (r : Ranking). IsMissIn (planning_of r window here.cycle here.pending) here.cycle (contains_slot here.pending) slot release) same miss
+      subst (λ (r : Ranking). IsMissIn (planning_of r window here.cycle here.pending) here.cycle (has_bit here.pending) slot release) same miss
 
   pub none-there : (n : ℕ) (here : Standing) → state_in here ≡ state_at plan n → here.ranking ≡ ranking
-      → HasNoMissIn (going_from here window) here.cycle (contains_slot here.pending) → HasNoMiss plan n → HasNoMiss plan (n + 1)
+      → HasNoMissIn (going_from here window) here.cycle (has_bit here.pending) → HasNoMiss plan n → HasNoMiss plan (n + 1)
   none-there n here is same none before =
       none-more n (state_in here) is
-      (subst (λ (r : Ranking). HasNoMissIn (planning_of r window here.cycle here.pending) here.cycle (contains_slot here.pending)) same none) before
+      (subst (λ (r : Ranking). HasNoMissIn (planning_of r window here.cycle here.pending) here.cycle (has_bit here.pending)) same none) before
 
   -- where none is missed before the cycle of the state, none of the first n is
   pub none-at : (n cycles : ℕ) (state : PlanState) → state ≡ state_at plan n → n < cycles → HasNoMiss plan cycles
-      → HasNoMissIn (planning_of ranking window state.cycle state.pending) state.cycle (contains_slot state.pending)
+      → HasNoMissIn (planning_of ranking window state.cycle state.pending) state.cycle (has_bit state.pending)
   none-at n cycles state is below none =
-      subst (λ (s : PlanState). HasNoMissIn (planning_of ranking window s.cycle s.pending) s.cycle (contains_slot s.pending)) (sym is)
+      subst (λ (s : PlanState). HasNoMissIn (planning_of ranking window s.cycle s.pending) s.cycle (has_bit s.pending)) (sym is)
       (λ slot known. missed-same n slot known ∙ none n slot below known)
 
   pub miss-decided : (n slot release cycle mask : ℕ) (masks : List ℕ) (state : PlanState) (decision : Decision) → IsPlannedUpTo plan n masks state
-      → IsMissIn (planning_of ranking window state.cycle state.pending) state.cycle (contains_slot state.pending) slot release
+      → IsMissIn (planning_of ranking window state.cycle state.pending) state.cycle (has_bit state.pending) slot release
       → cycle ≡ state.cycle → mask ≡ planned_from ranking window state → decision.verdict ≡ Miss slot release cycle → decision.placed ≡ None
       → decision.trail ≡ masks ++ mask ∷ [] → IsMissDecision plan n decision
   miss-decided n slot release cycle mask masks state decision planned miss at is verdict list trail =

@@ -9,9 +9,9 @@ use Rattle.std.proofs.lemmas.List.Folds.{list_any_none}
 use Rattle.std.proofs.lemmas.Nat.{div-add-mod'}
 use Rattle.requirement_table.specs.declared.entries.Placed.{Placed}
 use Rattle.requirement_table.specs.Flags.{IsGoodCycle, waits}
-use Rattle.requirement_table.specs.Slots.{contains_slot, most_slots}
+use Rattle.bit_sets.specs.Sets.{has_bit, most_slots}
 use Rattle.requirement_table.specs.Table.{IsWellPlaced, held_before, is_last_in, releases_in, width_in, worst_in}
-use Rattle.requirement_table.proofs.Shared.{sum_where-same}
+use Rattle.bit_sets.proofs.Shared.{sum_where-same}
 use Rattle.planner_policies.specs.Loop.{RepeatsFrom}
 use Rattle.planner_policies.specs.Plan.{HasNoMiss, IsValid, NeverMisses, Planning, flags_of as flags_planned, pending_at, pending_before, planned_at}
 use Rattle.planner_policies.proofs.Shared.{pending-test, planned-fits}
@@ -33,11 +33,11 @@ pub record PlanLaws : Type 0 where
       → All (RepeatsFrom (plan.from + n) (m - n)) plan.placed → pending_at plan n ≡ pending_at plan m → slot < most_slots
       → planned_at plan (m + k) slot ≡ planned_at plan (n + k) slot
   pub held : (plan : Planning) (n slot : ℕ)
-      → held_before plan.placed (flags_planned plan) plan.from (contains_slot plan.pending) n slot ≡ pending_before plan n slot
+      → held_before plan.placed (flags_planned plan) plan.from (has_bit plan.pending) n slot ≡ pending_before plan n slot
   pub good : (plan : Planning) (n m : ℕ) → HasNoMiss plan n → m < n
-      → IsGoodCycle plan.placed (flags_planned plan) plan.from (contains_slot plan.pending) m
+      → IsGoodCycle plan.placed (flags_planned plan) plan.from (has_bit plan.pending) m
   pub taken : (placed : List Placed) (window : ℕ) (certificate : CertificateView) → IsWellPlaced placed
-      → HasPending placed certificate.from (contains_slot certificate.pending)
+      → HasPending placed certificate.from (has_bit certificate.pending)
       → IsCertificate certificate.from certificate.first certificate.masks
       → ((breach : Breach) → ¬ IsBreach placed window certificate breach) → IsTaken placed window certificate
 
@@ -128,8 +128,8 @@ module _ (laws : PlanLaws) (rules : Rules) (placed : List Placed) (from pending 
         → flags_of row (from + n) slot ≡ planned_at plan place slot
     unfolding flags_of
     listed n place slot is within known =
-        ap (λ k. contains_slot (get_or (masks_of plan (b + d)) k 0) slot) is
-        ∙ ap (λ mask. contains_slot mask slot) (masks-at plan (b + d) place within)
+        ap (λ k. has_bit (get_or (masks_of plan (b + d)) k 0) slot) is
+        ∙ ap (λ mask. has_bit mask slot) (masks-at plan (b + d) place within)
         ∙ agree-set (planned_at plan place) slot known
 
     pub row-flags : (n slot : ℕ) → slot < most_slots → flags_of row (from + n) slot ≡ planned_at plan n slot
@@ -149,8 +149,8 @@ module _ (laws : PlanLaws) (rules : Rules) (placed : List Placed) (from pending 
     row-planned n slot known = let at : n ≡ from + n - from = omega arith in row-flags n slot known ∙ ap (λ k. planned_at plan k slot) at
 
     row-before : (n slot : ℕ) → slot < most_slots
-        → is_held placed row n slot ≡ held_before placed (flags_planned plan) from (contains_slot pending) n slot
-    row-before n slot known = held-same placed (flags_of row) (flags_planned plan) from (contains_slot pending) n slot (λ m. row-planned m slot known)
+        → is_held placed row n slot ≡ held_before placed (flags_planned plan) from (has_bit pending) n slot
+    row-before n slot known = held-same placed (flags_of row) (flags_planned plan) from (has_bit pending) n slot (λ m. row-planned m slot known)
 
     row-held : (n slot : ℕ) → slot < most_slots → is_held placed row n slot ≡ pending_before plan n slot
     row-held n slot known = row-before n slot known ∙ laws.held plan n slot
@@ -173,18 +173,18 @@ module _ (laws : PlanLaws) (rules : Rules) (placed : List Placed) (from pending 
         (ap (λ n. is_held placed row n slot) before
         ∙ row-held b slot known
         ∙ sym (pending-test plan b slot known)
-        ∙ ap (λ mask. contains_slot mask slot) again
+        ∙ ap (λ mask. has_bit mask slot) again
         ∙ pending-test plan (b + d) slot known
         ∙ sym (row-held (b + d) slot known)
         ∙ ap (λ n. is_held placed row n slot) (sym behind))
 
     -- The cycles
 
-    good-planned : (n : ℕ) → IsGoodCycle placed (flags_planned plan) from (contains_slot pending) n
+    good-planned : (n : ℕ) → IsGoodCycle placed (flags_planned plan) from (has_bit pending) n
     good-planned n = laws.good plan (suc n) n (λ m slot _ known. never m slot known) (omega arith)
 
     waits-same : (n slot : ℕ) → slot < most_slots
-        → is_waiting placed row n slot ≡ waits placed (flags_planned plan) from (contains_slot pending) n slot
+        → is_waiting placed row n slot ≡ waits placed (flags_planned plan) from (has_bit pending) n slot
     waits-same n slot known = ap (λ held. held || releases_in placed (from + n) slot) (row-before n slot known)
 
     fits : (n : ℕ) → width_at placed row n ≤ rules.window

@@ -4,9 +4,9 @@ use Rattle.std.proofs.lemmas.Bool.{cases_lt, eq-eqb, ne_eqb}
 use Rattle.std.proofs.lemmas.Bool.Decides.{nat_tests}
 use Rattle.requirement_table.specs.declared.entries.Placed.{Placed}
 use Rattle.requirement_table.specs.Instance.{Instance, release_of}
-use Rattle.requirement_table.specs.Slots.{contains_slot, set_of, most_slots}
+use Rattle.bit_sets.specs.Sets.{has_bit, set_of, most_slots}
 use Rattle.requirement_table.specs.Table.{IsHeldFrom, instance_in}
-use Rattle.requirement_table.proofs.Shared.{set_of-same}
+use Rattle.bit_sets.proofs.Shared.{set_of-same, set_of-none}
 use Rattle.std.specs.Option.{option_map_or}
 use Rattle.planner_policies.specs.declared.Policy.{Policy}
 use Rattle.planner_policies.specs.declared.state.PlanState.{PlanState}
@@ -14,7 +14,7 @@ use Rattle.planner_policies.specs.Loop.{RepeatsFrom}
 use Rattle.planner_policies.specs.Plan.{HasNoMissIn, IsMissIn, IsValid, Ranking, is_missed_in, left_after, planning_of}
 use Rattle.admission.specs.Course.{is_held_from, left_from, missed_from, state_behind}
 use Rattle.admission.specs.WalkLaws.{GoesOn}
-use Rattle.admission.proofs.Cycles.{Agree, IsLike, like-left, like-missed, like-sym, none-set, set-none}
+use Rattle.admission.proofs.Cycles.{Agree, IsLike, like-left, like-missed, like-sym, none-set}
 use Rattle.admission.proofs.Divided.{divided-along, divided-gap, not-by_zero}
 use Rattle.admission.proofs.Later.{IsSettled, like-behind}
 
@@ -55,7 +55,7 @@ like-places policy bound length placed c d repeating first second same =
 
 -- states with the same slots pending, in cycles that are alike, go on in the same way
 module _ (ranking : Ranking) (other : List Placed) (window c d pending has : ℕ)
-    (like : IsLike ranking.policy ranking.placed other c d) (same : Agree (contains_slot pending) (contains_slot has)) where
+    (like : IsLike ranking.policy ranking.placed other c d) (same : Agree (has_bit pending) (has_bit has)) where
   abbrev one_state : PlanState
   one_state = record { cycle = c; pending = pending }
 
@@ -68,16 +68,16 @@ module _ (ranking : Ranking) (other : List Placed) (window c d pending has : ℕ
   pub missed-like : missed_from ranking window one_state ≡ missed_from other_ranking window other_state
   unfolding missed_from
   missed-like =
-      set_of-same most_slots (is_missed_in (planning_of ranking window c pending) c (contains_slot pending))
-      (is_missed_in (planning_of other_ranking window d has) d (contains_slot has))
-      (like-missed ranking other c d like window c d pending has (contains_slot pending) (contains_slot has) same)
+      set_of-same most_slots (is_missed_in (planning_of ranking window c pending) c (has_bit pending))
+      (is_missed_in (planning_of other_ranking window d has) d (has_bit has))
+      (like-missed ranking other c d like window c d pending has (has_bit pending) (has_bit has) same)
 
   pub left-like : left_from ranking window one_state ≡ left_from other_ranking window other_state
   unfolding left_from
   left-like =
-      set_of-same most_slots (left_after (planning_of ranking window c pending) c (contains_slot pending))
-      (left_after (planning_of other_ranking window d has) d (contains_slot has))
-      (like-left ranking other c d like window c d pending has (contains_slot pending) (contains_slot has) same)
+      set_of-same most_slots (left_after (planning_of ranking window c pending) c (has_bit pending))
+      (left_after (planning_of other_ranking window d has) d (has_bit has))
+      (like-left ranking other c d like window c d pending has (has_bit pending) (has_bit has) same)
 
 -- so a walk goes on in the same way after states that are the same
 pub goes-on : (ranking : Ranking) (window bound : ℕ) (period : Option ℕ)
@@ -85,7 +85,7 @@ pub goes-on : (ranking : Ranking) (window bound : ℕ) (period : Option ℕ)
 goes-on ranking window bound None repeating one other same = absurd same
 goes-on ranking window bound (Some length) repeating one other same =
     let like = like-places ranking.policy bound length ranking.placed one.cycle other.cycle (repeating length refl) same.one_settled same.other_settled same.place in
-    let agree : Agree (contains_slot one.pending) (contains_slot other.pending) = λ slot known. ap (λ mask. contains_slot mask slot) same.pending in (
+    let agree : Agree (has_bit one.pending) (has_bit other.pending) = λ slot known. ap (λ mask. has_bit mask slot) same.pending in (
       missed-like ranking ranking.placed window one.cycle other.cycle one.pending other.pending like agree,
       left-like ranking ranking.placed window one.cycle other.cycle one.pending other.pending like agree,
     )
@@ -105,26 +105,26 @@ state-same x y cycle pending =
     ap (λ (n : ℕ). record x { cycle = n }) cycle ∙ ap (λ (n : ℕ). record y { pending = n }) pending
 
 pub behind-planned : (ranking : Ranking) (window : ℕ) (state next : PlanState)
-    → HasNoMissIn (planning_of ranking window state.cycle state.pending) state.cycle (contains_slot state.pending)
+    → HasNoMissIn (planning_of ranking window state.cycle state.pending) state.cycle (has_bit state.pending)
     → next.cycle ≡ state.cycle + 1
-    → next.pending ≡ set_of most_slots (left_after (planning_of ranking window state.cycle state.pending) state.cycle (contains_slot state.pending))
+    → next.pending ≡ set_of most_slots (left_after (planning_of ranking window state.cycle state.pending) state.cycle (has_bit state.pending))
     → Some next ≡ state_behind ranking window state
 unfolding missed_from left_from
 behind-planned ranking window state next none cycle pending =
     let missed : missed_from ranking window state ≡ 0 =
-    set-none (is_missed_in (planning_of ranking window state.cycle state.pending) state.cycle (contains_slot state.pending)) none in
+    set_of-none most_slots (is_missed_in (planning_of ranking window state.cycle state.pending) state.cycle (has_bit state.pending)) none in
     let is = state-same next (record { cycle = state.cycle + 1; pending = left_from ranking window state }) cycle pending in
     ap (λ (s : PlanState). Some s) is
     ∙ chosen (nat_eq (missed_from ranking window state) 0) (record { cycle = state.cycle + 1; pending = left_from ranking window state })
     (eq-eqb (missed_from ranking window state) 0 missed)
 
 pub behind-missed : (ranking : Ranking) (window slot release : ℕ) (state : PlanState)
-    → IsMissIn (planning_of ranking window state.cycle state.pending) state.cycle (contains_slot state.pending) slot release
+    → IsMissIn (planning_of ranking window state.cycle state.pending) state.cycle (has_bit state.pending) slot release
     → None ≡ state_behind ranking window state
 unfolding missed_from left_from
 behind-missed ranking window slot release state miss =
     let wrong : missed_from ranking window state ≢ 0 = λ none.
-    let not = none-set (is_missed_in (planning_of ranking window state.cycle state.pending) state.cycle (contains_slot state.pending)) slot none miss.known in
+    let not = none-set (is_missed_in (planning_of ranking window state.cycle state.pending) state.cycle (has_bit state.pending)) slot none miss.known in
     let is = miss.missed in
     cc in
     unchosen (nat_eq (missed_from ranking window state) 0) (record { cycle = state.cycle + 1; pending = left_from ranking window state })
@@ -137,11 +137,11 @@ held-parts : (placed : List Placed) (c slot : ℕ) (o : Option Instance) → ins
 held-parts placed c slot None found test = absurd (cc)
 held-parts placed c slot (Some i) found test = record { instance = i; found = found; before = grind (arith, nat_tests) }
 
-pub held-from_tests : (placed : List Placed) (c pending : ℕ) → ((slot : ℕ) → contains_slot pending slot ≡ true → is_held_from placed c slot ≡ true)
+pub held-from_tests : (placed : List Placed) (c pending : ℕ) → ((slot : ℕ) → has_bit pending slot ≡ true → is_held_from placed c slot ≡ true)
     → IsValid placed c pending
 held-from_tests placed c pending held slot in' = held-parts placed c slot (instance_in placed slot c) refl (held slot in')
 
-pub held-tests : (placed : List Placed) (c pending : ℕ) → IsValid placed c pending → (slot : ℕ) → contains_slot pending slot ≡ true
+pub held-tests : (placed : List Placed) (c pending : ℕ) → IsValid placed c pending → (slot : ℕ) → has_bit pending slot ≡ true
     → is_held_from placed c slot ≡ true
 held-tests placed c pending valid slot in' =
     let held = valid slot in' in

@@ -3,14 +3,14 @@ use Rattle.std.proofs.Common.{◌≡◌, ℕ, zero, suc, ◌+◌, ◌^◌, ◌<�
 use Rattle.std.proofs.lemmas.Bool.{cases_lt, eq-eqb, eqb-true}
 use Rattle.std.proofs.lemmas.Option.{cond_some, same_Some}
 use Rattle.requirement_table.specs.declared.entries.Placed.{Placed}
-use Rattle.requirement_table.specs.Slots.{contains_slot, set_of, most_slots}
-use Rattle.requirement_table.proofs.Shared.{set_of-contains_slot, set_of-same}
+use Rattle.bit_sets.specs.Sets.{has_bit, set_of, most_slots}
+use Rattle.bit_sets.proofs.Shared.{set_of-has_bit, set_of-same, set_of-none}
 use Rattle.planner_policies.specs.declared.state.PlanState.{PlanState}
 use Rattle.planner_policies.specs.Plan.{HasNoMiss, Planning, Ranking, is_missed_at, is_missed_in, left_after, pending_at, pending_before, planning_of}
 use Rattle.recurrence_check.specs.Course.{Breaks, Course, state_after}
 use Rattle.recurrence_check.proofs.Shared.{state_after-next, state_after-start, state_before}
 use Rattle.admission.specs.Course.{course_of, left_from, missed_from, state_at, state_behind}
-use Rattle.admission.proofs.Cycles.{IsLike, agree-set, like-left, like-missed, none-set, set-none}
+use Rattle.admission.proofs.Cycles.{IsLike, agree-set, like-left, like-missed, none-set}
 
 -- a walk over a list that is alike in each cycle to the one that is planned
 module _ (ranking : Ranking) (placed : List Placed) (window from pending bound : ℕ) (period : Option ℕ)
@@ -24,18 +24,18 @@ module _ (ranking : Ranking) (placed : List Placed) (window from pending bound :
   missed-at : (n : ℕ) → missed_from ranking window (state_at plan n) ≡ set_of most_slots (is_missed_at plan n)
   unfolding missed_from
   missed-at n =
-      set_of-same most_slots (is_missed_in (planning_of ranking window (from + n) (pending_at plan n)) (from + n) (contains_slot (pending_at plan n)))
+      set_of-same most_slots (is_missed_in (planning_of ranking window (from + n) (pending_at plan n)) (from + n) (has_bit (pending_at plan n)))
       (is_missed_at plan n)
       (like-missed ranking placed (from + n) (from + n) (like n) window (from + n) from (pending_at plan n) pending
-      (contains_slot (pending_at plan n)) (pending_before plan n) (agree-set (pending_before plan n)))
+      (has_bit (pending_at plan n)) (pending_before plan n) (agree-set (pending_before plan n)))
 
   left-at : (n : ℕ) → left_from ranking window (state_at plan n) ≡ set_of most_slots (left_after plan (from + n) (pending_before plan n))
   unfolding left_from
   left-at n =
-      set_of-same most_slots (left_after (planning_of ranking window (from + n) (pending_at plan n)) (from + n) (contains_slot (pending_at plan n)))
+      set_of-same most_slots (left_after (planning_of ranking window (from + n) (pending_at plan n)) (from + n) (has_bit (pending_at plan n)))
       (left_after plan (from + n) (pending_before plan n))
       (like-left ranking placed (from + n) (from + n) (like n) window (from + n) from (pending_at plan n) pending
-      (contains_slot (pending_at plan n)) (pending_before plan n) (agree-set (pending_before plan n)))
+      (has_bit (pending_at plan n)) (pending_before plan n) (agree-set (pending_before plan n)))
 
   pending-next : (n : ℕ) → left_from ranking window (state_at plan n) ≡ pending_at plan (n + 1)
   unfolding pending_before
@@ -43,7 +43,7 @@ module _ (ranking : Ranking) (placed : List Placed) (window from pending bound :
 
   pending-start : pending_at plan 0 ≡ pending
   unfolding pending_before
-  pending-start = sym (set_of-contains_slot most_slots pending known)
+  pending-start = sym (set_of-has_bit most_slots pending known)
 
   next-state : (n : ℕ) → missed_from ranking window (state_at plan n) ≡ 0 → state_behind ranking window (state_at plan n) ≡ Some (state_at plan (n + 1))
   next-state n none =
@@ -65,7 +65,7 @@ module _ (ranking : Ranking) (placed : List Placed) (window from pending bound :
   comes-to (suc n) none =
       let here = comes-to n (λ m slot below known. none m slot (omega arith) known) in
       let clear : missed_from ranking window (state_at plan n) ≡ 0 =
-      missed-at n ∙ set-none (is_missed_at plan n) (λ slot known. none n slot (omega arith) known) in
+      missed-at n ∙ set_of-none most_slots (is_missed_at plan n) (λ slot known. none n slot (omega arith) known) in
       let next : n + 1 ≡ suc n = omega arith in
       subst (λ k. state_after course k ≡ Some (state_at plan k)) next (state_after-next course n (state_at plan n) here ∙ next-state n clear)
 
@@ -102,7 +102,7 @@ module _ (ranking : Ranking) (placed : List Placed) (window from pending bound :
   pub ends-at : (n : ℕ) → HasNoMiss plan n → state_behind ranking window (state_at plan n) ≡ None → ¬ HasNoMiss plan (n + 1)
   ends-at n none ends more =
       let clear : missed_from ranking window (state_at plan n) ≡ 0 =
-      missed-at n ∙ set-none (is_missed_at plan n) (λ slot known. more n slot (omega arith) known) in
+      missed-at n ∙ set_of-none most_slots (is_missed_at plan n) (λ slot known. more n slot (omega arith) known) in
       let goes = next-state n clear in
       absurd (cc)
 

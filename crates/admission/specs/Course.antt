@@ -4,7 +4,7 @@ use Rattle.std.specs.Prelude.{Bool, false, nat_eq, nat_le, nat_lt, if◌then◌e
 use Rattle.std.specs.Option.{option_map_or}
 use Rattle.requirement_table.specs.declared.entries.Placed.{Placed}
 use Rattle.requirement_table.specs.Instance.{release_of}
-use Rattle.requirement_table.specs.Slots.{contains_slot, set_of, most_slots}
+use Rattle.bit_sets.specs.Sets.{has_bit, set_of, most_slots}
 use Rattle.requirement_table.specs.Table.{instance_in}
 use Rattle.planner_policies.specs.declared.state.PlanState.{PlanState}
 use Rattle.planner_policies.specs.Plan.{IsValid, Planning, Ranking, Standing, is_missed_in, left_after, pending_at, planning_of}
@@ -14,12 +14,12 @@ use Rattle.recurrence_check.specs.Course.{Course}
 unfoldable pub missed_from : Ranking → ℕ → PlanState → ℕ
 missed_from ranking window state =
     set_of most_slots
-    (is_missed_in (planning_of ranking window state.cycle state.pending) state.cycle (contains_slot state.pending))
+    (is_missed_in (planning_of ranking window state.cycle state.pending) state.cycle (has_bit state.pending))
 
 unfoldable pub left_from : Ranking → ℕ → PlanState → ℕ
 left_from ranking window state =
     set_of most_slots
-    (left_after (planning_of ranking window state.cycle state.pending) state.cycle (contains_slot state.pending))
+    (left_after (planning_of ranking window state.cycle state.pending) state.cycle (has_bit state.pending))
 
 -- the state behind a state; there is none where an instance is missed
 abbrev pub state_behind : Ranking → ℕ → PlanState → Option PlanState

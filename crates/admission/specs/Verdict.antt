@@ -3,7 +3,7 @@ use Rattle.std.specs.Prelude.{◌≡◌, ℕ, zero, suc, ◌+◌, ◌-◌, ◌<�
 use Rattle.std.specs.Prelude.{Bool, true, false, List, [], ◌∷◌, ◌++◌, Option, Some, None}
 use Rattle.profile.specs.Limits.{greatest_horizon, longest_window, most_nodes, shortest_window}
 use Rattle.requirement_table.specs.declared.entries.Placed.{Placed}
-use Rattle.requirement_table.specs.Slots.{most_slots}
+use Rattle.bit_sets.specs.Sets.{most_slots}
 use Rattle.requirement_table.specs.Table.{IsWellPlaced}
 use Rattle.change_protocol.specs.declared.operations.Change.{Change}
 use Rattle.change_protocol.specs.declared.malformed.ApplyFault.{ApplyFault}

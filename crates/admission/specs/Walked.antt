@@ -1,7 +1,7 @@
 -- The walk over the planning of a list.
 use Rattle.std.specs.Prelude.{◌≡◌, ℕ, ◌+◌, ◌^◌, ◌<◌, ◌≤◌, List, Option}
 use Rattle.requirement_table.specs.declared.entries.Placed.{Placed}
-use Rattle.requirement_table.specs.Slots.{most_slots}
+use Rattle.bit_sets.specs.Sets.{most_slots}
 use Rattle.requirement_table.specs.Table.{IsWellPlaced, not_over}
 use Rattle.planner_policies.specs.declared.state.PlanState.{PlanState}
 use Rattle.planner_policies.specs.Plan.{IsValid, Ranking, Standing, planning_of}

@@ -2,7 +2,7 @@
 
 ghost use Rattle.std.specs.Prelude.{◌≡◌, ◌+◌, ◌<◌, ◌≤◌, ℕ, [], None, IfOk, IfSome};
 ghost use Rattle.profile.specs.Limits.{cycles_end, greatest_horizon, openings_end};
-ghost use Rattle.requirement_table.specs.Slots.{contains_slot};
+ghost use Rattle.bit_sets.specs.Sets.{has_bit};
 ghost use Rattle.requirement_table.specs.Table.{IsWellPlaced, not_over};
 ghost use Rattle.change_protocol.specs.Applied.{applied};
 ghost use Rattle.planner_policies.specs.Plan.{HasNoMiss, HasNoMissIn, IsMissIn, IsValid, going_from, planning_of};
@@ -374,8 +374,8 @@ fn pass_until(planner: &mut Ahead<'_>, end: u64)
 /// What is missed in the cycle that is planned next.
 pub fn miss(planner: &mut Ahead<'_>, window: u32) -> Miss
     requires cycle { planner.old.cycle < cycles_end }
-    requires missed { ¬ HasNoMissIn (going_from planner.old window) planner.old.cycle (contains_slot planner.old.pending) }
-    ensures miss { IsMissIn (going_from planner.old window) planner.old.cycle (contains_slot planner.old.pending)
+    requires missed { ¬ HasNoMissIn (going_from planner.old window) planner.old.cycle (has_bit planner.old.pending) }
+    ensures miss { IsMissIn (going_from planner.old window) planner.old.cycle (has_bit planner.old.pending)
         result.slot result.release }
     ensures cycle { result.cycle ≡ planner.old.cycle }
 {

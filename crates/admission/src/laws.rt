@@ -3,7 +3,7 @@
 ghost use Rattle.std.specs.Prelude.{◌≡◌, ℕ, ◌+◌, ◌^◌, ◌<◌, ◌≤◌, List, All, length};
 ghost use Rattle.profile.specs.Limits.{cycles_end, openings_end};
 ghost use Rattle.requirement_table.specs.declared.entries.Placed.{Placed};
-ghost use Rattle.requirement_table.specs.Slots.{contains_slot, most_slots};
+ghost use Rattle.bit_sets.specs.Sets.{has_bit, most_slots};
 ghost use Rattle.requirement_table.specs.Table.{IsWellPlaced};
 ghost use Rattle.change_protocol.specs.declared.operations.Change.{Change};
 ghost use Rattle.change_protocol.specs.Applied.{applied};
@@ -80,7 +80,7 @@ pub fn certificates_in_range()
     ensures masks { (plan : Planning) (n : ℕ) → All (λ mask. mask < 2 ^ most_slots) (masks_of plan n) }
     ensures pending { (rules : Rules) (placed : List Placed) (opened : List ℕ) (state : PlanState)
         (certificate : CertificateView) → IsCertificateOf rules placed opened state certificate
-        → HasPending placed certificate.from (contains_slot certificate.pending) }
+        → HasPending placed certificate.from (has_bit certificate.pending) }
     ensures cycles { (rules : Rules) (placed : List Placed) (opened : List ℕ) (state : PlanState)
         (certificate : CertificateView) → IsRules rules → state.cycle ≤ openings_end
         → IsCertificateOf rules placed opened state certificate
@@ -93,7 +93,7 @@ pub fn certificates_in_range()
         → IsPlanOf (plan_text certificate) certificate }
     ensures pending_from { (rules : Rules) (placed : List Placed) (state : PlanState) (certificate : CertificateView)
         → IsCertificateFrom rules placed state certificate → IsValid placed state.cycle state.pending
-        → HasPending placed certificate.from (contains_slot certificate.pending) }
+        → HasPending placed certificate.from (has_bit certificate.pending) }
     ensures cycles_from { (rules : Rules) (placed : List Placed) (state : PlanState) (certificate : CertificateView)
         → IsCertificateFrom rules placed state certificate → IsRules rules → state.cycle ≤ openings_end
         → certificate.from + length certificate.masks ≤ cycles_end }

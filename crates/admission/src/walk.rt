@@ -2,7 +2,7 @@
 
 ghost use Rattle.std.specs.Prelude.{◌≡◌, ◌+◌, ◌^◌, ◌<◌, ◌≤◌, ℕ, IfOk, IfSome, Some, true};
 ghost use Rattle.profile.specs.Limits.{cycles_end, openings_end};
-ghost use Rattle.requirement_table.specs.Slots.{contains_slot};
+ghost use Rattle.bit_sets.specs.Sets.{has_bit};
 ghost use Rattle.admission.specs.Course.{is_held_from};
 ghost use Rattle.admission.specs.WalkLaws.{GoesOn};
 ghost use Rattle.admission.specs.Walked.{AreKeys};
@@ -32,7 +32,7 @@ pub struct PlanWalk<'a> {
     ghost cycle: { start.now.cycle ≡ first.cycle },
     ghost pending: { start.now.pending ≡ first.pending },
     ghost near: { first.cycle ≤ openings_end },
-    ghost held: { (slot : ℕ) → contains_slot first.pending slot ≡ true
+    ghost held: { (slot : ℕ) → has_bit first.pending slot ≡ true
         → is_held_from start.now.ranking.placed first.cycle slot ≡ true },
     ghost positive: { (length : ℕ) → period ≡ Some length → 0 < length },
     ghost goes_on: { GoesOn start.now.ranking window bound period },

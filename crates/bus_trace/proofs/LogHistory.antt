@@ -7,7 +7,7 @@ use Rattle.std.proofs.lemmas.List.Sums.{fold-append, sum_by_push}
 use Rattle.std.specs.List.{flat_map}
 use Rattle.can_frame.specs.declared.data_frame.TimedFrame.{TimedFrame}
 use Rattle.requirement_table.specs.declared.entries.Placed.{Placed}
-use Rattle.requirement_table.specs.Slots.{contains_slot}
+use Rattle.bit_sets.specs.Sets.{has_bit}
 use Rattle.requirement_table.specs.Table.{width_in}
 use Rattle.change_protocol.specs.declared.operations.Change.{Change}
 use Rattle.admission_rules.specs.declared.Rules.{Rules}
@@ -29,10 +29,10 @@ use Rattle.bus_trace.proofs.Width.{width-same}
 
 -- by the entries that may still be sent a cycle has its synchronous window
 width-left : (before : List Event) (cycle mask next : ℕ) (placed left : List Placed) → HasEntries (placed_of before) next placed left → cycle ≡ next
-    → width_in left cycle (contains_slot mask) ≡ width_in (placed_of before) cycle (contains_slot mask)
+    → width_in left cycle (has_bit mask) ≡ width_in (placed_of before) cycle (has_bit mask)
 width-left before cycle mask next placed left entries turn =
-    width-same left placed cycle (contains_slot mask) (λ slot. entries.same slot cycle (omega (arith, turn)))
-    ∙ ap (λ l. width_in l cycle (contains_slot mask)) entries.all
+    width-same left placed cycle (has_bit mask) (λ slot. entries.same slot cycle (omega (arith, turn)))
+    ∙ ap (λ l. width_in l cycle (has_bit mask)) entries.all
 
 -- the rows of an event by these entries
 rows_with-event : (trace : List TimedFrame) (before : List Event) (event : Event) (next : ℕ) (placed left : List Placed)

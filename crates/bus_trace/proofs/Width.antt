@@ -7,10 +7,10 @@ use Rattle.std.proofs.lemmas.List.Elements.{All-contains}
 use Rattle.std.proofs.Math.Seq.{drop-cons}
 use Rattle.requirement_table.specs.declared.entries.Placed.{Placed}
 use Rattle.requirement_table.specs.Instance.{Instance, MaySend, instance_of, worst, worst_of}
-use Rattle.requirement_table.specs.Slots.{most_slots, sum_where}
+use Rattle.bit_sets.specs.Sets.{most_slots, sum_where}
 use Rattle.requirement_table.specs.Table.{IsInRange, IsWellPlaced, instance_in, sendable, width_in, worst_in}
 use Rattle.requirement_table.proofs.Shared.{MaySend-from_instance, instance_in-sound, one_instance}
-use Rattle.planner_policies.proofs.Shared.{sum_where-costs}
+use Rattle.bit_sets.proofs.Shared.{sum_where-costs, sum_where-most}
 use Rattle.bus_trace.specs.Logged.{cost_in}
 
 -- Sums
@@ -57,15 +57,6 @@ cond-le : (b : Bool) (x m : ℕ) → x ≤ m → cond b x 0 ≤ m
 cond-le true x m few = few
 cond-le false x m few = omega arith
 
-sum_where-le : (n m : ℕ) (q : ℕ → Bool) (f : ℕ → ℕ) → ((s : ℕ) → s < n → f s ≤ m) → sum_where n q f ≤ m * n
-unfolding sum_where
-sum_where-le zero m q f each = omega arith
-sum_where-le (suc n) m q f each =
-    let front = sum_where-le n m q f (λ s below. each s (omega arith)) in
-    let here = cond-le (q n) (f n) m (each n (omega arith)) in
-    let more : m * suc n ≡ m * n + m = omega arith in
-    omega arith
-
 -- Entries
 
 slice_get-contained : (rest : List Placed) (k : ℕ) (q : Placed) → k < length rest → get_or rest k q ≡ q
@@ -104,7 +95,7 @@ worst_in-le placed c slot well = by (instance_in placed slot c) (instance_in-sou
 pub width-le : (placed : List Placed) (c : ℕ) (flagged : ℕ → Bool) → IsWellPlaced placed
     → width_in placed c flagged ≤ most_slots * worst 8
 width-le placed c flagged well =
-    let all = sum_where-le most_slots (worst 8) flagged (worst_in placed c) (λ s below. worst_in-le placed c s well) in
+    let all = sum_where-most most_slots (worst 8) flagged (worst_in placed c) (λ s below. worst_in-le placed c s well) in
     omega arith
 
 -- the cost of an entry, whichever slot it has
@@ -171,11 +162,11 @@ width-next placed i d c flagged within well =
     )
 
 pub width-none : (c : ℕ) (flagged : ℕ → Bool) → width_in [] c flagged ≡ 0
-width-none c flagged = let none = sum_where-le most_slots 0 flagged (worst_in [] c) (λ s below. omega arith) in omega arith
+width-none c flagged = let none = sum_where-most most_slots 0 flagged (worst_in [] c) (λ s below. omega arith) in omega arith
 
 -- lists with the same instances in a cycle
 pub width-same : (left placed : List Placed) (c : ℕ) (flagged : ℕ → Bool)
     → ((slot : ℕ) → instance_in left slot c ≡ instance_in placed slot c)
     → width_in left c flagged ≡ width_in placed c flagged
 width-same left placed c flagged same =
-    sum_where-costs most_slots flagged (worst_in left c) (worst_in placed c) (λ s below. ap (λ o. option_map_or worst_of o 0) (same s))
+    sum_where-costs most_slots flagged (worst_in left c) (worst_in placed c) (λ s below _. ap (λ o. option_map_or worst_of o 0) (same s))

@@ -6,7 +6,7 @@ use Rattle.profile.specs.Limits.{most_nodes}
 use Rattle.can_frame.specs.declared.data_frame.TimedFrame.{TimedFrame}
 use Rattle.requirement_table.specs.declared.entries.Placed.{Placed}
 use Rattle.requirement_table.specs.Instance.{instance_of, worst}
-use Rattle.requirement_table.specs.Slots.{contains_slot, most_slots}
+use Rattle.bit_sets.specs.Sets.{has_bit, most_slots}
 use Rattle.requirement_table.specs.Table.{IsWellPlaced, instance_in, width_in}
 use Rattle.change_protocol.specs.declared.operations.Change.{Change}
 use Rattle.change_protocol.specs.Malformed.{Bounds, IsWellFormed}
@@ -58,7 +58,7 @@ IsNear (Open cycle mask) = Unit {0}
 abbrev pub width_with : List Placed → Event → ℕ
 width_with placed (Submit caller change from verdict trail) = 0
 width_with placed (Look caller next) = 0
-width_with placed (Open cycle mask) = width_in placed cycle (contains_slot mask)
+width_with placed (Open cycle mask) = width_in placed cycle (has_bit mask)
 
 -- the rows of an event and of these frames, by these entries
 abbrev pub rows_with : List Placed → List TimedFrame → Event → List ℕ

@@ -2,7 +2,7 @@
 
 ghost use Rattle.std.specs.Prelude.{◌≡◌, ◌≤◌, ◌<◌, [], IfOk, OnOk, length};
 ghost use Rattle.requirement_table.specs.Instance.{worst};
-ghost use Rattle.requirement_table.specs.Slots.{contains_slot};
+ghost use Rattle.bit_sets.specs.Sets.{has_bit};
 ghost use Rattle.requirement_table.specs.Table.{IsInRange, IsWellPlaced, width_in};
 ghost use Rattle.change_protocol.specs.Applied.{applied};
 ghost use Rattle.bus_trace.specs.Logged.{HasEntries, IsFormed, cost_in};
@@ -55,7 +55,7 @@ impl Entries {
     /// The length of the synchronous window of a cycle in which these slots are flagged: their worst lengths together.
     pub fn width(&self, cycle: u64, mask: Mask) -> u32
         requires left { IsWellPlaced self.now.left.items }
-        ensures width { result ≡ width_in self.now.left.items cycle (contains_slot mask) }
+        ensures width { result ≡ width_in self.now.left.items cycle (has_bit mask) }
     {
         width(self.left.as_slice(), cycle, mask)
     }
@@ -83,7 +83,7 @@ fn after_change(
 /// What these entries' instances that may be sent in a cycle cost together, of those whose slots are flagged.
 fn width(placed: &[Placed], cycle: u64, mask: Mask) -> u32
     requires placed { IsWellPlaced placed.now }
-    ensures width { result ≡ width_in placed.now cycle (contains_slot mask) }
+    ensures width { result ≡ width_in placed.now cycle (has_bit mask) }
 {
     let mut width = 0;
     for p in placed {
@@ -96,7 +96,7 @@ fn width(placed: &[Placed], cycle: u64, mask: Mask) -> u32
 /// be sent.
 fn cost_in(p: &Placed, cycle: u64, mask: Mask) -> u32
     requires range { IsInRange p.now }
-    ensures cost { result ≡ cost_in cycle (contains_slot mask) p.now }
+    ensures cost { result ≡ cost_in cycle (has_bit mask) p.now }
     ensures range { result ≤ worst 8 }
 {
     if mask.has(p.entry.slot) && current(p, cycle).is_some() {

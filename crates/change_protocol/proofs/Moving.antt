@@ -3,8 +3,9 @@ use Rattle.std.proofs.Common.{◌≡◌, ℕ, ◌+◌, ◌-◌, ◌≤◌, Bool,
 use Rattle.std.proofs.lemmas.Bool.Decides.{nat_tests}
 use Rattle.std.proofs.lemmas.List.{drop_more, get_or-take, take-take}
 use Rattle.requirement_table.specs.declared.entries.Placed.{Placed}
-use Rattle.requirement_table.specs.Slots.{contains_slot}
+use Rattle.bit_sets.specs.Sets.{has_bit}
 use Rattle.requirement_table.specs.Table.{IsInRange, is_over}
+use Rattle.bit_sets.proofs.Shared.{turned-eq}
 use Rattle.change_protocol.specs.Pruned.{has_slot, pruned}
 
 -- behind the place, those that stay are the ones from `first` on, and `slots` are the slots of all; those before it are
@@ -15,10 +16,7 @@ pub record IsMovedFrom (cycle : ℕ) (old list : List Placed) (first slots place
   pub same : length list ≡ length old
   pub front : take place list ≡ take place old
   pub kept : drop first list ≡ pruned cycle (drop place old)
-  pub has : (slot : ℕ) → contains_slot slots slot ≡ has_slot slot (drop place old)
-
-eq-flips : (a b : ℕ) → nat_eq a b ≡ nat_eq b a
-eq-flips a b = grind (arith, nat_tests)
+  pub has : (slot : ℕ) → has_bit slots slot ≡ has_slot slot (drop place old)
 
 -- an entry before the place is the one that was there
 pub kept-there : (cycle : ℕ) (old list : List Placed) (first slots place n : ℕ) (p : Placed) → place ≡ n + 1 → IsMovedFrom cycle old list first slots place
@@ -37,10 +35,10 @@ range-there cycle old list first slots place n p is moved at range =
 
 -- one entry more is looked at
 pub moved-more : (cycle : ℕ) (old list new : List Placed) (first next slots more place n : ℕ) (p : Placed) (goes : Bool) → place ≡ n + 1
-    → IsMovedFrom cycle old list first slots place → get_or list n p ≡ p → goes ≡ (is_over cycle p && contains_slot slots p.entry.slot)
+    → IsMovedFrom cycle old list first slots place → get_or list n p ≡ p → goes ≡ (is_over cycle p && has_bit slots p.entry.slot)
     → length new ≡ length list → first ≤ next + 1 → next ≤ first → take (first - 1) new ≡ take (first - 1) list
     → drop next new ≡ (if goes then drop first list else p ∷ drop first list)
-    → ((slot : ℕ) → contains_slot more slot ≡ (nat_eq slot p.entry.slot || contains_slot slots slot)) → IsMovedFrom cycle old new next more n
+    → ((slot : ℕ) → has_bit more slot ≡ (nat_eq slot p.entry.slot || has_bit slots slot)) → IsMovedFrom cycle old new next more n
 moved-more cycle old list new first next slots more place n p goes is moved at tested same before after front kept has =
     let within = moved.within in
     let end = moved.end in
@@ -62,7 +60,7 @@ moved-more cycle old list new first next slots more place n p goes is moved at t
           ∙ ap (pruned cycle) (sym behind);
       has = λ slot.
           has slot
-          ∙ ap (λ b. b || contains_slot slots slot) (eq-flips slot p.entry.slot)
+          ∙ ap (λ b. b || has_bit slots slot) (turned-eq slot p.entry.slot)
           ∙ ap (λ b. nat_eq p.entry.slot slot || b) (moved.has slot)
           ∙ ap (has_slot slot) (sym behind);
     }

@@ -10,9 +10,10 @@ use Rattle.std.proofs.lemmas.List.Elements.{All-head, All-tail}
 use Rattle.requirement_table.specs.declared.entries.Entry.{Entry}
 use Rattle.requirement_table.specs.declared.entries.Placed.{Placed}
 use Rattle.requirement_table.specs.Instance.{Instance, deadline_of, exists, instance_of, latest, may_send, release_of, released_by, worst_of}
-use Rattle.requirement_table.specs.Slots.{most_slots}
+use Rattle.bit_sets.specs.Sets.{most_slots}
 use Rattle.requirement_table.specs.Table.{instance_in, is_last_in, released_in, releases_in, sendable, worst_in}
-use Rattle.requirement_table.proofs.Shared.{instance_in-sound, set_of-same}
+use Rattle.requirement_table.proofs.Shared.{instance_in-sound}
+use Rattle.bit_sets.proofs.Shared.{set_of-same}
 use Rattle.change_protocol.specs.Applied.{IsChangedAt, IsKept, IsNewFrom, without_end}
 
 -- one entry

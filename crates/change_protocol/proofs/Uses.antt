@@ -10,7 +10,7 @@ use Rattle.std.proofs.lemmas.List.Elements.{All-head, All-tail}
 use Rattle.std.proofs.lemmas.List.Folds.{find-append}
 use Rattle.std.proofs.lemmas.List.Recursion.{max_push}
 use Rattle.requirement_table.specs.declared.entries.Placed.{Placed}
-use Rattle.requirement_table.specs.Slots.{most_slots}
+use Rattle.bit_sets.specs.Sets.{most_slots}
 use Rattle.requirement_table.specs.Table.{GoesBefore, IsFreeAt, IsInRange, free_from}
 use Rattle.change_protocol.specs.declared.slots.SlotUse.{SlotUse}
 use Rattle.change_protocol.specs.Applied.{freed_by, free_in, live_in, lives_in}

@@ -5,7 +5,7 @@ ghost use Rattle.std.specs.Prelude.{Some, None, All, IfErr, IfOk, IfSome, OnOk, 
 ghost use Rattle.std.specs.List.{cons_option, filter_map};
 ghost use Rattle.profile.specs.Limits.{starts_end};
 ghost use Rattle.requirement_table.specs.declared.entries.Placed.{Placed};
-ghost use Rattle.requirement_table.specs.Slots.{most_slots};
+ghost use Rattle.bit_sets.specs.Sets.{most_slots};
 ghost use Rattle.requirement_table.specs.Table.{IsWellPlaced};
 ghost use Rattle.change_protocol.specs.Applied.{IsChangedAt, applied, ended, origin_behind, placed_by};
 ghost use Rattle.change_protocol.specs.Malformed.{IsFaultOf, IsWellFormed, bounds_of};

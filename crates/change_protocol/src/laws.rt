@@ -3,7 +3,7 @@
 ghost use Rattle.std.specs.Prelude.{◌≡◌, ℕ, ◌<◌, ◌≤◌, ◌↔◌, List, Some, All, IsSomeAnd, length, slice_get};
 ghost use Rattle.std.specs.Option.{option_map};
 ghost use Rattle.requirement_table.specs.declared.entries.Placed.{Placed};
-ghost use Rattle.requirement_table.specs.Slots.{most_slots};
+ghost use Rattle.bit_sets.specs.Sets.{most_slots};
 ghost use Rattle.requirement_table.specs.Instance.{Instance, release_of};
 ghost use Rattle.requirement_table.specs.Table.{IsWellPlaced, instance_in, is_last_in, not_over};
 ghost use Rattle.requirement_table.specs.Table.{released_in, releases_in, worst_in};

@@ -4,7 +4,7 @@ ghost use Rattle.std.specs.Prelude.{◌≡◌, ◌+◌, ◌-◌, ◌<◌, ◌≤
 ghost use Rattle.std.specs.Prelude.{All, drop, length, slice_index_or, take};
 ghost use Rattle.std.specs.Vec.{vec_capacity};
 ghost use Rattle.requirement_table.specs.declared.entries.Placed.{Placed};
-ghost use Rattle.requirement_table.specs.Slots.{contains_slot};
+ghost use Rattle.bit_sets.specs.Sets.{has_bit};
 ghost use Rattle.requirement_table.specs.Table.{IsInRange, is_over};
 ghost use Rattle.change_protocol.specs.Pruned.{pruned};
 
@@ -53,7 +53,7 @@ fn entry_at(list: &[Placed], place: usize) -> Placed
 /// Whether the entry goes, where entries of these slots stand behind it.
 fn may_go(p: &Placed, behind: &Mask, cycle: u64) -> bool
     requires in_range { IsInRange p.now }
-    ensures goes { result ≡ (is_over cycle p.now && contains_slot behind.now p.now.entry.slot) }
+    ensures goes { result ≡ (is_over cycle p.now && has_bit behind.now p.now.entry.slot) }
 {
     is_over_in_range(p, cycle) && behind.has(p.entry.slot)
 }

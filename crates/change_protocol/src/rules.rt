@@ -2,7 +2,7 @@
 
 ghost use Rattle.std.specs.Prelude.{◌≡◌, ◌<◌, ◌≤◌, ◌++◌, List, [], IfErr, OnOk, map, length, nat_eq};
 ghost use Rattle.std.specs.List.{list_any};
-ghost use Rattle.requirement_table.specs.Slots.{most_slots};
+ghost use Rattle.bit_sets.specs.Sets.{most_slots};
 ghost use Rattle.change_protocol.specs.Operations.{slot_of};
 ghost use Rattle.change_protocol.specs.Malformed.{add_busy, bounds_of, broken, change_faults, deadline_range, end_busy};
 ghost use Rattle.change_protocol.specs.Malformed.{length_range, no_ops, node_unknown, op_faults};

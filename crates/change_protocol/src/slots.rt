@@ -2,7 +2,7 @@
 
 ghost use Rattle.std.specs.Prelude.{◌≡◌, ◌<◌, None, IfSome};
 ghost use Rattle.std.proofs.Props.{props};
-ghost use Rattle.requirement_table.specs.Slots.{most_slots};
+ghost use Rattle.bit_sets.specs.Sets.{most_slots};
 ghost use Rattle.requirement_table.specs.Table.{IsInRange, IsWellPlaced};
 ghost use Rattle.change_protocol.specs.Slots.{AreUpToLast, FindsOnly, IsLastAt, ended_by, unused, use_by, use_of};
 ghost use Rattle.change_protocol.specs.declared.operations.Op.TheVariants.{Remove};

@@ -8,7 +8,7 @@ use Rattle.can_frame.specs.DataFrame.{DataFrame}
 use Rattle.can_frame.specs.declared.data_frame.TimedFrame.{TimedFrame}
 use Rattle.cycle_layout.specs.Layout.{CycleLayout}
 use Rattle.requirement_table.specs.Instance.{Instance, bytes_of}
-use Rattle.requirement_table.specs.Slots.{contains_slot, most_slots}
+use Rattle.bit_sets.specs.Sets.{has_bit, most_slots}
 use Rattle.requirement_table.specs.Table.{IsWellPlaced, instance_in}
 use Rattle.async_window.specs.declared.request.Owner.{Owner}
 use Rattle.async_window.specs.declared.request.Request.{Request}
@@ -38,7 +38,7 @@ Contains-identifiers number owners owner has same =
 
 -- each flagged slot has an instance that may be sent in the cycle, of an entry of one of the nodes
 abbrev pub HaveSenders : List NodeState → Opening → Type 0
-HaveSenders nodes opening = (slot : ℕ) → slot < most_slots → contains_slot opening.mask slot ≡ true
+HaveSenders nodes opening = (slot : ℕ) → slot < most_slots → has_bit opening.mask slot ≡ true
     → (instance : Instance) × (instance_in opening.placed slot opening.cycle ≡ Some instance) × IsNumber nodes instance.placed.entry.node
 
 pub some_instance : (o : Option Instance) → IsSome o → (instance : Instance) × (o ≡ Some instance)
@@ -48,7 +48,7 @@ some_instance None some = absurd (false≢true some)
 -- what a node knows of its slots stands in the list that it learnt
 pub known-senders : (layout : CycleLayout) (owners : List Owner) (requests : List Request) (past : List TimedFrame) (next : ℕ) (opening : Opening) (nodes : List NodeState)
     → IsWellPlaced opening.placed → All (Stands layout owners requests opening.placed past next) nodes
-    → ((slot : ℕ) → slot < most_slots → contains_slot opening.mask slot ≡ true → IsKnown nodes opening.cycle slot) → HaveSenders nodes opening
+    → ((slot : ℕ) → slot < most_slots → has_bit opening.mask slot ≡ true → IsKnown nodes opening.cycle slot) → HaveSenders nodes opening
 known-senders layout owners requests past next opening nodes well stand known slot within flagged =
     let is = known slot within flagged in
     let node : NodeState = is.1 in

@@ -6,10 +6,10 @@ use Rattle.std.proofs.lemmas.Bool.{cases_eq, eq-eqb, ne_eqb, lt-ltb, le-ltb, con
 use Rattle.can_frame.specs.DataFrame.{DataFrame}
 use Rattle.can_frame.specs.Wire.{wire_length}
 use Rattle.can_frame.specs.declared.data_frame.TimedFrame.{TimedFrame}
-use Rattle.requirement_table.specs.Slots.{contains_slot, most_slots}
-use Rattle.slot_sets.specs.Least.{least_where}
+use Rattle.bit_sets.specs.Sets.{has_bit, most_slots}
+use Rattle.bit_sets.specs.Least.{least_where}
 use Rattle.node_model.specs.Node.{NodeState}
-use Rattle.slot_sets.proofs.Shared.{IsLeastBelow, least_where-least}
+use Rattle.bit_sets.proofs.Shared.{least-of, none-of}
 use Rattle.cycle_engine.specs.SyncWindow.{back_to_back, by_slots, due_among, due_by, due_frames}
 
 module _ {X : Type 0} where
@@ -47,27 +47,22 @@ module _ {X : Type 0} where
         ∙ ap (λ o. x ∷ cons_option o (filter_map g rest)) (sym (same k (λ at. omega (arith, at, before)) ∙ none k before))
   ]
 
--- the least slot of a set
-pub least-of : (set slot : ℕ) → least_where most_slots (contains_slot set) ≡ Some slot → IsLeastBelow most_slots (contains_slot set) (Some slot)
-least-of set slot is = subst (IsLeastBelow most_slots (contains_slot set)) is (least_where-least most_slots (contains_slot set))
-
-among-not : (nodes : List NodeState) (set slot : ℕ) → contains_slot set slot ≡ false → due_among nodes set slot ≡ None
+among-not : (nodes : List NodeState) (set slot : ℕ) → has_bit set slot ≡ false → due_among nodes set slot ≡ None
 among-not nodes set slot lacks = ap (λ b. cond b (due_by nodes slot) None) lacks
 
-among-is : (nodes : List NodeState) (set slot : ℕ) → contains_slot set slot ≡ true → due_among nodes set slot ≡ due_by nodes slot
+among-is : (nodes : List NodeState) (set slot : ℕ) → has_bit set slot ≡ true → due_among nodes set slot ≡ due_by nodes slot
 among-is nodes set slot has = ap (λ b. cond b (due_by nodes slot) None) has
 
 -- a set that is empty has no frames
-pub among-none : (nodes : List NodeState) (set : ℕ) → least_where most_slots (contains_slot set) ≡ None → by_slots (due_among nodes set) ≡ []
+pub among-none : (nodes : List NodeState) (set : ℕ) → least_where most_slots (has_bit set) ≡ None → by_slots (due_among nodes set) ≡ []
 unfolding by_slots
 among-none nodes set none =
-    let empty : IsLeastBelow most_slots (contains_slot set) None =
-    subst (IsLeastBelow most_slots (contains_slot set)) none (least_where-least most_slots (contains_slot set)) in
+    let empty = none-of set none in
     given-none (due_among nodes set) most_slots 0 (λ i low high. among-not nodes set i (empty i (omega (arith, high))))
 
 -- the frame of the least slot of a set stands before those of the others
-pub among-first : (nodes : List NodeState) (set rest slot : ℕ) (frame : DataFrame) → least_where most_slots (contains_slot set) ≡ Some slot
-    → ((s : ℕ) → contains_slot rest s ≡ (not (nat_eq s slot) && contains_slot set s)) → due_by nodes slot ≡ Some frame
+pub among-first : (nodes : List NodeState) (set rest slot : ℕ) (frame : DataFrame) → least_where most_slots (has_bit set) ≡ Some slot
+    → ((s : ℕ) → has_bit rest s ≡ (not (nat_eq s slot) && has_bit set s)) → due_by nodes slot ≡ Some frame
     → by_slots (due_among nodes set) ≡ frame ∷ by_slots (due_among nodes rest)
 unfolding by_slots
 among-first nodes set rest slot frame is without due =
@@ -75,11 +70,11 @@ among-first nodes set rest slot frame is without due =
     given-first (due_among nodes set) (due_among nodes rest) frame slot most_slots 0 (omega arith) (omega (arith, least.0))
     (λ i below. among-not nodes set i (least.2 i below))
     (among-is nodes set slot least.1 ∙ due)
-    (among-not nodes rest slot (without slot ∙ ap (λ b. not b && contains_slot set slot) (eq-eqb slot slot refl)))
-    (λ i other. ap (λ b. cond b (due_by nodes i) None) (without i ∙ ap (λ b. not b && contains_slot set i) (ne_eqb i slot other)))
+    (among-not nodes rest slot (without slot ∙ ap (λ b. not b && has_bit set slot) (eq-eqb slot slot refl)))
+    (λ i other. ap (λ b. cond b (due_by nodes i) None) (without i ∙ ap (λ b. not b && has_bit set i) (ne_eqb i slot other)))
 
 -- where a set has the slots that nodes are to send, its frames are all of theirs
-pub among-all : (nodes : List NodeState) (set : ℕ) → ((slot : ℕ) → slot < most_slots → contains_slot set slot ≡ is_some (due_by nodes slot))
+pub among-all : (nodes : List NodeState) (set : ℕ) → ((slot : ℕ) → slot < most_slots → has_bit set slot ≡ is_some (due_by nodes slot))
     → by_slots (due_among nodes set) ≡ due_frames nodes
 unfolding by_slots
 among-all nodes set each = given-same (due_among nodes set) (due_by nodes) most_slots 0 (λ i low high.

@@ -3,6 +3,7 @@ use Rattle.std.proofs.Common.{◌≡◌, ◌≢◌, ◌↔◌, ℕ, zero, suc, �
 use Rattle.std.specs.Option.{option_map, option_map_or}
 use Rattle.std.specs.List.{range_with_len}
 use Rattle.std.proofs.lemmas.List.Elements.{All-contains, All-head, All-map, All-weaker}
+use Rattle.bit_sets.proofs.Shared.{sum_where-costs}
 use Rattle.can_frame.specs.DataFrame.{DataFrame}
 use Rattle.can_frame.specs.declared.data_frame.TimedFrame.{TimedFrame}
 use Rattle.cycle_layout.specs.Layout.{CycleLayout}
@@ -10,7 +11,7 @@ use Rattle.requirement_table.specs.declared.entries.Order.{Order}
 use Rattle.requirement_table.specs.declared.entries.Placed.{Placed}
 use Rattle.requirement_table.specs.Instance.{Instance, bytes_of, worst_of}
 use Rattle.requirement_table.specs.Opening.{Opening, width_of}
-use Rattle.requirement_table.specs.Slots.{contains_slot, sum_where, most_slots}
+use Rattle.bit_sets.specs.Sets.{has_bit, most_slots}
 use Rattle.requirement_table.specs.Table.{instance_in, worst_in}
 use Rattle.trigger_codec.specs.Bytes.{triggers_with}
 use Rattle.async_window.specs.declared.request.Owner.{Owner}
@@ -35,21 +36,9 @@ use Rattle.cycle_engine.proofs.Parts.{all-numbers, at-number, identifiers-joint,
 
 -- Two lists of which the flagged slots have instances that send the same
 
-one-same : (b : Bool) (x y : ℕ) → (b ≡ true → x ≡ y) → cond b x 0 ≡ cond b y 0
-one-same true x y same = same refl
-one-same false x y same = refl
-
-sum-same : (n : ℕ) (p : ℕ → Bool) (f g : ℕ → ℕ) → ((slot : ℕ) → slot < n → p slot ≡ true → f slot ≡ g slot) → sum_where n p f ≡ sum_where n p g
-unfolding sum_where
-sum-same zero p f g same = refl
-sum-same (suc n) p f g same =
-    let front = sum-same n p f g (λ slot within. same slot (omega (arith, within))) in
-    let last = one-same (p n) (f n) (g n) (same n (omega arith)) in
-    omega (arith, front, last)
-
 -- the instance of a flagged slot in two lists: in one of them it is that of the joint node
 pub record SendAlike (mask cycle : ℕ) (placed other : List Placed) : Type 0 where
-  pub each : (slot : ℕ) → slot < most_slots → contains_slot mask slot ≡ true
+  pub each : (slot : ℕ) → slot < most_slots → has_bit mask slot ≡ true
       → (instance : Instance) × (instance_in placed slot cycle ≡ Some instance) × (instance_in other slot cycle ≡ Some instance)
 
 module _ (layout : CycleLayout) (requests : List Request) (mask cycle : ℕ) (placed other : List Placed) (alike : SendAlike mask cycle placed other) where
@@ -62,14 +51,14 @@ module _ (layout : CycleLayout) (requests : List Request) (mask cycle : ℕ) (pl
   joint-has : (slot : ℕ) (i : Instance) → instance_in placed slot cycle ≡ Some i → instance_in (joint_entries placed) slot cycle ≡ Some (joint_instance i)
   joint-has slot i is = instance_in-joint placed slot cycle ∙ ap (option_map joint_instance) is
 
-  same-bytes : (slot : ℕ) → slot < most_slots → contains_slot mask slot ≡ true → bytes_sent bytes_of joint slot ≡ bytes_sent bytes_of plain slot
+  same-bytes : (slot : ℕ) → slot < most_slots → has_bit mask slot ≡ true → bytes_sent bytes_of joint slot ≡ bytes_sent bytes_of plain slot
   same-bytes slot within flagged =
       let both = alike.each slot within flagged in
       ap (option_map bytes_of) (joint-has slot both.0 both.1) ∙ sym (ap (option_map bytes_of) both.2)
 
   pub same-width : width_of joint ≡ width_of plain
   same-width =
-      sum-same most_slots (contains_slot mask) (worst_in (joint_entries placed) cycle) (worst_in other cycle) (λ slot within flagged.
+      sum_where-costs most_slots (has_bit mask) (worst_in (joint_entries placed) cycle) (worst_in other cycle) (λ slot within flagged.
       let both = alike.each slot within flagged in
       ap (λ o. option_map_or worst_of o 0) (joint-has slot both.0 both.1) ∙ sym (ap (λ o. option_map_or worst_of o 0) both.2))
 

@@ -8,9 +8,9 @@ use Rattle.profile.specs.Limits.{first_identifier}
 use Rattle.can_frame.specs.DataFrame.{DataFrame}
 use Rattle.can_frame.specs.declared.data_frame.TimedFrame.{TimedFrame}
 use Rattle.requirement_table.specs.declared.entries.Placed.{Placed}
-use Rattle.requirement_table.specs.Slots.{contains_slot, set_of, most_slots}
+use Rattle.bit_sets.specs.Sets.{has_bit, set_of, most_slots}
 use Rattle.requirement_table.specs.Table.{IsInRange}
-use Rattle.requirement_table.proofs.Shared.{contains_slot-none, contains_slot-set_of, set_of-same, set_of-from_slots}
+use Rattle.bit_sets.proofs.Shared.{has_bit-none, has_bit-set_of, set_of-same, set_of-from_slots}
 use Rattle.trigger_codec.specs.declared.message.Trigger.{Trigger}
 use Rattle.async_window.specs.declared.request.Owner.{Owner}
 use Rattle.async_window.specs.Mailbox.{Mail, unsent_of, without_first}
@@ -27,10 +27,10 @@ use Rattle.cycle_engine.proofs.JointMail.{taken-of, taken-none}
 pub own-fresh : (entries : List Placed) (cycle width mask : ℕ)
     → own_opened entries (record { cycle = cycle; width = width; mask = mask; heard = 0 }) ≡ record { cycle = cycle; width = width; mask = mask; heard = 0 }
 own-fresh entries cycle width mask =
-    let none : (slot : ℕ) → (contains_slot 0 slot && is_own_slot entries (first_identifier + slot)) ≡ contains_slot 0 slot =
-    λ slot. ap (λ b. b && is_own_slot entries (first_identifier + slot)) (contains_slot-none slot) ∙ sym (contains_slot-none slot) in
+    let none : (slot : ℕ) → (has_bit 0 slot && is_own_slot entries (first_identifier + slot)) ≡ has_bit 0 slot =
+    λ slot. ap (λ b. b && is_own_slot entries (first_identifier + slot)) (has_bit-none slot) ∙ sym (has_bit-none slot) in
     ap (λ n. record { cycle = cycle; width = width; mask = mask; heard = n })
-    (sym (set_of-from_slots most_slots 0 (λ slot. contains_slot 0 slot && is_own_slot entries (first_identifier + slot)) (omega arith)
+    (sym (set_of-from_slots most_slots 0 (λ slot. has_bit 0 slot && is_own_slot entries (first_identifier + slot)) (omega arith)
     (λ slot within. sym (none slot))))
 
 own-opening : (entries : List Placed) (cycle : ℕ) (trigger : Option Trigger) → own_opened entries (opened_by cycle trigger) ≡ opened_by cycle trigger
@@ -59,12 +59,12 @@ module _ (entries : List Placed) (id : ℕ) (low : 0x100 ≤ id) where
       let same : first_identifier + slot ≡ id = omega (arith, low, at) in
       ap (is_own_slot entries) same ∙ is
 
-  marked-set : (heard : ℕ) (p : ℕ → Bool) → ((slot : ℕ) → slot < most_slots → p slot ≡ (((slot == (id - first_identifier)) || contains_slot heard slot) && own slot))
-      → set_of most_slots p ≡ set_of most_slots (λ slot. contains_slot (set_of most_slots (λ s. (s == (id - first_identifier)) || contains_slot heard s)) slot && own slot)
+  marked-set : (heard : ℕ) (p : ℕ → Bool) → ((slot : ℕ) → slot < most_slots → p slot ≡ (((slot == (id - first_identifier)) || has_bit heard slot) && own slot))
+      → set_of most_slots p ≡ set_of most_slots (λ slot. has_bit (set_of most_slots (λ s. (s == (id - first_identifier)) || has_bit heard s)) slot && own slot)
   marked-set heard p same =
       set_of-same most_slots p _ (λ slot within. same slot within
-      ∙ ap (λ b. b && own slot) (sym (contains_slot-set_of most_slots (λ s. (s == (id - first_identifier)) || contains_slot heard s) slot
-      ∙ ap (λ b. b && ((slot == (id - first_identifier)) || contains_slot heard slot)) (lt-ltb slot most_slots within))))
+      ∙ ap (λ b. b && own slot) (sym (has_bit-set_of most_slots (λ s. (s == (id - first_identifier)) || has_bit heard s) slot
+      ∙ ap (λ b. b && ((slot == (id - first_identifier)) || has_bit heard slot)) (lt-ltb slot most_slots within))))
 
   -- a slot of the node's own is marked
   marks-own : is_own_slot entries id ≡ true → (opened : Opened)
@@ -72,11 +72,11 @@ module _ (entries : List Placed) (id : ℕ) (low : 0x100 ≤ id) where
   marks-own is opened =
       let heard = opened.heard in
       ap (λ n. record opened { heard = n })
-      (marked-set heard (λ slot. (slot == (id - first_identifier)) || contains_slot (set_of most_slots (λ s. contains_slot heard s && own s)) slot)
+      (marked-set heard (λ slot. (slot == (id - first_identifier)) || has_bit (set_of most_slots (λ s. has_bit heard s && own s)) slot)
       (λ slot within.
-      ap (λ b. (slot == (id - first_identifier)) || b) (contains_slot-set_of most_slots (λ s. contains_slot heard s && own s) slot
-      ∙ ap (λ b. b && (contains_slot heard slot && own slot)) (lt-ltb slot most_slots within))
-      ∙ both-marked (slot == (id - first_identifier)) (contains_slot heard slot) (own slot) (own-here true is slot)))
+      ap (λ b. (slot == (id - first_identifier)) || b) (has_bit-set_of most_slots (λ s. has_bit heard s && own s) slot
+      ∙ ap (λ b. b && (has_bit heard slot && own slot)) (lt-ltb slot most_slots within))
+      ∙ both-marked (slot == (id - first_identifier)) (has_bit heard slot) (own slot) (own-here true is slot)))
 
   -- a slot of another node is not
   marks-other : is_own_slot entries id ≡ false → (opened : Opened)
@@ -84,8 +84,8 @@ module _ (entries : List Placed) (id : ℕ) (low : 0x100 ≤ id) where
   marks-other is opened =
       let heard = opened.heard in
       ap (λ n. record opened { heard = n })
-      (marked-set heard (λ slot. contains_slot heard slot && own slot)
-      (λ slot within. not-marked (slot == (id - first_identifier)) (contains_slot heard slot) (own slot) (own-here false is slot)))
+      (marked-set heard (λ slot. has_bit heard slot && own slot)
+      (λ slot within. not-marked (slot == (id - first_identifier)) (has_bit heard slot) (own slot) (own-here false is slot)))
 
   marks-own-some : is_own_slot entries id ≡ true → (opened : Option Opened)
       → option_map (with_heard (id - first_identifier)) (option_map (own_opened entries) opened) ≡ option_map (own_opened entries) (option_map (with_heard (id - first_identifier)) opened)

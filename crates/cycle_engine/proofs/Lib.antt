@@ -16,7 +16,6 @@ mod OneMore
 mod OneTrace
 mod Pending
 pub mod Shared
-mod SlotSums
 mod Waking
 mod Window
 mod BackToBack

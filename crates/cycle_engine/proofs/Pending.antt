@@ -8,7 +8,7 @@ use Rattle.std.specs.List.{Any}
 use Rattle.profile.specs.Limits.{first_identifier}
 use Rattle.can_frame.specs.declared.data_frame.TimedFrame.{TimedFrame}
 use Rattle.cycle_layout.specs.Layout.{CycleLayout}
-use Rattle.requirement_table.specs.Slots.{contains_slot}
+use Rattle.bit_sets.specs.Sets.{has_bit}
 use Rattle.requirement_table.specs.Table.{width_in}
 use Rattle.requirement_table.specs.Opening.{Opening}
 use Rattle.node_model.specs.Opening.{start_of}
@@ -17,7 +17,7 @@ use Rattle.node_model.specs.Own.{was_sent}
 
 -- whether the slot is flagged and was not sent yet
 abbrev pub is_pending : CycleLayout → Opening → List TimedFrame → ℕ → Bool
-is_pending layout opening past slot = contains_slot opening.mask slot && not (was_sent layout opening past slot)
+is_pending layout opening past slot = has_bit opening.mask slot && not (was_sent layout opening past slot)
 
 -- what the pending slots cost together, in bit times
 abbrev pub pending_width : CycleLayout → Opening → List TimedFrame → ℕ
@@ -63,7 +63,7 @@ is_pending-sent layout opening past sent slot same late =
     let now : was_sent layout opening (past ++ sent ∷ []) slot ≡ true =
     was_sent-push layout opening past sent slot
     ∙ or_right (was_sent layout opening past slot) _ (ap (λ b. b || false) (and_from _ _ (eq-eqb _ _ same) (le-leb _ _ late))) in
-    and_right (contains_slot opening.mask slot) _ (not_from_true _ now)
+    and_right (has_bit opening.mask slot) _ (not_from_true _ now)
 
 -- the other slots are as they were
 pub is_pending-other : (layout : CycleLayout) (opening : Opening) (past : List TimedFrame) (sent : TimedFrame) (slot : ℕ)
@@ -73,4 +73,4 @@ is_pending-other layout opening past sent slot other =
     let not_it : is_of layout opening slot sent ≡ false = and_left _ _ (ne_eqb _ _ other) in
     let same : was_sent layout opening (past ++ sent ∷ []) slot ≡ was_sent layout opening past slot =
     was_sent-push layout opening past sent slot ∙ ap (λ b. was_sent layout opening past slot || (b || false)) not_it ∙ or-false _ in
-    ap (λ b. contains_slot opening.mask slot && not b) same
+    ap (λ b. has_bit opening.mask slot && not b) same

@@ -6,7 +6,7 @@ use Rattle.std.proofs.lemmas.List.Folds.{list_any-append}
 use Rattle.profile.specs.Limits.{first_identifier}
 use Rattle.can_frame.specs.DataFrame.{DataFrame}
 use Rattle.can_frame.specs.declared.data_frame.TimedFrame.{TimedFrame}
-use Rattle.requirement_table.specs.Slots.{contains_slot}
+use Rattle.bit_sets.specs.Sets.{has_bit}
 use Rattle.node_model.specs.Node.{NodeState}
 use Rattle.node_model.specs.Window.{due_frame, is_due_slot}
 use Rattle.cycle_engine.specs.SyncWindow.{due_by, is_among}
@@ -60,27 +60,27 @@ left-of : (left same : Bool) → (not same && left) ≡ true → left ≡ true
 left-of left true is = absurd (cc)
 left-of left false is = is
 
-pub left-before : (left rest slot own : ℕ) → contains_slot rest slot ≡ (not (nat_eq slot own) && contains_slot left slot)
-    → contains_slot rest slot ≡ true → contains_slot left slot ≡ true
-left-before left rest slot own without has = left-of (contains_slot left slot) (nat_eq slot own) (sym without ∙ has)
+pub left-before : (left rest slot own : ℕ) → has_bit rest slot ≡ (not (nat_eq slot own) && has_bit left slot)
+    → has_bit rest slot ≡ true → has_bit left slot ≡ true
+left-before left rest slot own without has = left-of (has_bit left slot) (nat_eq slot own) (sym without ∙ has)
 
 -- a slot goes over from those that are left to those that were sent
-pub left-more : (set left rest slot own : ℕ) (before after : List TimedFrame) → contains_slot left own ≡ true
-    → is_among slot after ≡ (is_among slot before || nat_eq slot own) → contains_slot rest slot ≡ (not (nat_eq slot own) && contains_slot left slot)
-    → contains_slot set slot ≡ (is_among slot before || contains_slot left slot) → contains_slot set slot ≡ (is_among slot after || contains_slot rest slot)
+pub left-more : (set left rest slot own : ℕ) (before after : List TimedFrame) → has_bit left own ≡ true
+    → is_among slot after ≡ (is_among slot before || nat_eq slot own) → has_bit rest slot ≡ (not (nat_eq slot own) && has_bit left slot)
+    → has_bit set slot ≡ (is_among slot before || has_bit left slot) → has_bit set slot ≡ (is_among slot after || has_bit rest slot)
 left-more set left rest slot own before after has more without all =
     all
-    ∙ moved (is_among slot before) (contains_slot left slot) (nat_eq slot own) (λ same. ap (contains_slot left) (same-number slot own same) ∙ has)
+    ∙ moved (is_among slot before) (has_bit left slot) (nat_eq slot own) (λ same. ap (has_bit left) (same-number slot own same) ∙ has)
     ∙ sym (ap₂ (λ a l. a || l) more without)
   where
     same-number : (a b : ℕ) → nat_eq a b ≡ true → a ≡ b
     same-number a b same = eqb-true a b same
 
 pub apart-more : (left rest slot own : ℕ) (before after : List TimedFrame) → is_among slot after ≡ (is_among slot before || nat_eq slot own)
-    → contains_slot rest slot ≡ (not (nat_eq slot own) && contains_slot left slot) → (contains_slot left slot ≡ true → is_among slot before ≡ false)
-    → contains_slot rest slot ≡ true → is_among slot after ≡ false
+    → has_bit rest slot ≡ (not (nat_eq slot own) && has_bit left slot) → (has_bit left slot ≡ true → is_among slot before ≡ false)
+    → has_bit rest slot ≡ true → is_among slot after ≡ false
 apart-more left rest slot own before after more without apart has =
-    more ∙ still-apart (is_among slot before) (contains_slot left slot) (nat_eq slot own) apart (sym without ∙ has)
+    more ∙ still-apart (is_among slot before) (has_bit left slot) (nat_eq slot own) apart (sym without ∙ has)
 
 -- the slots of a set that are not left are those whose frames were sent
 gone : (among left : Bool) → (left ≡ true → among ≡ false) → ((among || left) && not left) ≡ among
@@ -89,18 +89,18 @@ gone true false apart = refl
 gone false true apart = refl
 gone false false apart = refl
 
-pub sent-slots : (sent set left slot : ℕ) (frames : List TimedFrame) → contains_slot sent slot ≡ (contains_slot set slot && not (contains_slot left slot))
-    → contains_slot set slot ≡ (is_among slot frames || contains_slot left slot) → (contains_slot left slot ≡ true → is_among slot frames ≡ false)
-    → contains_slot sent slot ≡ is_among slot frames
+pub sent-slots : (sent set left slot : ℕ) (frames : List TimedFrame) → has_bit sent slot ≡ (has_bit set slot && not (has_bit left slot))
+    → has_bit set slot ≡ (is_among slot frames || has_bit left slot) → (has_bit left slot ≡ true → is_among slot frames ≡ false)
+    → has_bit sent slot ≡ is_among slot frames
 sent-slots sent set left slot frames is all apart =
-    is ∙ ap (λ b. b && not (contains_slot left slot)) all ∙ gone (is_among slot frames) (contains_slot left slot) apart
+    is ∙ ap (λ b. b && not (has_bit left slot)) all ∙ gone (is_among slot frames) (has_bit left slot) apart
 
 -- no slot beyond all of them
 none-sent : (among left : Bool) → false ≡ (among || left) → among ≡ false
 none-sent false left is = refl
 none-sent true left is = absurd (cc)
 
-pub sent-none : (sent set left slot : ℕ) (frames : List TimedFrame) → contains_slot sent slot ≡ false → contains_slot set slot ≡ false
-    → contains_slot set slot ≡ (is_among slot frames || contains_slot left slot) → contains_slot sent slot ≡ is_among slot frames
+pub sent-none : (sent set left slot : ℕ) (frames : List TimedFrame) → has_bit sent slot ≡ false → has_bit set slot ≡ false
+    → has_bit set slot ≡ (is_among slot frames || has_bit left slot) → has_bit sent slot ≡ is_among slot frames
 sent-none sent set left slot frames off none all =
-    off ∙ sym (none-sent (is_among slot frames) (contains_slot left slot) (sym none ∙ all))
+    off ∙ sym (none-sent (is_among slot frames) (has_bit left slot) (sym none ∙ all))

@@ -14,10 +14,10 @@ use Rattle.can_frame.specs.DataFrame.{DataFrame}
 use Rattle.can_frame.specs.declared.data_frame.TimedFrame.{TimedFrame}
 use Rattle.can_frame.specs.Wire.{wire_length}
 use Rattle.cycle_layout.specs.Layout.{CycleLayout, async_open, trigger_part}
-use Rattle.requirement_table.specs.Slots.{contains_slot, most_slots}
+use Rattle.bit_sets.specs.Sets.{has_bit, most_slots}
 use Rattle.requirement_table.specs.Instance.{Instance, bytes_of, payload, worst, worst_of}
 use Rattle.requirement_table.specs.Table.{instance_in, worst_in}
-use Rattle.requirement_table.proofs.Shared.{sum_where-same}
+use Rattle.bit_sets.proofs.Shared.{sum_where-same}
 use Rattle.async_window.specs.declared.request.Request.{Request}
 use Rattle.bus_line.specs.Trace.{end_of, Follows, IsNext, free_after}
 use Rattle.requirement_table.specs.Opening.{Opening, width_of}
@@ -30,7 +30,7 @@ use Rattle.cycle_engine.proofs.Lists.{All-from_map}
 use Rattle.cycle_engine.proofs.OneTrace.{is_asynchronous, request_id}
 use Rattle.cycle_engine.proofs.TriggerFrames.{AreLeft-all, AtOnce, NoTrigger, NoTrigger-more, NoTrigger-sent, cut-left, few_frames, frames_long, frames_short, free_after-later, low_ids}
 use Rattle.cycle_engine.proofs.Pending.{IsUnsent-from_test, is_pending, is_pending-other, is_pending-sent, pending_width, was_sent-from_unsent}
-use Rattle.cycle_engine.proofs.SlotSums.{sum_where-member, sum_where-without}
+use Rattle.bit_sets.proofs.Shared.{sum_where-member, sum_where-without}
 
 -- a frame that may come behind the trigger of its cycle
 abbrev pub IsLaterFrame : CycleLayout → Opening → TimedFrame → Type 0
@@ -44,14 +44,14 @@ pub record AreShort : Type 0 where
 -- what makes a cycle one in which each flagged slot has its frame and its time
 pub record IsFit (layout : CycleLayout) (opening : Opening) : Type 0 where
   pub short : AreShort
-  pub present : (slot : ℕ) → slot < most_slots → contains_slot opening.mask slot ≡ true → (i : Instance) × (instance_in opening.placed slot opening.cycle ≡ Some i)
+  pub present : (slot : ℕ) → slot < most_slots → has_bit opening.mask slot ≡ true → (i : Instance) × (instance_in opening.placed slot opening.cycle ≡ Some i)
   pub room : start_of layout opening + trigger_part layout + width_of opening ≤ end_of_cycle layout opening
 
 -- a pending slot takes at least 55 bit times of the width
 pending_width-positive : (layout : CycleLayout) (opening : Opening) (past : List TimedFrame) (slot : ℕ) → IsFit layout opening
     → slot < most_slots → is_pending layout opening past slot ≡ true → 55 ≤ pending_width layout opening past
 pending_width-positive layout opening past slot fit known pending =
-    let flagged = (and_parts (contains_slot opening.mask slot) _ pending).0 in
+    let flagged = (and_parts (has_bit opening.mask slot) _ pending).0 in
     let p = fit.present slot known flagged in
     let cost : worst_in opening.placed opening.cycle slot ≡ worst_of p.0 = ap (λ o. option_map_or worst_of o 0) p.1 in
     let member = sum_where-member most_slots slot (is_pending layout opening past) (worst_in opening.placed opening.cycle) known pending in
@@ -110,12 +110,12 @@ pending_width-other layout opening past sent least =
 -- behind trigger frames that are sent first, a slot is pending where it is flagged
 is_pending-at_start : (layout : CycleLayout) (opening : Opening) (past sent : List TimedFrame) (slot : ℕ)
     → All (λ x. x.start < start_of layout opening) past → All (λ x. x.frame.identifier ≤ 1) sent
-    → is_pending layout opening (past ++ sent) slot ≡ contains_slot opening.mask slot
+    → is_pending layout opening (past ++ sent) slot ≡ has_bit opening.mask slot
 is_pending-at_start layout opening past sent slot before low =
     let unsent : was_sent layout opening (past ++ sent) slot ≡ false = was_sent-from_unsent layout opening (past ++ sent) slot
     (All-append (λ x. x.frame.identifier ≡ first_identifier + slot → x.start < start_of layout opening) past sent
     (λ k d within _. before k d within) (λ k d within same. absurd (omega (arith, same, low k d within)))) in
-    ap (λ b. contains_slot opening.mask slot && not b) unsent ∙ and-true _
+    ap (λ b. has_bit opening.mask slot && not b) unsent ∙ and-true _
 
 -- when the trigger frames end, one at once behind the other
 ends-by : (free : ℕ) (sent : List TimedFrame) → AtOnce free sent → All (λ x. wire_length x.frame ≤ 135) sent → free_after free sent ≤ free + length sent * 135
@@ -152,7 +152,7 @@ module _ (sends : Instance → List ℕ) (whole : SendsWhole sends) where
       → slot < most_slots → is_pending layout opening past slot ≡ true → window_start layout opening ≤ at → at < end_of_cycle layout opening
       → (frame : DataFrame) × OffersSlot sends layout opening past at frame slot
   offers_pending layout opening past slot at fit known pending late early =
-      let parts = and_parts (contains_slot opening.mask slot) _ pending in
+      let parts = and_parts (has_bit opening.mask slot) _ pending in
       let p = fit.present slot known parts.0 in (
         record { identifier = first_identifier + slot; bytes = sends p.0 },
         record {
@@ -342,10 +342,10 @@ module _ (sends : Instance → List ℕ) (whole : SendsWhole sends) where
       let room : free + width_of opening ≤ end_of_cycle layout opening =
       omega (arith, ends-by start sent at_once short, ap (λ n. n * 135) long, frames_long layout.slots opening.cycle (width_of opening) opening.mask, fit.room) in
       let ended : All (λ x. end_of x ≤ window_start layout opening) sent = λ k d within. omega (arith, each-ends start sent at_once k d within, room) in
-      let pending : (slot : ℕ) → is_pending layout opening (past ++ sent) slot ≡ contains_slot opening.mask slot =
+      let pending : (slot : ℕ) → is_pending layout opening (past ++ sent) slot ≡ has_bit opening.mask slot =
       λ slot. is_pending-at_start layout opening past sent slot before low in
       let width : pending_width layout opening (past ++ sent) ≡ width_of opening =
-      sum_where-same most_slots (is_pending layout opening (past ++ sent)) (contains_slot opening.mask) (worst_in opening.placed opening.cycle) (λ slot _. pending slot) in
+      sum_where-same most_slots (is_pending layout opening (past ++ sent)) (has_bit opening.mask) (worst_in opening.placed opening.cycle) (λ slot _. pending slot) in
       let late : start ≤ free = free_after-later start sent at_once in
       let window = sends_pending layout requests opening (past ++ sent) free (window_start layout opening) later fit asynchronous no_trigger
       late (omega (arith, room)) (omega arith) (inr refl) (omega (arith, width, room)) follows in

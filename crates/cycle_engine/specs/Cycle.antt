@@ -4,7 +4,7 @@ use Rattle.std.specs.Prelude.{true, false, List, [], ◌∷◌, ◌++◌, All, f
 use Rattle.profile.specs.Limits.{first_identifier, least_asynchronous}
 use Rattle.can_frame.specs.declared.data_frame.TimedFrame.{TimedFrame}
 use Rattle.cycle_layout.specs.Layout.{CycleLayout, async_open}
-use Rattle.requirement_table.specs.Slots.{contains_slot, most_slots}
+use Rattle.bit_sets.specs.Sets.{has_bit, most_slots}
 use Rattle.requirement_table.specs.Table.{instance_in}
 use Rattle.trigger_codec.specs.Bytes.{trigger_frame}
 use Rattle.async_window.specs.declared.request.Request.{Request}
@@ -41,7 +41,7 @@ pub record IsSentOnce (sends : Instance → List ℕ) (layout : CycleLayout) (op
 pub record IsSlotFrame (layout : CycleLayout) (opening : Opening) (sent : TimedFrame) : Type 0 where
   pub slot : ℕ
   pub known : slot < most_slots
-  pub flagged : contains_slot opening.mask slot ≡ true
+  pub flagged : has_bit opening.mask slot ≡ true
   pub identifier : sent.frame.identifier ≡ first_identifier + slot
   pub after : window_start layout opening ≤ sent.start
   pub before : end_of sent ≤ end_of_cycle layout opening
@@ -67,9 +67,9 @@ pub record RunsCycle (sends : Instance → List ℕ) (layout : CycleLayout) (ope
   pub are_triggers : map (λ sent. sent.frame) (trigger ∷ second) ≡ trigger_frames layout opening
   pub at_once : All (λ sent. sent.start ≡ end_of trigger) second
   pub second_ends : All (λ sent. end_of sent ≤ window_start layout opening) second
-  pub each : (slot : ℕ) → slot < most_slots → contains_slot opening.mask slot ≡ true
+  pub each : (slot : ℕ) → slot < most_slots → has_bit opening.mask slot ≡ true
       → IsSentOnce sends layout opening later slot
-  pub none : (slot : ℕ) → slot < most_slots → contains_slot opening.mask slot ≡ false → of_slot slot later ≡ []
+  pub none : (slot : ℕ) → slot < most_slots → has_bit opening.mask slot ≡ false → of_slot slot later ≡ []
   pub all : All (λ sent. IsRequestFrame layout opening sent ⊎ IsSlotFrame layout opening sent) later
 
 -- in each of the opened cycles the frames of the trace are those of the cycle
@@ -80,7 +80,7 @@ RunsCycles sends layout openings trace =
 -- each flagged slot has an instance that may be sent in the cycle, and together they fit into the largest synchronous
 -- window
 pub record FitsWindow (layout : CycleLayout) (opening : Opening) : Type 0 where
-  pub present : (slot : ℕ) → slot < most_slots → contains_slot opening.mask slot ≡ true
+  pub present : (slot : ℕ) → slot < most_slots → has_bit opening.mask slot ≡ true
       → IsSome (instance_in opening.placed slot opening.cycle)
   pub width : width_of opening ≤ layout.window
 

@@ -7,7 +7,7 @@ use Rattle.can_frame.specs.declared.data_frame.TimedFrame.{TimedFrame}
 use Rattle.cycle_layout.specs.Layout.{CycleLayout}
 use Rattle.requirement_table.specs.declared.entries.Order.{Order}
 use Rattle.requirement_table.specs.declared.entries.Placed.{Placed}
-use Rattle.requirement_table.specs.Slots.{contains_slot, set_of, most_slots}
+use Rattle.bit_sets.specs.Sets.{has_bit, set_of, most_slots}
 use Rattle.requirement_table.specs.Table.{IsWellPlaced}
 use Rattle.trigger_codec.specs.Bytes.{triggers_with}
 use Rattle.async_window.specs.declared.request.Owner.{Owner}
@@ -35,7 +35,7 @@ identifiers_in owners = map (λ owner. owner.id) owners
 -- the open cycle of a node with these entries: of the slots that were heard those that are its own are marked
 abbrev pub own_opened : List Placed → Opened → Opened
 own_opened entries opened = record opened {
-  heard = set_of most_slots (λ slot. contains_slot opened.heard slot && is_own_slot entries (first_identifier + slot));
+  heard = set_of most_slots (λ slot. has_bit opened.heard slot && is_own_slot entries (first_identifier + slot));
 }
 
 -- what one of the nodes knows, of what the joint node knows: its entries of the list, and the mail of its identifiers

@@ -5,7 +5,7 @@ use Rattle.can_frame.specs.declared.data_frame.TimedFrame.{TimedFrame}
 use Rattle.cycle_layout.specs.Layout.{CycleLayout}
 use Rattle.requirement_table.specs.declared.entries.Placed.{Placed}
 use Rattle.requirement_table.specs.declared.entries.Order.{Order}
-use Rattle.requirement_table.specs.Slots.{contains_slot, most_slots}
+use Rattle.bit_sets.specs.Sets.{has_bit, most_slots}
 use Rattle.requirement_table.specs.Table.{IsWellPlaced, instance_in}
 use Rattle.async_window.specs.declared.request.Owner.{Owner}
 use Rattle.async_window.specs.declared.request.Request.{Request}
@@ -77,7 +77,7 @@ IsKnown nodes cycle slot = Any (λ node. IsSome (instance_in node.entries slot c
 -- of their frames
 pub record FitsOrder (l : ℕ) (opening : Opening) (nodes : List NodeState) : Type 0 where
   pub width : l ≡ width_of opening
-  pub present : (slot : ℕ) → slot < most_slots → contains_slot opening.mask slot ≡ true → IsKnown nodes opening.cycle slot
+  pub present : (slot : ℕ) → slot < most_slots → has_bit opening.mask slot ≡ true → IsKnown nodes opening.cycle slot
 
 -- the cycle that an order opens, where this list is placed
 abbrev pub opening_of : Order → List Placed → Opening

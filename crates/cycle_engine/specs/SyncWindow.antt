@@ -8,7 +8,7 @@ use Rattle.can_frame.specs.DataFrame.{DataFrame}
 use Rattle.can_frame.specs.Wire.{wire_length}
 use Rattle.can_frame.specs.declared.data_frame.TimedFrame.{TimedFrame}
 use Rattle.cycle_layout.specs.Layout.{CycleLayout}
-use Rattle.requirement_table.specs.Slots.{contains_slot, most_slots}
+use Rattle.bit_sets.specs.Sets.{has_bit, most_slots}
 use Rattle.bus_line.specs.Trace.{Follows}
 use Rattle.bus_line.specs.Stations.{offers_of}
 use Rattle.node_model.specs.Node.{NodeState}
@@ -33,7 +33,7 @@ due_frames nodes = by_slots (due_by nodes)
 
 -- the same of the slots of a set alone
 abbrev pub due_among : List NodeState → ℕ → ℕ → Option DataFrame
-due_among nodes set slot = if contains_slot set slot then due_by nodes slot else None
+due_among nodes set slot = if has_bit set slot then due_by nodes slot else None
 
 -- a frame that is sent whole from a time on
 abbrev pub sent_at : ℕ → DataFrame → TimedFrame

@@ -4,17 +4,17 @@
 ghost use Rattle.std.specs.Prelude.{◌≡◌, ℕ, ◌+◌, ◌-◌, ◌/◌, ◌<◌, ◌≤◌, ◌++◌, ◌||◌};
 ghost use Rattle.std.specs.Prelude.{[], ◌∷◌, IsSome, Some, drop, false, is_some, length, true, vec_len, vec_capacity};
 ghost use Rattle.profile.specs.Limits.{shortest_frame, times_end};
-ghost use Rattle.requirement_table.specs.Slots.{contains_slot, most_slots};
+ghost use Rattle.bit_sets.specs.Sets.{has_bit, most_slots};
 ghost use Rattle.node_model.specs.Node.{IsNode};
 ghost use Rattle.node_model.specs.Window.{IsInWindow};
 ghost use Rattle.cycle_engine.specs.SyncWindow.{IsSentBy, back_to_back, by_slots, due_among, due_by, is_among};
 
+use bit_sets::{difference, least_slot, without_least};
 use can_frame::laws::wire_lengths;
 use can_frame::{Frame, KnownFront, TimedFrame};
 use node_model::Node;
 use node_model::laws::{sends_its_slots, stays_a_node};
 use requirement_table::{MOST_SLOTS, Mask};
-use slot_sets::{difference, least_slot, without_least};
 
 /// For each slot what is known of the first bits of its frames.
 pub type Fronts = [KnownFront; MOST_SLOTS as usize];
@@ -62,14 +62,14 @@ fn send_slots(
     out: &mut Vec<TimedFrame>,
 ) -> Mask
     requires time { until < times_end }
-    requires due { (slot : ℕ) → slot < most_slots → contains_slot set slot ≡ true
+    requires due { (slot : ℕ) → slot < most_slots → has_bit set slot ≡ true
         → IsSome (due_by (node.now.state ∷ []) slot) }
     requires room { from < until → vec_len out.old + ((until - from) / shortest_frame + 1) ≤ vec_capacity out.old }
     ensures sent { out.new.items
         ≡ out.old.items ++ back_to_back (by_slots (due_among (node.now.state ∷ []) set)) from until }
-    ensures left { (slot : ℕ) → contains_slot set slot
-        ≡ (is_among slot (drop (length out.old.items) out.new.items) || contains_slot result slot) }
-    ensures apart { (slot : ℕ) → contains_slot result slot ≡ true
+    ensures left { (slot : ℕ) → has_bit set slot
+        ≡ (is_among slot (drop (length out.old.items) out.new.items) || has_bit result slot) }
+    ensures apart { (slot : ℕ) → has_bit result slot ≡ true
         → is_among slot (drop (length out.old.items) out.new.items) ≡ false }
     ensures capacity { vec_capacity out.old ≤ vec_capacity out.new }
 {
@@ -97,7 +97,7 @@ fn send_slots(
 /// The slots that a node is to send in its open cycle.
 fn due_slots(node: &Node) -> Mask
     ensures slots { (slot : ℕ) → slot < most_slots
-        → contains_slot result slot ≡ is_some (due_by (node.now.state ∷ []) slot) }
+        → has_bit result slot ≡ is_some (due_by (node.now.state ∷ []) slot) }
 {
     node.with_due_slots(Mask::empty())
 }

@@ -1,7 +1,7 @@
 -- What a core plans for its next cycle is heard of the trigger frames of that cycle.
 use Rattle.std.proofs.Common.{◌≡◌, ℕ, ◌^◌, ◌<◌, ◌≤◌, Option, Some, None, sym, ap, ◌∙◌, arith}
 use Rattle.profile.specs.Limits.{longest_window}
-use Rattle.requirement_table.specs.Slots.{contains_slot, most_slots}
+use Rattle.bit_sets.specs.Sets.{has_bit, most_slots}
 use Rattle.requirement_table.specs.Table.{width_in}
 use Rattle.trigger_codec.specs.Bytes.{triggers_with}
 use Rattle.master_core.specs.declared.upcoming.Upcoming.{Upcoming}
@@ -20,7 +20,7 @@ pub due-heard : AreHeard → (core : CoreView) (upcoming : Upcoming) → IsCore 
     → heard_of core.rules.slots core.cycle (due_frames core) ≡ Some (record { l = upcoming.l; mask = upcoming.mask })
 due-heard heard core upcoming known is =
     let mask : planned_of core ≡ upcoming.mask = sym is.order.mask in
-    let sum : sum_of core ≡ upcoming.l = ap (λ (m : ℕ). width_in core.placed core.cycle (contains_slot m)) mask ∙ sym is.order.window in
+    let sum : sum_of core ≡ upcoming.l = ap (λ (m : ℕ). width_in core.placed core.cycle (has_bit m)) mask ∙ sym is.order.window in
     let frames : due_frames core ≡ triggers_with core.rules.slots core.cycle upcoming.l upcoming.mask =
     ap (λ (m : ℕ). triggers_with core.rules.slots core.cycle (sum_of core) m) mask
     ∙ ap (λ (l : ℕ). triggers_with core.rules.slots core.cycle l upcoming.mask) sum in

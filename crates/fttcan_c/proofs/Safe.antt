@@ -3,7 +3,7 @@
 use Rattle.std.proofs.Common.{◌≡◌, ℕ, ◌+◌, ◌<◌, false, nat_eq, List, [], refl, sym, ap, ◌∙◌, subst, true≢false, arith}
 use Rattle.std.proofs.Math.Bool.{and-false}
 use Rattle.std.proofs.lemmas.Nat.Bits.{bit_at-zero}
-use Rattle.requirement_table.specs.Slots.{contains_slot, most_slots, set_of}
+use Rattle.bit_sets.specs.Sets.{has_bit, most_slots, set_of}
 use Rattle.planner_policies.specs.Plan.{IsMissIn, NeverMisses, Planning, is_missed_in, left_after, pending_at, pending_before}
 use Rattle.planner_policies.proofs.Shared.{on-missed}
 use Rattle.admission.specs.Verdict.{IsSafe, plan_from}
@@ -18,12 +18,12 @@ use Rattle.fttcan_c.specs.Plain.{mask_of, rules_of, table_of}
 use Rattle.fttcan_c.specs.Refused.{status_of}
 
 -- what is pending behind the first cycle of a planning
-pending-behind : (plan : Planning) → pending_at plan 1 ≡ set_of most_slots (left_after plan (plan.from + 0) (contains_slot plan.pending))
+pending-behind : (plan : Planning) → pending_at plan 1 ≡ set_of most_slots (left_after plan (plan.from + 0) (has_bit plan.pending))
 unfolding pending_before
 pending-behind plan = refl
 
 -- what is missed in it
-missed-first : (plan : Planning) → NeverMisses plan → (slot : ℕ) → slot < most_slots → is_missed_in plan (plan.from + 0) (contains_slot plan.pending) slot ≡ false
+missed-first : (plan : Planning) → NeverMisses plan → (slot : ℕ) → slot < most_slots → is_missed_in plan (plan.from + 0) (has_bit plan.pending) slot ≡ false
 unfolding pending_before
 missed-first plan never slot known = never 0 slot known
 
@@ -35,7 +35,7 @@ kept_safe rules placed old new plan opened safe =
     let zero_is : old.cycle + 0 ≡ old.cycle = omega arith in
     let behind : mask_of new.pending ≡ pending_at from 1 =
     opened.pending
-    ∙ sym (ap (λ (c : ℕ). set_of most_slots (left_after from c (contains_slot (mask_of old.pending)))) zero_is)
+    ∙ sym (ap (λ (c : ℕ). set_of most_slots (left_after from c (has_bit (mask_of old.pending)))) zero_is)
     ∙ sym (pending-behind from) in
     let later : NeverMisses (plan_from (rules_of rules) (table_of placed) (old.cycle + 1) (pending_at from 1)) =
     λ m slot known. sym (on-missed from 1 m slot known) ∙ safe.in_time (1 + m) slot known in
@@ -48,12 +48,12 @@ kept_safe rules placed old new plan opened safe =
 
 pub no_miss : (rules : FttRules) (placed : List FttPlaced) (state : FttState) (slot release : ℕ)
     → IsSafe (rules_of rules) (table_of placed) state.cycle (mask_of state.pending)
-    → IsMissIn (plan_at rules placed state) state.cycle (contains_slot (mask_of state.pending)) slot release → ⊥
+    → IsMissIn (plan_at rules placed state) state.cycle (has_bit (mask_of state.pending)) slot release → ⊥
 no_miss rules placed state slot release safe miss =
     let from : Planning = plan_at rules placed state in
     let zero_is : state.cycle + 0 ≡ state.cycle = omega arith in
-    let none : is_missed_in from state.cycle (contains_slot from.pending) slot ≡ false =
-    sym (ap (λ (c : ℕ). is_missed_in from c (contains_slot from.pending) slot) zero_is)
+    let none : is_missed_in from state.cycle (has_bit from.pending) slot ≡ false =
+    sym (ap (λ (c : ℕ). is_missed_in from c (has_bit from.pending) slot) zero_is)
     ∙ missed-first from safe.in_time slot miss.known in
     absurd (true≢false (sym miss.missed ∙ none))
 

@@ -1,7 +1,7 @@
 -- The text of a plan that keeps a table is taken, but for want of memory.
 use Rattle.std.proofs.Common.{◌≡◌, ◌↔◌, ℕ, ◌+◌, ◌-◌, ◌≤◌, Bool, true, false, IsTrue, List, length, refl, sym, subst, true≢false, arith}
 use Rattle.profile.specs.Limits.{cycles_end}
-use Rattle.requirement_table.specs.Slots.{contains_slot}
+use Rattle.bit_sets.specs.Sets.{has_bit}
 use Rattle.requirement_table.specs.Table.{IsWellPlaced}
 use Rattle.plan_check.specs.Certificate.{CertificateView}
 use Rattle.plan_check.specs.PlanKept.{HasPending, IsTaken}
@@ -58,8 +58,8 @@ pub text_of_core : (text : List ℕ) (core : CoreView) (certificate : Certificat
     → IsPlanTextOf text core
 text_of_core text core certificate is onward taken near read same =
     let read_so : IsPlanOf text certificate = subst (λ (t : List ℕ). IsPlanOf t certificate) (sym same) read in
-    let waiting : HasPending core.placed certificate.from (contains_slot core.pending) =
-    subst (λ (c : ℕ). HasPending core.placed c (contains_slot core.pending)) (sym onward.start) is.safe.safe.held in
+    let waiting : HasPending core.placed certificate.from (has_bit core.pending) =
+    subst (λ (c : ℕ). HasPending core.placed c (has_bit core.pending)) (sym onward.start) is.safe.safe.held in
     record {
       certificate = certificate;
       onward = onward;
@@ -72,7 +72,7 @@ text_of_core text core certificate is onward taken near read same =
         certificate = certificate;
         read = read_so;
         begins = record {
-          pending = subst (λ (p : ℕ). HasPending core.placed certificate.from (contains_slot p)) (sym onward.before) waiting;
+          pending = subst (λ (p : ℕ). HasPending core.placed certificate.from (has_bit p)) (sym onward.before) waiting;
           cycles = last-cycle certificate.from certificate.first (length certificate.masks) cycles_end
               read.readable.after read.readable.some near;
         };

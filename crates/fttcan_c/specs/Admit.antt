@@ -2,7 +2,7 @@
 use Rattle.std.specs.Prelude.{◌≡◌, ℕ, ◌+◌, ◌<◌, ◌≤◌, List, All, IfSome}
 use Rattle.profile.specs.Limits.{openings_end}
 use Rattle.requirement_table.specs.declared.entries.Placed.{Placed}
-use Rattle.requirement_table.specs.Slots.{contains_slot, most_slots, set_of}
+use Rattle.bit_sets.specs.Sets.{has_bit, most_slots, set_of}
 use Rattle.requirement_table.specs.Table.{IsWellPlaced, width_in}
 use Rattle.change_protocol.specs.Applied.{applied}
 use Rattle.change_protocol.specs.declared.operations.Change.{Change}
@@ -99,14 +99,14 @@ pub record IsOpened (rules : FttRules) (placed : List FttPlaced) (old new : FttS
   pub from : CanOpen placed old
   pub cycle : new.cycle ≡ old.cycle + 1
   pub pending : mask_of new.pending
-      ≡ set_of most_slots (left_after (plan_at rules placed old) old.cycle (contains_slot (mask_of old.pending)))
+      ≡ set_of most_slots (left_after (plan_at rules placed old) old.cycle (has_bit (mask_of old.pending)))
   pub flags : mask_of plan.flags
-      ≡ set_of most_slots (planned_in (plan_at rules placed old) old.cycle (contains_slot (mask_of old.pending)))
+      ≡ set_of most_slots (planned_in (plan_at rules placed old) old.cycle (has_bit (mask_of old.pending)))
   pub window : plan.window ≡ width_in (table_of placed) old.cycle
-      (planned_in (plan_at rules placed old) old.cycle (contains_slot (mask_of old.pending)))
+      (planned_in (plan_at rules placed old) old.cycle (has_bit (mask_of old.pending)))
   pub fits : plan.window ≤ rules.window
   pub held : IsValid (table_of placed) new.cycle (mask_of new.pending)
-  pub in_time : HasNoMissIn (plan_at rules placed old) old.cycle (contains_slot (mask_of old.pending))
+  pub in_time : HasNoMissIn (plan_at rules placed old) old.cycle (has_bit (mask_of old.pending))
 
 -- why a cycle is not planned: a rule is out of range; or none is, and the table or the state is refused, there is no
 -- memory, or at a miss an instance would miss its deadline in it
@@ -118,7 +118,7 @@ RefusesOpening rules placed state State = AreRules rules × IsWellPlaced (table_
 RefusesOpening rules placed state Room = ⊥
 RefusesOpening rules placed state Miss = AreRules rules × IsWellPlaced (table_of placed) × CanOpen placed state
     × ((slot release : ℕ)
-    × IsMissIn (plan_at rules placed state) state.cycle (contains_slot (mask_of state.pending)) slot release)
+    × IsMissIn (plan_at rules placed state) state.cycle (has_bit (mask_of state.pending)) slot release)
 RefusesOpening rules placed state Closed = ⊥
 RefusesOpening rules placed state Open = ⊥
 RefusesOpening rules placed state Text = ⊥

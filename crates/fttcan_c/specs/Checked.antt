@@ -2,7 +2,7 @@
 use Rattle.std.specs.Prelude.{◌≡◌, ℕ, ◌+◌, ◌<◌, ◌≤◌, List, length}
 use Rattle.profile.specs.Limits.{cycles_end}
 use Rattle.requirement_table.specs.declared.entries.Placed.{Placed}
-use Rattle.requirement_table.specs.Slots.{contains_slot}
+use Rattle.bit_sets.specs.Sets.{has_bit}
 use Rattle.requirement_table.specs.Table.{IsWellPlaced}
 use Rattle.plan_check.specs.declared.breach.Breach.{Breach}
 use Rattle.plan_check.specs.Breaches.{IsBreach}
@@ -20,7 +20,7 @@ use Rattle.fttcan_c.specs.Told.{breach_told}
 
 -- the plan begins where slots are pending that have an instance then, and its cycles are in range
 pub record BeginsRight (placed : List Placed) (certificate : CertificateView) : Type 0 where
-  pub pending : HasPending placed certificate.from (contains_slot certificate.pending)
+  pub pending : HasPending placed certificate.from (has_bit certificate.pending)
   pub cycles : certificate.from + length certificate.masks ≤ cycles_end
 
 -- the text is that of a plan which begins rightly and keeps the well placed table for ever

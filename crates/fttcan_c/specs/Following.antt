@@ -3,7 +3,7 @@
 use Rattle.std.specs.Prelude.{◌≡◌, ◌≢◌, ℕ, ◌<◌, ◌≤◌, ◌++◌, ◌∷◌, [], List, All, Bool, true, Option, Some, None}
 use Rattle.profile.specs.Limits.{openings_end}
 use Rattle.can_frame.specs.DataFrame.{DataFrame}
-use Rattle.requirement_table.specs.Slots.{contains_slot}
+use Rattle.bit_sets.specs.Sets.{has_bit}
 use Rattle.requirement_table.specs.Table.{width_in}
 use Rattle.planner_policies.specs.Plan.{mask_at}
 use Rattle.change_protocol.specs.Applied.{IsChangedAt, applied}
@@ -115,7 +115,7 @@ abbrev pub planned_of : CoreView → ℕ
 planned_of core = mask_at (onward core) 0
 
 abbrev pub sum_of : CoreView → ℕ
-sum_of core = width_in core.placed core.cycle (contains_slot (planned_of core))
+sum_of core = width_in core.placed core.cycle (has_bit (planned_of core))
 
 -- the trigger frames of its next cycle
 abbrev pub due_frames : CoreView → List DataFrame

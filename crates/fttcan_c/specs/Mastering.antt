@@ -2,7 +2,7 @@
 use Rattle.std.specs.Prelude.{◌≡◌, ℕ, ◌+◌, ◌<◌, ◌≤◌, ◌++◌, ◌∷◌, [], List, All, Bool, true, Option, Some, None, is_some, map}
 use Rattle.std.specs.Int.{from_bool}
 use Rattle.profile.specs.Limits.{openings_end}
-use Rattle.requirement_table.specs.Slots.{contains_slot}
+use Rattle.bit_sets.specs.Sets.{has_bit}
 use Rattle.requirement_table.specs.Table.{width_in}
 use Rattle.planner_policies.specs.Plan.{mask_at}
 use Rattle.change_protocol.specs.Applied.{applied}
@@ -101,7 +101,7 @@ pub record IsCoreOpened (order : FttOrder) (old new : CoreView) : Type 0 where
   pub after : new ≡ opened old
   pub cycle : order.cycle ≡ old.cycle
   pub flags : mask_of order.flags ≡ mask_at (onward old) 0
-  pub window : order.window ≡ width_in old.placed old.cycle (contains_slot (mask_of order.flags))
+  pub window : order.window ≡ width_in old.placed old.cycle (has_bit (mask_of order.flags))
   pub fits : order.window ≤ old.rules.window
   pub learned : order.learned ≡ from_bool (is_some old.learned)
   pub safe : IsSafe old.rules old.placed old.cycle old.pending

@@ -3,7 +3,7 @@
 ghost use Rattle.std.specs.Prelude.{◌≡◌, ℕ, ◌^◌, ◌<◌, [], List, map, true};
 ghost use Rattle.can_frame.specs.DataFrame.{DataFrame, IsFrame};
 ghost use Rattle.requirement_table.specs.declared.entries.Placed.{Placed};
-ghost use Rattle.requirement_table.specs.Slots.{most_slots};
+ghost use Rattle.bit_sets.specs.Sets.{most_slots};
 ghost use Rattle.change_protocol.specs.declared.operations.Change.{Change};
 ghost use Rattle.admission_rules.specs.declared.Rules.{Rules};
 ghost use Rattle.admission.specs.declared.verdict.Verdict.{Verdict};

@@ -2,7 +2,7 @@
 use Rattle.std.proofs.Common.{◌≡◌, ℕ, List, [], ◌∷◌, ◌++◌, map, get_or, sym, ap, ◌∙◌}
 use Rattle.can_frame.specs.DataFrame.{DataFrame}
 use Rattle.can_frame.specs.declared.data_frame.TimedFrame.{TimedFrame}
-use Rattle.requirement_table.specs.Slots.{contains_slot}
+use Rattle.bit_sets.specs.Sets.{has_bit}
 use Rattle.requirement_table.specs.Table.{width_in}
 use Rattle.admission_rules.specs.declared.Rules.{Rules}
 use Rattle.trigger_kind.specs.declared.Triggers.{Triggers}
@@ -29,7 +29,7 @@ hears-due laws rules history frames standby same same_rules heard =
       begin = heard.begin
           ∙ ap (λ (c : ℕ). triggers_with rules.slots c order.l order.mask ++ heard.later) due.cycle
           ∙ ap (λ (l : ℕ). triggers_with rules.slots (next_of own) l order.mask ++ heard.later) due.window
-          ∙ ap (λ (m : ℕ). triggers_with rules.slots (next_of own) (width_in (placed_of own) (next_of own) (contains_slot m)) m ++ heard.later) due.mask
+          ∙ ap (λ (m : ℕ). triggers_with rules.slots (next_of own) (width_in (placed_of own) (next_of own) (has_bit m)) m ++ heard.later) due.mask
           ∙ ap (λ (r : Rules). due_frames (record { rules = r; history = own }) ++ heard.later) (sym same_rules);
     }
 

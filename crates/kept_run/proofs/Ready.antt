@@ -8,7 +8,7 @@ use Rattle.cycle_layout.specs.Layout.{CycleLayout}
 use Rattle.requirement_table.specs.declared.entries.Order.{Order}
 use Rattle.requirement_table.specs.declared.entries.Placed.{Placed}
 use Rattle.requirement_table.specs.Instance.{Instance, MaySend, bytes_of}
-use Rattle.requirement_table.specs.Slots.{contains_slot}
+use Rattle.bit_sets.specs.Sets.{has_bit}
 use Rattle.requirement_table.specs.Table.{IsWellPlaced, instance_in, width_in}
 use Rattle.requirement_table.proofs.Shared.{instance_in-sound}
 use Rattle.planner_policies.specs.Plan.{mask_at}
@@ -175,8 +175,8 @@ pub order-fits : (setting : Setting) (history : List Event) (order : Order) → 
     → FitsWindow setting.layout (opening_of order (placed_of history))
 order-fits setting history order known is =
     let placed : List Placed = placed_of history in
-    let width : order.l ≡ width_in placed order.cycle (contains_slot order.mask) =
-    is.window ∙ ap (λ n. width_in placed n (contains_slot order.mask)) (sym is.cycle) in
+    let width : order.l ≡ width_in placed order.cycle (has_bit order.mask) =
+    is.window ∙ ap (λ n. width_in placed n (has_bit order.mask)) (sym is.cycle) in
     record {
       present = λ slot within flagged.
           let found = is.present slot within flagged in

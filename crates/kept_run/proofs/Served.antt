@@ -11,7 +11,7 @@ use Rattle.requirement_table.specs.declared.entries.Placed.{Placed}
 use Rattle.requirement_table.specs.Flags.{IsFlaggedOnce}
 use Rattle.requirement_table.specs.Instance.{Instance, MaySend, bytes_of, release_of}
 use Rattle.requirement_table.specs.Opening.{Opening, width_of}
-use Rattle.requirement_table.specs.Slots.{contains_slot, most_slots}
+use Rattle.bit_sets.specs.Sets.{has_bit, most_slots}
 use Rattle.requirement_table.specs.Table.{IsInRange, instance_in}
 use Rattle.requirement_table.proofs.Shared.{instance_in-found, instance_in-sound}
 use Rattle.change_protocol.specs.Applied.{without_end}
@@ -62,7 +62,7 @@ module _ {sends : Instance → List ℕ} (layout : CycleLayout) (opening : Openi
       ∙ filter-append is_slot runs.second runs.later ∙ ap (λ l. l ++ of_slot slot runs.later) none
 
   -- a slot that is not flagged sends nothing in the cycle
-  nothing_sent : (slot : ℕ) (sent : TimedFrame) → slot < most_slots → contains_slot opening.mask slot ≡ false
+  nothing_sent : (slot : ℕ) (sent : TimedFrame) → slot < most_slots → has_bit opening.mask slot ≡ false
       → Contains frames sent → sent.frame.identifier ≡ first_identifier + slot → ⊥
   nothing_sent slot sent known unflagged among same =
       let kept : Contains (of_slot slot frames) sent = Contains-filter (λ s. eqb s.frame.identifier (first_identifier + slot)) frames sent among (eq-eqb _ _ same) in
@@ -120,9 +120,9 @@ module _ (sends : Instance → List ℕ) (laws : PlanLaws) (rules : Rules) (layo
   runs-opening o opened = All-contains (λ x. RunsCycle sends layout x (frames_in layout x.cycle trace)) openings o run.cycles opened
 
   -- the flags of an opened cycle are those of the plan
-  flagged-as_planned : (o : Opening) (slot : ℕ) → Contains openings o → slot < most_slots → contains_slot o.mask slot ≡ flags_of plan o.cycle slot
+  flagged-as_planned : (o : Opening) (slot : ℕ) → Contains openings o → slot < most_slots → has_bit o.mask slot ≡ flags_of plan o.cycle slot
   flagged-as_planned o slot opened known =
-      ap (λ m. contains_slot m slot) (All-contains (λ x. x.mask ≡ mask_at plan x.cycle) openings o run.opened.masks opened)
+      ap (λ m. has_bit m slot) (All-contains (λ x. x.mask ≡ mask_at plan x.cycle) openings o run.opened.masks opened)
       ∙ mask-planned laws rules placed run.opened.well run.opened.in_time o.cycle slot known
 
   -- a frame of the trace is among those of its cycle
@@ -152,7 +152,7 @@ module _ (sends : Instance → List ℕ) (laws : PlanLaws) (rules : Rules) (layo
               let late : release ≤ cycle_of layout s = leb-true _ _ parts.0 in
               let in_time : cycle_of layout s ≤ last = leb-true _ _ parts.1 in
               let other = run.opened.opened (cycle_of layout s) (omega arith) in
-              let unflagged : contains_slot other.0.mask slot ≡ false = false_from_ne_true _ (λ flagged.
+              let unflagged : has_bit other.0.mask slot ≡ false = false_from_ne_true _ (λ flagged.
               let again : flags_of plan (cycle_of layout s) slot ≡ true =
               ap (λ c. flags_of plan c slot) (sym other.2) ∙ sym (flagged-as_planned other.0 slot other.1 known) ∙ flagged in
               let same_cycle = once.alone (cycle_of layout s) late in_time again in
@@ -185,7 +185,7 @@ module _ (sends : Instance → List ℕ) (laws : PlanLaws) (rules : Rules) (layo
       let opened = run.opened.opened once.cycle (omega arith) in
       let o : Opening = opened.0 in
       let cycle : o.cycle ≡ once.cycle = opened.2 in
-      let flagged : contains_slot o.mask slot ≡ true =
+      let flagged : has_bit o.mask slot ≡ true =
       flagged-as_planned o slot opened.1 known ∙ ap (λ c. flags_of plan c slot) cycle ∙ once.flagged in
       let runs = runs-opening o opened.1 in
       let sent = runs.each slot known flagged in
@@ -242,13 +242,13 @@ module _ (sends : Instance → List ℕ) (laws : PlanLaws) (rules : Rules) (layo
 
   -- a frame with the identifier of a slot is sent where the slot is flagged
   slot-flagged : (o : Opening) (sent : TimedFrame) (slot : ℕ) → slot < most_slots → sent.frame.identifier ≡ first_identifier + slot
-      → (sent.frame.identifier ≤ 1) ⊎ IsLaterFrame layout o sent → contains_slot o.mask slot ≡ true
+      → (sent.frame.identifier ≤ 1) ⊎ IsLaterFrame layout o sent → has_bit o.mask slot ≡ true
   slot-flagged o sent slot known same is =
       elim is [
         | inl trigger ↦ absurd (omega arith)
         | inr later ↦ elim later [
           | inl frame ↦ absurd (let least = frame.identifier in omega arith)
-          | inr frame ↦ let id = frame.identifier in let slot_is : slot ≡ frame.slot = omega arith in ap (contains_slot o.mask) slot_is ∙ frame.flagged
+          | inr frame ↦ let id = frame.identifier in let slot_is : slot ≡ frame.slot = omega arith in ap (has_bit o.mask) slot_is ∙ frame.flagged
         ]
       ]
 
@@ -259,7 +259,7 @@ module _ (sends : Instance → List ℕ) (laws : PlanLaws) (rules : Rules) (layo
       let frame = frame-of sent (Contains-get_or trace k d here) in
       let o : Opening = frame.opening in
       let mask : o.mask ≡ mask_at plan o.cycle = All-contains (λ x. x.mask ≡ mask_at plan x.cycle) openings o run.opened.masks frame.opened in
-      let flagged : contains_slot (mask_at plan o.cycle) slot ≡ true = ap (λ m. contains_slot m slot) (sym mask) ∙ slot-flagged o sent slot known same frame.is in
+      let flagged : has_bit (mask_at plan o.cycle) slot ≡ true = ap (λ m. has_bit m slot) (sym mask) ∙ slot-flagged o sent slot known same frame.is in
       let some = some-of (instance_in placed slot o.cycle) (mask-sendable laws rules placed run.opened.well run.opened.in_time o.cycle slot flagged) in
       let i : Instance = some.0 in
       let may_send = subst (λ x. IfSome x (λ y. Contains placed y.placed × (y.placed.entry.slot ≡ slot) × MaySend y.placed y.number o.cycle)) some.1 (instance_in-sound placed slot o.cycle) in

@@ -6,7 +6,7 @@ use Rattle.cycle_layout.specs.Layout.{CycleLayout, IsLayout}
 use Rattle.requirement_table.specs.declared.entries.Placed.{Placed}
 use Rattle.requirement_table.specs.Instance.{Instance}
 use Rattle.requirement_table.specs.Opening.{Opening}
-use Rattle.requirement_table.specs.Slots.{contains_slot, most_slots}
+use Rattle.bit_sets.specs.Sets.{has_bit, most_slots}
 use Rattle.requirement_table.specs.Table.{IsWellPlaced, instance_in, width_in}
 use Rattle.planner_policies.specs.Plan.{NeverMisses, mask_at}
 use Rattle.admission_rules.specs.declared.Rules.{Rules}
@@ -86,11 +86,11 @@ answered setting trace history event closed legal way =
 fits-window : (laws : PlanLaws) (rules : Rules) (layout : CycleLayout) (placed : List Placed) (cycle mask : ℕ) → IsWellPlaced placed → NeverMisses (plan_of rules placed)
     → rules.window ≡ layout.window → mask ≡ mask_at (plan_of rules placed) cycle → FitsWindow layout (record { cycle = cycle; mask = mask; placed = placed })
 fits-window laws rules layout placed cycle mask well in_time window is =
-    let present : (slot : ℕ) → slot < most_slots → contains_slot mask slot ≡ true → IsSome (instance_in placed slot cycle) =
-    λ slot known flagged. mask-sendable laws rules placed well in_time cycle slot (ap (λ m. contains_slot m slot) (sym is) ∙ flagged) in
-    let fits : width_in placed cycle (contains_slot mask) ≤ rules.window =
-    subst (λ m. width_in placed cycle (contains_slot m) ≤ rules.window) (sym is) (mask-fits laws rules placed well in_time cycle) in
-    record { present = present; width = subst (λ w. width_in placed cycle (contains_slot mask) ≤ w) window fits }
+    let present : (slot : ℕ) → slot < most_slots → has_bit mask slot ≡ true → IsSome (instance_in placed slot cycle) =
+    λ slot known flagged. mask-sendable laws rules placed well in_time cycle slot (ap (λ m. has_bit m slot) (sym is) ∙ flagged) in
+    let fits : width_in placed cycle (has_bit mask) ≤ rules.window =
+    subst (λ m. width_in placed cycle (has_bit m) ≤ rules.window) (sym is) (mask-fits laws rules placed well in_time cycle) in
+    record { present = present; width = subst (λ w. width_in placed cycle (has_bit mask) ≤ w) window fits }
 
 -- a cycle that is opened right after a legal history
 module _ (master : MasterLaws) (plans : PlanLaws) (setting : Setting) (history : List Event) (cycle mask : ℕ)

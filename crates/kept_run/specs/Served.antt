@@ -8,7 +8,7 @@ use Rattle.cycle_layout.specs.Layout.{CycleLayout, async_open}
 use Rattle.requirement_table.specs.declared.entries.Placed.{Placed}
 use Rattle.requirement_table.specs.Instance.{Exists, Instance, IsLastCycle, MaySend, release_of}
 use Rattle.requirement_table.specs.Opening.{Opening}
-use Rattle.requirement_table.specs.Slots.{most_slots}
+use Rattle.bit_sets.specs.Sets.{most_slots}
 use Rattle.change_protocol.specs.Applied.{without_end}
 use Rattle.bus_line.specs.Trace.{end_of}
 use Rattle.node_model.specs.Opening.{end_of_cycle, window_start}

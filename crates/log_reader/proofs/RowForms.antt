@@ -8,7 +8,7 @@ use Rattle.std.specs.List.{flat_map}
 use Rattle.std.specs.Str.{bytes_eq}
 use Rattle.can_frame.specs.DataFrame.{DataFrame, IsFrame}
 use Rattle.can_frame.specs.declared.data_frame.TimedFrame.{TimedFrame}
-use Rattle.requirement_table.specs.Slots.{most_slots}
+use Rattle.bit_sets.specs.Sets.{most_slots}
 use Rattle.text_fields.specs.Hexadecimal.{hex_digits}
 use Rattle.text_fields.specs.MaskText.{mask_digits}
 use Rattle.log_reader.specs.Row.{IsLogRow, IsLogVerdict, fields_of_row, fields_of_verdict}

@@ -5,7 +5,7 @@ use Rattle.std.specs.List.{flat_map, join_with_byte}
 use Rattle.std.specs.Fmt.{decimal}
 use Rattle.can_frame.specs.DataFrame.{IsFrame}
 use Rattle.can_frame.specs.declared.data_frame.TimedFrame.{TimedFrame}
-use Rattle.requirement_table.specs.Slots.{most_slots}
+use Rattle.bit_sets.specs.Sets.{most_slots}
 use Rattle.text_fields.specs.CsvRows.{records_of}
 use Rattle.text_fields.specs.Hexadecimal.{hex_digits}
 use Rattle.text_fields.specs.MaskText.{mask_digits}

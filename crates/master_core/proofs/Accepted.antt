@@ -2,7 +2,7 @@
 use Rattle.std.proofs.Common.{◌≡◌, ℕ, ◌+◌, ◌-◌, ◌<◌, ◌≤◌, false, List, ap, ◌∙◌, subst, ⊎_elim, zero-add, arith}
 use Rattle.std.proofs.lemmas.Bool.{cases_lt}
 use Rattle.requirement_table.specs.declared.entries.Placed.{Placed}
-use Rattle.requirement_table.specs.Slots.{most_slots}
+use Rattle.bit_sets.specs.Sets.{most_slots}
 use Rattle.change_protocol.specs.Applied.{IsChangedAt}
 use Rattle.planner_policies.specs.Plan.{NeverMisses, is_missed_at, pending_at}
 use Rattle.planner_policies.proofs.Shared.{on-missed}

@@ -6,9 +6,10 @@ use Rattle.change_protocol.specs.declared.operations.Change.{Change}
 use Rattle.change_protocol.specs.Applied.{applied}
 use Rattle.change_protocol.specs.Operations.{HasTypes}
 use Rattle.planner_policies.specs.declared.state.PlanState.{PlanState}
-use Rattle.requirement_table.specs.Slots.{contains_slot, most_slots, set_of}
+use Rattle.bit_sets.specs.Sets.{has_bit, most_slots, set_of}
 use Rattle.requirement_table.specs.Table.{IsWellPlaced, not_over}
-use Rattle.requirement_table.proofs.Shared.{not_over-well_placed, set_of-same}
+use Rattle.requirement_table.proofs.Shared.{not_over-well_placed}
+use Rattle.bit_sets.proofs.Shared.{set_of-same}
 use Rattle.planner_policies.specs.Plan.{HasNoMiss, HasNoMissIn, IsMissIn, IsValid, Planning, is_missed_at, is_missed_in, left_after, pending_at, pending_before, planning_of}
 use Rattle.planner_policies.proofs.Shared.{before-first, state-left, state-missed}
 use Rattle.admission_rules.specs.declared.Rules.{Rules}
@@ -67,12 +68,12 @@ submit-same caller from of one other first second trail also a b c d = rw (a, b,
 
 -- from state to state
 
-pub first-pending : (plan : Planning) → plan.pending ≡ set_of most_slots (contains_slot plan.pending) → plan.pending ≡ pending_at plan 0
+pub first-pending : (plan : Planning) → plan.pending ≡ set_of most_slots (has_bit plan.pending) → plan.pending ≡ pending_at plan 0
 first-pending plan known =
-    known ∙ sym (set_of-same most_slots (pending_before plan 0) (contains_slot plan.pending) (λ slot below. before-first plan slot))
+    known ∙ sym (set_of-same most_slots (pending_before plan 0) (has_bit plan.pending) (λ slot below. before-first plan slot))
 
 pub step-pending : (rules : Rules) (left : List Placed) (from pending n cycle set : ℕ) → cycle ≡ from + n → set ≡ pending_at (plan_from rules left from pending) n
-    → set_of most_slots (left_after (planning_of (ranking_by rules left) rules.window cycle set) cycle (contains_slot set))
+    → set_of most_slots (left_after (planning_of (ranking_by rules left) rules.window cycle set) cycle (has_bit set))
     ≡ pending_at (plan_from rules left from pending) (n + 1)
 step-pending rules left from pending n cycle set here is = rw (here, is) (state-left (plan_from rules left from pending) n)
 
@@ -87,13 +88,13 @@ none-more plan n none here m slot before known =
 
 -- what is missed in a cycle of a planning is missed where it is planned from the state before the cycle
 missed-here : (rules : Rules) (left : List Placed) (from pending n cycle set slot : ℕ) → cycle ≡ from + n → set ≡ pending_at (plan_from rules left from pending) n → slot < most_slots
-    → is_missed_in (planning_of (ranking_by rules left) rules.window cycle set) cycle (contains_slot set) slot
+    → is_missed_in (planning_of (ranking_by rules left) rules.window cycle set) cycle (has_bit set) slot
     ≡ is_missed_at (plan_from rules left from pending) n slot
 missed-here rules left from pending n cycle set slot here is known = rw (here, is) (state-missed (plan_from rules left from pending) n slot known)
 
 pub step-in_time : (rules : Rules) (left : List Placed) (from pending n cycle set : ℕ) → cycle ≡ from + n → set ≡ pending_at (plan_from rules left from pending) n
     → HasNoMiss (plan_from rules left from pending) n
-    → HasNoMissIn (planning_of (ranking_by rules left) rules.window cycle set) cycle (contains_slot set)
+    → HasNoMissIn (planning_of (ranking_by rules left) rules.window cycle set) cycle (has_bit set)
     → HasNoMiss (plan_from rules left from pending) (n + 1)
 step-in_time rules left from pending n cycle set here is none now =
     none-more (plan_from rules left from pending) n none
@@ -127,7 +128,7 @@ leads-by rules placed from to well valid order none is = record {
 pub leads-none : (rules : Rules) (placed : List Placed) (from to : PlanState) (n cycle set slot release : ℕ) → IsWellPlaced placed → Leads rules placed from to
     → n < to.cycle - from.cycle → cycle ≡ from.cycle + n
     → set ≡ pending_at (plan_from rules (not_over from.cycle placed) from.cycle from.pending) n
-    → IsMissIn (planning_of (ranking_by rules (not_over from.cycle placed)) rules.window cycle set) cycle (contains_slot set) slot release → ⊥
+    → IsMissIn (planning_of (ranking_by rules (not_over from.cycle placed)) rules.window cycle set) cycle (has_bit set) slot release → ⊥
 leads-none rules placed from to n cycle set slot release well leads before here is miss =
     let left = not_over from.cycle placed in
     let known = miss.known in

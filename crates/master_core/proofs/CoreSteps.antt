@@ -4,9 +4,9 @@ use Rattle.std.proofs.lemmas.List.Elements.{All-nil}
 use mir.Val.{bool_byte}
 use Rattle.profile.specs.Limits.{openings_end}
 use Rattle.requirement_table.specs.declared.entries.Placed.{Placed}
-use Rattle.requirement_table.specs.Slots.{contains_slot, most_slots}
+use Rattle.bit_sets.specs.Sets.{has_bit, most_slots}
 use Rattle.requirement_table.specs.Table.{not_over}
-use Rattle.requirement_table.proofs.Shared.{contains_slot-none, set_of-below, set_of-contains_slot, set_of-same}
+use Rattle.bit_sets.proofs.Shared.{has_bit-none, set_of-below, set_of-has_bit, set_of-same}
 use Rattle.change_protocol.specs.Applied.{applied}
 use Rattle.change_protocol.proofs.Shared.{changed-applied, not_over-pruned}
 use Rattle.planner_policies.specs.Plan.{IsValid, Ranking, pending_at, pending_before}
@@ -43,7 +43,7 @@ core-new rules forgets ranges =
         near = omega arith;
         safe = record {
           well_placed = record { in_range = λ i d within. absurd (omega arith); in_order = λ i j d order within. absurd (omega arith) };
-          held = λ slot held. let none = contains_slot-none slot in absurd (cc);
+          held = λ slot held. let none = has_bit-none slot in absurd (cc);
           in_time = nothing-missed rules;
         };
         repeats = record {
@@ -247,8 +247,8 @@ module _ (core : CoreView) (is : IsCore core) where
       let none : core.cycle - core.cycle ≡ 0 = omega arith in
       sym
       (ap (pending_at (onward core)) none
-      ∙ set_of-same most_slots (pending_before (onward core) 0) (contains_slot core.pending) (λ slot known. before-first (onward core) slot)
-      ∙ sym (set_of-contains_slot most_slots core.pending is.known))
+      ∙ set_of-same most_slots (pending_before (onward core) 0) (has_bit core.pending) (λ slot known. before-first (onward core) slot)
+      ∙ sym (set_of-has_bit most_slots core.pending is.known))
 
   pub made-to : (answer : Answer) (plain : Option Made) (made : Option Made) → option_map (λ m. m.learned) plain ≡ placed_with (applied core.placed answer.change) answer.verdict
       → AreTablesOf core.rules answer.from plain → AreKept core.forgets answer.from plain made → AreMadeTo core answer made

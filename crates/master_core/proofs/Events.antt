@@ -3,9 +3,9 @@ use Rattle.std.proofs.Common.{◌≡◌, ℕ, zero, ◌+◌, ◌-◌, ◌^◌, �
 use Rattle.std.proofs.lemmas.List.Sums.{count_by-le-length, sum_by_push}
 use mir.Val.{bool_byte}
 use Rattle.requirement_table.specs.declared.entries.Placed.{Placed}
-use Rattle.requirement_table.specs.Slots.{contains_slot, most_slots}
+use Rattle.bit_sets.specs.Sets.{has_bit, most_slots}
 use Rattle.requirement_table.specs.Table.{not_over}
-use Rattle.requirement_table.proofs.Shared.{set_of-contains_slot, set_of-same}
+use Rattle.bit_sets.proofs.Shared.{set_of-has_bit, set_of-same}
 use Rattle.change_protocol.specs.Applied.{applied}
 use Rattle.planner_policies.specs.Plan.{Ranking, mask_at, pending_at, pending_before}
 use Rattle.planner_policies.proofs.Shared.{before-first}
@@ -153,8 +153,8 @@ kept-new rules ranges = record {
   next = refl;
   near = omega arith;
   waiting =
-      set_of-contains_slot most_slots 0 (omega arith)
-      ∙ sym (set_of-same most_slots (pending_before (plan_of rules []) zero) (contains_slot 0) (λ slot known. before-first (plan_of rules []) slot));
+      set_of-has_bit most_slots 0 (omega arith)
+      ∙ sym (set_of-same most_slots (pending_before (plan_of rules []) zero) (has_bit 0) (λ slot known. before-first (plan_of rules []) slot));
   passed = omega arith;
   left = refl;
   to_learn = refl;

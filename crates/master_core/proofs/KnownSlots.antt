@@ -8,9 +8,10 @@ use Rattle.std.proofs.lemmas.Bool.{leb-false, lt-ltb}
 use Rattle.std.proofs.lemmas.List.Elements.{All-append, All-cons, All-contains, All-head, All-map, All-nil, All-tail, All-weaker}
 use Rattle.requirement_table.specs.declared.entries.Placed.{Placed}
 use Rattle.requirement_table.specs.Instance.{Instance, MaySend}
-use Rattle.requirement_table.specs.Slots.{most_slots, set_of}
+use Rattle.bit_sets.specs.Sets.{most_slots, set_of}
 use Rattle.requirement_table.specs.Table.{instance_in}
-use Rattle.requirement_table.proofs.Shared.{contains_slot-set_of, instance_in-sound, set_of-below, set_of-from_slots}
+use Rattle.requirement_table.proofs.Shared.{instance_in-sound}
+use Rattle.bit_sets.proofs.Shared.{has_bit-set_of, set_of-below, set_of-from_slots}
 use Rattle.change_protocol.specs.declared.malformed.Why.{Why}
 use Rattle.change_protocol.specs.declared.operations.Change.{Change}
 use Rattle.change_protocol.specs.declared.operations.Op.{Op}
@@ -136,7 +137,7 @@ set-below slots p room low =
     let more : 2 ^ slots ≤ 2 ^ most_slots = pow-le-pow_right {n = 2} (omega arith) room in
     subst (λ (mask : ℕ). mask < 2 ^ slots)
     (set_of-from_slots most_slots (set_of slots p) p (lt_of_lt_of_le few more)
-    (λ slot known. contains_slot-set_of slots p slot ∙ in-range slots slot (p slot) (low slot known)))
+    (λ slot known. has_bit-set_of slots p slot ∙ in-range slots slot (p slot) (low slot known)))
     few
 
 -- a slot with an instance

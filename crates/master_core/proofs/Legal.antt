@@ -5,7 +5,7 @@ use Rattle.std.proofs.Math.Nat.{le_trans}
 use Rattle.std.proofs.lemmas.List.Elements.{All-nil}
 use Rattle.requirement_table.specs.declared.entries.Placed.{Placed}
 use Rattle.requirement_table.specs.Table.{IsWellPlaced}
-use Rattle.requirement_table.proofs.Shared.{contains_slot-none}
+use Rattle.bit_sets.proofs.Shared.{has_bit-none}
 use Rattle.change_protocol.specs.declared.operations.Change.{Change}
 use Rattle.change_protocol.specs.Applied.{IsChangedAt, applied}
 use Rattle.change_protocol.specs.Malformed.{change_faults, op_faults}
@@ -105,7 +105,7 @@ pub valid-of_legal : (rules : Rules) (history : List Event) → IsLegal rules hi
 valid-of_legal rules history legal =
     let sound = sound-of_legal rules history legal in
     subst (λ (n : ℕ). IsValid (placed_of history) n (pending_at (plan_of rules (placed_of history)) (next_of history))) (zero-add (next_of history))
-    (valid-along (plan_of rules (placed_of history)) (next_of history) sound.well_placed (λ slot held. let none = contains_slot-none slot in absurd (cc))
+    (valid-along (plan_of rules (placed_of history)) (next_of history) sound.well_placed (λ slot held. let none = has_bit-none slot in absurd (cc))
     (λ m slot below known. sound.in_time m slot known))
 
 pub felt-of_legal : (rules : Rules) (history : List Event) (event : Event) → IsLegal rules history → IsRight rules history event

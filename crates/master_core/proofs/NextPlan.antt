@@ -2,14 +2,15 @@
 use Rattle.std.proofs.Common.{◌≡◌, ℕ, ◌+◌, ◌^◌, ◌<◌, ◌≤◌, ◌&&◌, Bool, true, not, Option, Some, None, IsSome, All, refl, sym, ap, ◌∙◌, subst, arith}
 use Rattle.std.proofs.lemmas.Bool.{lt-ltb}
 use Rattle.std.proofs.lemmas.List.Elements.{All-filter}
-use Rattle.requirement_table.specs.Slots.{contains_slot, set_of, most_slots}
+use Rattle.bit_sets.specs.Sets.{has_bit, set_of, most_slots}
 use Rattle.requirement_table.specs.Table.{IsWellPlaced, instance_in, is_over, not_over, width_in, worst_in}
 use Rattle.requirement_table.specs.Instance.{Instance, worst_of}
-use Rattle.requirement_table.proofs.Shared.{contains_slot-set_of, instance_in-not_over, not_over-well_placed, releases_in-not_over, set_of-same, sum_where-same}
+use Rattle.requirement_table.proofs.Shared.{instance_in-not_over, not_over-well_placed, releases_in-not_over}
+use Rattle.bit_sets.proofs.Shared.{has_bit-set_of, set_of-same, sum_where-same, sum_where-costs}
 use Rattle.std.specs.Option.{option_map_or}
 use Rattle.planner_policies.specs.declared.state.PlanState.{PlanState}
 use Rattle.planner_policies.specs.Plan.{HasNoMissIn, IsValid, Ranking, left_after, mask_at, pending_at, pending_before, planned_in, planning_of}
-use Rattle.planner_policies.proofs.Shared.{AreAlike, alike-from_same, before-first, before-next, left-alike, missed-alike, planned-alike, planned-fits, planned-sendable, sum_where-costs}
+use Rattle.planner_policies.proofs.Shared.{AreAlike, alike-from_same, before-first, before-next, left-alike, missed-alike, planned-alike, planned-fits, planned-sendable}
 use Rattle.admission.specs.Verdict.{ranking_by}
 use Rattle.master_core.specs.Cores.{CoreView, IsCore, IsCoreOrder, IsCoreUpcoming, IsRanked, onward}
 use Rattle.master_core.proofs.KnownSlots.{HasSlot, instance-slot, set-below}
@@ -33,7 +34,7 @@ module _ (core : CoreView) (since : ℕ) (ranked : Ranking) (is : IsCore core) (
       (λ slot known. instance_in-not_over since core.placed slot (core.cycle + 0) later)
       (λ slot known. releases_in-not_over since core.placed slot (core.cycle + 0) is.safe.safe.well_placed later)
 
-  agree : (slot : ℕ) → slot < most_slots → contains_slot core.pending slot ≡ pending_before (onward core) 0 slot
+  agree : (slot : ℕ) → slot < most_slots → has_bit core.pending slot ≡ pending_before (onward core) 0 slot
   agree slot known = sym (before-first (onward core) slot)
 
   pub ranked-valid : IsValid ranked.placed core.cycle core.pending
@@ -47,59 +48,59 @@ module _ (core : CoreView) (since : ℕ) (ranked : Ranking) (is : IsCore core) (
         before = of_list.before;
       })
 
-  pub ranked-in_time : HasNoMissIn (planning_of ranked core.rules.window core.cycle core.pending) core.cycle (contains_slot core.pending)
+  pub ranked-in_time : HasNoMissIn (planning_of ranked core.rules.window core.cycle core.pending) core.cycle (has_bit core.pending)
   ranked-in_time =
-      subst (λ (r : Ranking). HasNoMissIn (planning_of r core.rules.window core.cycle core.pending) core.cycle (contains_slot core.pending)) (sym ranks.left)
+      subst (λ (r : Ranking). HasNoMissIn (planning_of r core.rules.window core.cycle core.pending) core.cycle (has_bit core.pending)) (sym ranks.left)
       (λ slot known.
       missed-alike (onward core) (not_over since core.placed) core.cycle core.pending (core.cycle + 0) core.cycle (pending_before (onward core) 0)
-      (contains_slot core.pending) alike agree slot known
+      (has_bit core.pending) alike agree slot known
       ∙ is.safe.safe.in_time 0 slot known)
 
   planned-here : (slot : ℕ) → slot < most_slots
-      → planned_in (planning_of not_yet_over core.rules.window core.cycle core.pending) core.cycle (contains_slot core.pending) slot
+      → planned_in (planning_of not_yet_over core.rules.window core.cycle core.pending) core.cycle (has_bit core.pending) slot
       ≡ planned_in (onward core) (core.cycle + 0) (pending_before (onward core) 0) slot
   planned-here slot known =
       planned-alike (onward core) (not_over since core.placed) core.cycle core.pending (core.cycle + 0) core.cycle (pending_before (onward core) 0)
-      (contains_slot core.pending) alike agree slot known
+      (has_bit core.pending) alike agree slot known
 
   -- what is planned is the plan of all entries
-  pub ranked-mask : set_of most_slots (planned_in (planning_of ranked core.rules.window core.cycle core.pending) core.cycle (contains_slot core.pending))
+  pub ranked-mask : set_of most_slots (planned_in (planning_of ranked core.rules.window core.cycle core.pending) core.cycle (has_bit core.pending))
       ≡ mask_at (onward core) 0
   ranked-mask =
       subst
-      (λ (r : Ranking). set_of most_slots (planned_in (planning_of r core.rules.window core.cycle core.pending) core.cycle (contains_slot core.pending)) ≡ mask_at (onward core) 0)
+      (λ (r : Ranking). set_of most_slots (planned_in (planning_of r core.rules.window core.cycle core.pending) core.cycle (has_bit core.pending)) ≡ mask_at (onward core) 0)
       (sym ranks.left)
-      (set_of-same most_slots (planned_in (planning_of not_yet_over core.rules.window core.cycle core.pending) core.cycle (contains_slot core.pending))
+      (set_of-same most_slots (planned_in (planning_of not_yet_over core.rules.window core.cycle core.pending) core.cycle (has_bit core.pending))
       (planned_in (onward core) (core.cycle + 0) (pending_before (onward core) 0)) planned-here)
 
-  pub ranked-left : set_of most_slots (left_after (planning_of ranked core.rules.window core.cycle core.pending) core.cycle (contains_slot core.pending))
+  pub ranked-left : set_of most_slots (left_after (planning_of ranked core.rules.window core.cycle core.pending) core.cycle (has_bit core.pending))
       ≡ pending_at (onward core) 1
   ranked-left =
       subst
-      (λ (r : Ranking). set_of most_slots (left_after (planning_of r core.rules.window core.cycle core.pending) core.cycle (contains_slot core.pending)) ≡ pending_at (onward core) 1)
+      (λ (r : Ranking). set_of most_slots (left_after (planning_of r core.rules.window core.cycle core.pending) core.cycle (has_bit core.pending)) ≡ pending_at (onward core) 1)
       (sym ranks.left)
-      (set_of-same most_slots (left_after (planning_of not_yet_over core.rules.window core.cycle core.pending) core.cycle (contains_slot core.pending))
+      (set_of-same most_slots (left_after (planning_of not_yet_over core.rules.window core.cycle core.pending) core.cycle (has_bit core.pending))
       (pending_before (onward core) 1)
       (λ slot known.
       left-alike (onward core) (not_over since core.placed) core.cycle core.pending (core.cycle + 0) core.cycle (pending_before (onward core) 0)
-      (contains_slot core.pending) alike agree slot known
+      (has_bit core.pending) alike agree slot known
       ∙ sym (before-next (onward core) 0 slot)))
 
   -- the length of the window, with the instances of all entries
-  pub ranked-width : width_in ranked.placed core.cycle (planned_in (planning_of ranked core.rules.window core.cycle core.pending) core.cycle (contains_slot core.pending))
+  pub ranked-width : width_in ranked.placed core.cycle (planned_in (planning_of ranked core.rules.window core.cycle core.pending) core.cycle (has_bit core.pending))
       ≡ width_in core.placed core.cycle
-      (contains_slot (set_of most_slots (planned_in (planning_of ranked core.rules.window core.cycle core.pending) core.cycle (contains_slot core.pending))))
+      (has_bit (set_of most_slots (planned_in (planning_of ranked core.rules.window core.cycle core.pending) core.cycle (has_bit core.pending))))
   ranked-width =
       subst
-      (λ (r : Ranking). width_in r.placed core.cycle (planned_in (planning_of r core.rules.window core.cycle core.pending) core.cycle (contains_slot core.pending))
+      (λ (r : Ranking). width_in r.placed core.cycle (planned_in (planning_of r core.rules.window core.cycle core.pending) core.cycle (has_bit core.pending))
       ≡ width_in core.placed core.cycle
-      (contains_slot (set_of most_slots (planned_in (planning_of r core.rules.window core.cycle core.pending) core.cycle (contains_slot core.pending)))))
+      (has_bit (set_of most_slots (planned_in (planning_of r core.rules.window core.cycle core.pending) core.cycle (has_bit core.pending)))))
       (sym ranks.left)
-      (let planned : ℕ → Bool = planned_in (planning_of not_yet_over core.rules.window core.cycle core.pending) core.cycle (contains_slot core.pending) in
+      (let planned : ℕ → Bool = planned_in (planning_of not_yet_over core.rules.window core.cycle core.pending) core.cycle (has_bit core.pending) in
       sum_where-costs most_slots planned (worst_in (not_over since core.placed) core.cycle) (worst_in core.placed core.cycle)
-      (λ slot known. ap (λ (o : Option Instance). option_map_or worst_of o 0) (instance_in-not_over since core.placed slot core.cycle ranks.passed))
-      ∙ sum_where-same most_slots planned (contains_slot (set_of most_slots planned)) (worst_in core.placed core.cycle)
-      (λ slot known. sym (contains_slot-set_of most_slots planned slot ∙ ap (λ (b : Bool). b && planned slot) (lt-ltb slot most_slots known))))
+      (λ slot known _. ap (λ (o : Option Instance). option_map_or worst_of o 0) (instance_in-not_over since core.placed slot core.cycle ranks.passed))
+      ∙ sum_where-same most_slots planned (has_bit (set_of most_slots planned)) (worst_in core.placed core.cycle)
+      (λ slot known. sym (has_bit-set_of most_slots planned slot ∙ ap (λ (b : Bool). b && planned slot) (lt-ltb slot most_slots known))))
 
   same-instance : (slot : ℕ) → instance_in ranked.placed slot core.cycle ≡ instance_in core.placed slot core.cycle
   same-instance slot =
@@ -114,38 +115,38 @@ module _ (core : CoreView) (since : ℕ) (ranked : Ranking) (is : IsCore core) (
       subst (λ (r : Ranking). All (HasSlot core.rules.slots) r.placed) (sym ranks.left)
       (All-filter (λ p. not (is_over since p)) (HasSlot core.rules.slots) core.placed is.slots)
 
-  planned-some : (slot : ℕ) → planned_in (planning_of ranked core.rules.window core.cycle core.pending) core.cycle (contains_slot core.pending) slot ≡ true
+  planned-some : (slot : ℕ) → planned_in (planning_of ranked core.rules.window core.cycle core.pending) core.cycle (has_bit core.pending) slot ≡ true
       → IsSome (instance_in ranked.placed slot core.cycle)
   planned-some slot planned =
       planned-sendable (planning_of ranked core.rules.window core.cycle core.pending) core.cycle core.pending slot ranked-well_placed ranked-valid planned
 
   -- what is planned has slots of the rules
-  planned-below : set_of most_slots (planned_in (planning_of ranked core.rules.window core.cycle core.pending) core.cycle (contains_slot core.pending)) < 2 ^ core.rules.slots
+  planned-below : set_of most_slots (planned_in (planning_of ranked core.rules.window core.cycle core.pending) core.cycle (has_bit core.pending)) < 2 ^ core.rules.slots
   planned-below =
-      set-below core.rules.slots (planned_in (planning_of ranked core.rules.window core.cycle core.pending) core.cycle (contains_slot core.pending)) is.safe.in_range.few_slots
+      set-below core.rules.slots (planned_in (planning_of ranked core.rules.window core.cycle core.pending) core.cycle (has_bit core.pending)) is.safe.in_range.few_slots
       (λ slot known planned. instance-slot core.rules.slots slot core.cycle ranked.placed ranked-slots (planned-some slot planned))
 
   flagged-planned : (mask slot : ℕ)
-      → mask ≡ set_of most_slots (planned_in (planning_of ranked core.rules.window core.cycle core.pending) core.cycle (contains_slot core.pending)) → slot < most_slots
-      → contains_slot mask slot ≡ true → planned_in (planning_of ranked core.rules.window core.cycle core.pending) core.cycle (contains_slot core.pending) slot ≡ true
+      → mask ≡ set_of most_slots (planned_in (planning_of ranked core.rules.window core.cycle core.pending) core.cycle (has_bit core.pending)) → slot < most_slots
+      → has_bit mask slot ≡ true → planned_in (planning_of ranked core.rules.window core.cycle core.pending) core.cycle (has_bit core.pending) slot ≡ true
   flagged-planned mask slot by known flagged =
-      let planned : ℕ → Bool = planned_in (planning_of ranked core.rules.window core.cycle core.pending) core.cycle (contains_slot core.pending) in
-      sym (ap (λ (q : ℕ). contains_slot q slot) by ∙ contains_slot-set_of most_slots planned slot ∙ ap (λ (b : Bool). b && planned slot) (lt-ltb slot most_slots known))
+      let planned : ℕ → Bool = planned_in (planning_of ranked core.rules.window core.cycle core.pending) core.cycle (has_bit core.pending) in
+      sym (ap (λ (q : ℕ). has_bit q slot) by ∙ has_bit-set_of most_slots planned slot ∙ ap (λ (b : Bool). b && planned slot) (lt-ltb slot most_slots known))
       ∙ flagged
 
   -- the order of the next cycle
   pub order-is : (mask width : ℕ)
-      → mask ≡ set_of most_slots (planned_in (planning_of ranked core.rules.window core.cycle core.pending) core.cycle (contains_slot core.pending))
-      → width ≡ width_in ranked.placed core.cycle (planned_in (planning_of ranked core.rules.window core.cycle core.pending) core.cycle (contains_slot core.pending))
+      → mask ≡ set_of most_slots (planned_in (planning_of ranked core.rules.window core.cycle core.pending) core.cycle (has_bit core.pending))
+      → width ≡ width_in ranked.placed core.cycle (planned_in (planning_of ranked core.rules.window core.cycle core.pending) core.cycle (has_bit core.pending))
       → IsCoreOrder core (record { cycle = core.cycle; mask = mask; l = width; learned = core.learned })
   order-is mask width by wide = record {
     cycle = refl;
     mask = by ∙ ranked-mask;
-    window = wide ∙ ranked-width ∙ ap (λ (q : ℕ). width_in core.placed core.cycle (contains_slot q)) (sym by);
+    window = wide ∙ ranked-width ∙ ap (λ (q : ℕ). width_in core.placed core.cycle (has_bit q)) (sym by);
     learned = refl;
     fits =
         subst (λ (w : ℕ). w ≤ core.rules.window) (sym wide)
-        (planned-fits (planning_of ranked core.rules.window core.cycle core.pending) core.cycle (contains_slot core.pending));
+        (planned-fits (planning_of ranked core.rules.window core.cycle core.pending) core.cycle (has_bit core.pending));
     slots = subst (λ (q : ℕ). q < 2 ^ core.rules.slots) (sym by) planned-below;
     present = λ slot known flagged.
         let some = planned-some slot (flagged-planned mask slot by known flagged) in
@@ -154,9 +155,9 @@ module _ (core : CoreView) (since : ℕ) (ranked : Ranking) (is : IsCore core) (
   }
 
   pub upcoming-is : (mask width : ℕ) (next : PlanState)
-      → mask ≡ set_of most_slots (planned_in (planning_of ranked core.rules.window core.cycle core.pending) core.cycle (contains_slot core.pending))
-      → width ≡ width_in ranked.placed core.cycle (planned_in (planning_of ranked core.rules.window core.cycle core.pending) core.cycle (contains_slot core.pending))
+      → mask ≡ set_of most_slots (planned_in (planning_of ranked core.rules.window core.cycle core.pending) core.cycle (has_bit core.pending))
+      → width ≡ width_in ranked.placed core.cycle (planned_in (planning_of ranked core.rules.window core.cycle core.pending) core.cycle (has_bit core.pending))
       → next.cycle ≡ core.cycle + 1
-      → next.pending ≡ set_of most_slots (left_after (planning_of ranked core.rules.window core.cycle core.pending) core.cycle (contains_slot core.pending))
+      → next.pending ≡ set_of most_slots (left_after (planning_of ranked core.rules.window core.cycle core.pending) core.cycle (has_bit core.pending))
       → IsCoreUpcoming core (record { mask = mask; l = width; next = next })
   upcoming-is mask width next by wide later left = record { order = order-is mask width by wide; next = later; pending = left ∙ ranked-left }

@@ -4,9 +4,10 @@ use Rattle.std.proofs.lemmas.List.Elements.{All-cons, All-head, All-tail}
 use Rattle.std.proofs.lemmas.Option.{same_Some}
 use Rattle.requirement_table.specs.declared.entries.Placed.{Placed}
 use Rattle.requirement_table.specs.Instance.{Instance, release_of}
-use Rattle.requirement_table.specs.Slots.{most_slots}
+use Rattle.bit_sets.specs.Sets.{most_slots}
 use Rattle.requirement_table.specs.Table.{IsWellPlaced, instance_in, not_over, releases_in}
-use Rattle.requirement_table.proofs.Shared.{instance_in-not_over, releases_in-not_over, set_of-same}
+use Rattle.requirement_table.proofs.Shared.{instance_in-not_over, releases_in-not_over}
+use Rattle.bit_sets.proofs.Shared.{set_of-same}
 use Rattle.change_protocol.specs.declared.operations.Change.{Change}
 use Rattle.change_protocol.specs.Applied.{IsChangedAt, applied, without_end}
 use Rattle.change_protocol.specs.Malformed.{IsWellFormed, change_faults, op_faults}

@@ -2,9 +2,9 @@
 use Rattle.std.proofs.Common.{◌≡◌, ℕ, ◌+◌, ◌-◌, ◌*◌, ◌/◌, ◌%◌, ◌<◌, ◌≤◌, max, not, ◌&&◌, ◌||◌, Bool, false, cond, List, [], ◌∷◌, ◌++◌, All, refl, sym, ap, ◌∙◌, subst, zero-add, add-zero, arith}
 use Rattle.std.proofs.Math.Nat.{add-mul-mod_self_right, div-add-mod', le_trans}
 use Rattle.requirement_table.specs.declared.entries.Placed.{Placed}
-use Rattle.requirement_table.specs.Slots.{most_slots}
+use Rattle.bit_sets.specs.Sets.{most_slots}
 use Rattle.requirement_table.specs.Table.{IsWellPlaced}
-use Rattle.requirement_table.proofs.Shared.{contains_slot-none, set_of-same}
+use Rattle.bit_sets.proofs.Shared.{has_bit-none, set_of-same}
 use Rattle.change_protocol.specs.declared.operations.Change.{Change}
 use Rattle.change_protocol.specs.Applied.{IsChangedAt, applied}
 use Rattle.change_protocol.proofs.Shared.{changed-applied}
@@ -142,7 +142,7 @@ nothing-left : (before flagged : Bool) → before ≡ false → ((before || fals
 nothing-left before flagged none = rw none refl
 
 none-before : (rules : Rules) (slot : ℕ) → pending_before (plan_of rules []) 0 slot ≡ false
-none-before rules slot = before-first (plan_of rules []) slot ∙ contains_slot-none slot
+none-before rules slot = before-first (plan_of rules []) slot ∙ has_bit-none slot
 
 none-behind : (rules : Rules) (slot : ℕ) → pending_before (plan_of rules []) 1 slot ≡ false
 none-behind rules slot =

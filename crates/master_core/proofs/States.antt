@@ -3,9 +3,9 @@ use Rattle.std.proofs.Common.{◌≡◌, ℕ, ◌+◌, ◌≤◌, Bool, true, fa
 use Rattle.requirement_table.specs.declared.entries.Order.{Order}
 use Rattle.requirement_table.specs.declared.entries.Placed.{Placed}
 use Rattle.requirement_table.specs.Instance.{Instance, worst_of}
-use Rattle.requirement_table.specs.Slots.{contains_slot, most_slots}
+use Rattle.bit_sets.specs.Sets.{has_bit, most_slots}
 use Rattle.requirement_table.specs.Table.{IsWellPlaced, instance_in, not_over, width_in, worst_in}
-use Rattle.requirement_table.proofs.Shared.{set_of-contains_slot, set_of-same}
+use Rattle.bit_sets.proofs.Shared.{set_of-has_bit, set_of-same, sum_where-costs}
 use Rattle.std.specs.Option.{option_map_or}
 use Rattle.change_protocol.specs.declared.operations.Change.{Change}
 use Rattle.change_protocol.specs.Applied.{applied}
@@ -13,7 +13,7 @@ use Rattle.change_protocol.specs.Operations.{HasTypes}
 use Rattle.change_protocol.specs.Pruned.{pruned}
 use Rattle.change_protocol.proofs.Shared.{not_over-pruned, pruned-again}
 use Rattle.planner_policies.specs.Plan.{Planning, mask_at, pending_at, pending_before, planned_at}
-use Rattle.planner_policies.proofs.Shared.{before-first, on-planned, sum_where-costs}
+use Rattle.planner_policies.proofs.Shared.{before-first, on-planned}
 use Rattle.admission_rules.specs.declared.Rules.{Rules}
 use Rattle.admission.specs.declared.verdict.Verdict.{Verdict}
 use Rattle.admission.specs.Verdict.{IsVerdict, is_accepted, plan_from, trail_of}
@@ -83,8 +83,8 @@ state-new rules forgets = record {
   held = nothing-held forgets;
   next = refl;
   waiting =
-      set_of-contains_slot most_slots 0 (omega arith)
-      ∙ sym (set_of-same most_slots (pending_before (plan_of rules []) 0) (contains_slot 0) (λ slot known. before-first (plan_of rules []) slot));
+      set_of-has_bit most_slots 0 (omega arith)
+      ∙ sym (set_of-same most_slots (pending_before (plan_of rules []) 0) (has_bit 0) (λ slot known. before-first (plan_of rules []) slot));
   to_learn = refl;
   counted = refl;
 }
@@ -138,7 +138,7 @@ module _ (history : List Event) (core : CoreView) (is : IsCore core) (of : IsSta
   width-is : (slots : ℕ → Bool) → width_in core.placed core.cycle slots ≡ width_in whole core.cycle slots
   width-is slots =
       sum_where-costs most_slots slots (worst_in core.placed core.cycle) (worst_in whole core.cycle)
-      (λ slot known. ap (λ (o : Option Instance). option_map_or worst_of o 0) (instance-is slot))
+      (λ slot known _. ap (λ (o : Option Instance). option_map_or worst_of o 0) (instance-is slot))
 
   -- the order of the core is that of the history, but for what the nodes are to learn
   pub state-order : (order : Order) → IsCoreOrder core order → IsOrder rules history (record order { learned = learned_of history })
@@ -146,7 +146,7 @@ module _ (history : List Event) (core : CoreView) (is : IsCore core) (of : IsSta
     cycle = by.cycle ∙ of.next;
     mask = by.mask ∙ sym mask-is ∙ ap (mask_at (plan_of rules whole)) of.next;
     window =
-        by.window ∙ width-is (contains_slot order.mask) ∙ ap (λ (n : ℕ). width_in whole n (contains_slot order.mask)) of.next;
+        by.window ∙ width-is (has_bit order.mask) ∙ ap (λ (n : ℕ). width_in whole n (has_bit order.mask)) of.next;
     learned = refl;
     fits = by.fits;
     slots = by.slots;
@@ -172,8 +172,8 @@ module _ (history : List Event) (core : CoreView) (is : IsCore core) (of : IsSta
       mask = by.order.mask ∙ ap (mask_at (plan_of rules whole)) (sym of.next) ∙ mask-is;
       window =
           by.order.window
-          ∙ ap (λ (n : ℕ). width_in whole n (contains_slot upcoming.mask)) (sym of.next)
-          ∙ sym (width-is (contains_slot upcoming.mask));
+          ∙ ap (λ (n : ℕ). width_in whole n (has_bit upcoming.mask)) (sym of.next)
+          ∙ sym (width-is (has_bit upcoming.mask));
       learned = refl;
       fits = by.order.fits;
       slots = by.order.slots;

@@ -3,9 +3,9 @@ use Rattle.std.proofs.Common.{◌≡◌, ℕ, zero, suc, ◌+◌, ◌<◌, ◌�
 use Rattle.std.specs.Option.{option_map_or}
 use Rattle.requirement_table.specs.declared.entries.Placed.{Placed}
 use Rattle.requirement_table.specs.Instance.{Instance}
-use Rattle.requirement_table.specs.Slots.{most_slots}
+use Rattle.bit_sets.specs.Sets.{most_slots}
 use Rattle.requirement_table.specs.Table.{instance_in}
-use Rattle.requirement_table.proofs.Shared.{set_of-same}
+use Rattle.bit_sets.proofs.Shared.{set_of-same}
 use Rattle.change_protocol.specs.Applied.{IsChangedAt, without_end}
 use Rattle.change_protocol.proofs.Shared.{same-instances, same-last, same-releases, same-worst}
 use Rattle.planner_policies.specs.declared.Policy.{Policy}

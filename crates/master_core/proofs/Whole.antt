@@ -5,7 +5,7 @@ use Rattle.requirement_table.specs.declared.entries.Placed.{Placed}
 use Rattle.requirement_table.specs.Table.{not_over}
 use Rattle.change_protocol.specs.declared.operations.Change.{Change}
 use Rattle.change_protocol.specs.Applied.{applied}
-use Rattle.requirement_table.proofs.Shared.{contains_slot-none}
+use Rattle.bit_sets.proofs.Shared.{has_bit-none}
 use Rattle.planner_policies.specs.Plan.{IsValid, pending_at}
 use Rattle.planner_policies.proofs.Shared.{valid-along}
 use Rattle.admission.specs.declared.verdict.Verdict.{Verdict}
@@ -58,7 +58,7 @@ module _ (history : List Event) (core : CoreView) (is : IsCore core) (of : IsSta
   valid-at n =
       let sound = sound-of_legal core.rules history of.legal in
       subst (λ (m : ℕ). IsValid (placed_of history) m (pending_at (plan_of core.rules (placed_of history)) n)) (zero-add n)
-      (valid-along (plan_of core.rules (placed_of history)) n sound.well_placed (λ slot held. let none = contains_slot-none slot in absurd (cc))
+      (valid-along (plan_of core.rules (placed_of history)) n sound.well_placed (λ slot held. let none = has_bit-none slot in absurd (cc))
       (λ m slot below known. sound.in_time m slot known))
 
   pub whole-snapshot : record {

@@ -5,7 +5,7 @@ use Rattle.std.specs.Prelude.{if◌then◌else◌}
 use Rattle.requirement_table.specs.declared.entries.Order.{Order}
 use Rattle.requirement_table.specs.declared.entries.Placed.{Placed}
 use Rattle.requirement_table.specs.Instance.{Instance}
-use Rattle.requirement_table.specs.Slots.{contains_slot, most_slots}
+use Rattle.bit_sets.specs.Sets.{has_bit, most_slots}
 use Rattle.requirement_table.specs.Table.{instance_in, not_over, width_in}
 use Rattle.change_protocol.specs.declared.operations.Change.{Change}
 use Rattle.change_protocol.specs.Applied.{applied}
@@ -82,12 +82,12 @@ answered_by core from change verdict =
 pub record IsCoreOrder (core : CoreView) (order : Order) : Type 0 where
   pub cycle : order.cycle ≡ core.cycle
   pub mask : order.mask ≡ mask_at (onward core) 0
-  pub window : order.l ≡ width_in core.placed core.cycle (contains_slot order.mask)
+  pub window : order.l ≡ width_in core.placed core.cycle (has_bit order.mask)
   pub learned : order.learned ≡ core.learned
   -- it can be run
   pub fits : order.l ≤ core.rules.window
   pub slots : order.mask < 2 ^ core.rules.slots
-  pub present : (slot : ℕ) → slot < most_slots → contains_slot order.mask slot ≡ true
+  pub present : (slot : ℕ) → slot < most_slots → has_bit order.mask slot ≡ true
       → (i : Instance) × (instance_in core.placed slot core.cycle ≡ Some i)
 
 -- what is upcoming

@@ -9,19 +9,19 @@ use Rattle.profile.specs.Limits.{first_identifier}
 use Rattle.can_frame.specs.declared.data_frame.TimedFrame.{TimedFrame}
 use Rattle.cycle_layout.specs.Layout.{CycleLayout, sync_start}
 use Rattle.requirement_table.specs.declared.entries.Placed.{Placed}
-use Rattle.requirement_table.specs.Slots.{contains_slot, most_slots}
+use Rattle.bit_sets.specs.Sets.{has_bit, most_slots}
 use Rattle.requirement_table.specs.Instance.{Instance}
 use Rattle.requirement_table.specs.Table.{IsWellPlaced, instance_in}
 use Rattle.async_window.specs.declared.request.Owner.{Owner}
 use Rattle.async_window.specs.declared.request.Request.{Request}
 use Rattle.async_window.specs.Mailbox.{IsLeastWith, IsMail, Mail, Offers, mail_offer, without_first}
-use Rattle.slot_sets.specs.Least.{least_where}
+use Rattle.bit_sets.specs.Least.{least_where}
 use Rattle.node_model.specs.Node.{NodeState, Opened, after_hearing, entries_of, identifiers_of, is_due, learnt, node_offer, offer_in}
 use Rattle.async_window.specs.Owners.{AreOwners}
 use Rattle.node_model.specs.Own.{AreApart, Stands}
 use Rattle.node_model.proofs.OtherFrames.{after_hearing-keeps}
 use Rattle.node_model.proofs.OwnEntries.{Contains-from_filter, Contains-from_map, passes-from_filter, instance-of_all}
-use Rattle.slot_sets.proofs.Shared.{IsLeastBelow, least_where-least}
+use Rattle.bit_sets.proofs.Shared.{IsLeastBelow, least_where-least}
 use Rattle.node_model.proofs.OwnPart.{identifiers-after, value-of}
 
 -- each identifier has one owner
@@ -147,8 +147,8 @@ slot-part : (entries : List Placed) (opened : Opened) (c id : ℕ) (found : Opti
     → (slot : ℕ) × (id ≡ first_identifier + slot) × (slot < most_slots) × ((i : Instance) × (instance_in entries slot c ≡ Some i))
 slot-part entries opened c id None same none is = absurd (none-some id is)
 slot-part entries opened c id (Some slot) same least is =
-    let parts = and_parts (contains_slot opened.mask slot) (is_some (instance_in entries slot opened.cycle) && not (contains_slot opened.heard slot)) least.1 in
-    let more = and_parts (is_some (instance_in entries slot opened.cycle)) (not (contains_slot opened.heard slot)) parts.1 in
+    let parts = and_parts (has_bit opened.mask slot) (is_some (instance_in entries slot opened.cycle) && not (has_bit opened.heard slot)) least.1 in
+    let more = and_parts (is_some (instance_in entries slot opened.cycle)) (not (has_bit opened.heard slot)) parts.1 in
     let found = value-of (instance_in entries slot opened.cycle) more.0 in
     (slot, sym (same_Some _ _ is), least.0, (found.0, ap (instance_in entries slot) same ∙ found.1))
 

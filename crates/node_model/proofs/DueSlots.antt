@@ -6,9 +6,9 @@ use Rattle.std.proofs.lemmas.Bool.{and_parts, false≢true, lt-ltb}
 use Rattle.std.proofs.lemmas.Option.{none-some, same_Some}
 use Rattle.requirement_table.specs.declared.entries.Placed.{Placed}
 use Rattle.requirement_table.specs.Instance.{Instance, bytes_of, payload}
-use Rattle.requirement_table.specs.Slots.{contains_slot, set_of, most_slots}
+use Rattle.bit_sets.specs.Sets.{has_bit, set_of, most_slots}
 use Rattle.requirement_table.specs.Table.{instance_in}
-use Rattle.requirement_table.proofs.Shared.{contains_slot-set_of}
+use Rattle.bit_sets.proofs.Shared.{has_bit-set_of}
 use Rattle.node_model.specs.Node.{NodeState, is_due}
 use Rattle.node_model.specs.Kept.{AreReady, AreSendableIn, HaveInstances, KnowsDue, KnowsInstances, opened_of, sends_from}
 use Rattle.node_model.specs.Window.{is_due_slot}
@@ -18,14 +18,14 @@ use Rattle.node_model.proofs.Ready.{known-slot}
 
 -- a set of slots with those of an open cycle
 pub with-due : (node : NodeState) (o : Open) (others result : ℕ) → node.opened ≡ Some (opened_of o) → KnowsDue node.entries o
-    → result ≡ set_of most_slots (λ slot. contains_slot others slot || contains_slot o.due slot)
-    → (slot : ℕ) → slot < most_slots → contains_slot result slot ≡ (contains_slot others slot || is_due_slot node slot)
+    → result ≡ set_of most_slots (λ slot. has_bit others slot || has_bit o.due slot)
+    → (slot : ℕ) → slot < most_slots → has_bit result slot ≡ (has_bit others slot || is_due_slot node slot)
 with-due node o others result open_cycle knows is slot within =
-    ap (λ n. contains_slot n slot) is
-    ∙ contains_slot-set_of most_slots (λ s. contains_slot others s || contains_slot o.due s) slot
-    ∙ ap (λ b. b && (contains_slot others slot || contains_slot o.due slot)) (lt-ltb slot most_slots within)
-    ∙ ap (λ b. contains_slot others slot || b) (knows slot within)
-    ∙ ap (λ opened. contains_slot others slot || option_map_or (λ x. is_due node.entries x slot) opened false) (sym open_cycle)
+    ap (λ n. has_bit n slot) is
+    ∙ has_bit-set_of most_slots (λ s. has_bit others s || has_bit o.due s) slot
+    ∙ ap (λ b. b && (has_bit others slot || has_bit o.due slot)) (lt-ltb slot most_slots within)
+    ∙ ap (λ b. has_bit others slot || b) (knows slot within)
+    ∙ ap (λ opened. has_bit others slot || option_map_or (λ x. is_due node.entries x slot) opened false) (sym open_cycle)
 
 -- the slots that are due in a cycle that was opened, of those that can be sent
 flagged-same : (flagged one other left : Bool) → (flagged ≡ true → one ≡ other) → (flagged && (one && left)) ≡ (flagged && (other && left))
@@ -33,17 +33,17 @@ flagged-same true one other left same = ap (λ b. b && left) (same refl)
 flagged-same false one other left same = refl
 
 module _ (o : Open) (sendable : ℕ)
-    (unheard : (slot : ℕ) → contains_slot o.due slot ≡ (contains_slot o.mask slot && (contains_slot sendable slot && not (contains_slot o.heard slot)))) where
+    (unheard : (slot : ℕ) → has_bit o.due slot ≡ (has_bit o.mask slot && (has_bit sendable slot && not (has_bit o.heard slot)))) where
   pub opened-due : (entries : List Placed)
-      → ((slot : ℕ) → contains_slot o.mask slot ≡ true → contains_slot sendable slot ≡ is_some (instance_in entries slot o.cycle)) → KnowsDue entries o
+      → ((slot : ℕ) → has_bit o.mask slot ≡ true → has_bit sendable slot ≡ is_some (instance_in entries slot o.cycle)) → KnowsDue entries o
   opened-due entries slots slot within =
       unheard slot
-      ∙ flagged-same (contains_slot o.mask slot) (contains_slot sendable slot) (is_some (instance_in entries slot o.cycle)) (not (contains_slot o.heard slot)) (slots slot)
+      ∙ flagged-same (has_bit o.mask slot) (has_bit sendable slot) (is_some (instance_in entries slot o.cycle)) (not (has_bit o.heard slot)) (slots slot)
 
   pub opened-instances : (slots : List Ready) → AreSendableIn o.cycle sendable slots → KnowsInstances slots o
   opened-instances slots known slot has =
-      let flagged = and_parts (contains_slot o.mask slot) (contains_slot sendable slot && not (contains_slot o.heard slot)) (sym (unheard slot) ∙ has) in
-      known slot (and_parts (contains_slot sendable slot) (not (contains_slot o.heard slot)) flagged.1).0
+      let flagged = and_parts (has_bit o.mask slot) (has_bit sendable slot && not (has_bit o.heard slot)) (sym (unheard slot) ∙ has) in
+      known slot (and_parts (has_bit sendable slot) (not (has_bit o.heard slot)) flagged.1).0
 
 -- the frame of a slot that is due is known
 bytes-some : (found : Option Instance) (bytes : List ℕ) → option_map bytes_of found ≡ Some bytes → option_map_or bytes_of found [] ≡ bytes

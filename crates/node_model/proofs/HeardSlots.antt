@@ -7,8 +7,8 @@ use Rattle.std.proofs.lemmas.List.Elements.{All-head, All-tail}
 use Rattle.profile.specs.Limits.{first_identifier}
 use Rattle.can_frame.specs.declared.data_frame.TimedFrame.{TimedFrame}
 use Rattle.requirement_table.specs.declared.entries.Placed.{Placed}
-use Rattle.requirement_table.specs.Slots.{contains_slot, set_of, most_slots}
-use Rattle.requirement_table.proofs.Shared.{contains_slot-set_of, set_of-below, set_of-same, set_of-from_slots}
+use Rattle.bit_sets.specs.Sets.{has_bit, set_of, most_slots}
+use Rattle.bit_sets.proofs.Shared.{has_bit-set_of, set_of-below, set_of-same, set_of-from_slots}
 use Rattle.async_window.specs.Mailbox.{without_first}
 use Rattle.node_model.specs.Node.{NodeState, Opened, after_hearing, counted, is_own_slot, with_heard}
 use Rattle.node_model.specs.Kept.{AreSlotsOf}
@@ -64,7 +64,7 @@ abbrev own_heard : List Placed → List TimedFrame → ℕ → Bool
 own_heard entries frames slot = has_entry entries slot && list_any (λ one. one.frame.identifier == first_identifier + slot) frames
 
 abbrev heard_with : Opened → (ℕ → Bool) → Opened
-heard_with opened p = record opened { heard = set_of most_slots (λ slot. contains_slot opened.heard slot || p slot) }
+heard_with opened p = record opened { heard = set_of most_slots (λ slot. has_bit opened.heard slot || p slot) }
 
 or_false : (b : Bool) → b ≡ (b || false)
 or_false true = refl
@@ -101,8 +101,8 @@ module _ (entries : List Placed) where
       let id = one.frame.identifier in
       let k = id - first_identifier in
       let now = with_heard k opened in
-      let within : (slot : ℕ) → slot < most_slots → (contains_slot now.heard slot || own_heard entries later slot)
-      ≡ (contains_slot opened.heard slot || own_heard entries (one ∷ later) slot) = λ slot below.
+      let within : (slot : ℕ) → slot < most_slots → (has_bit now.heard slot || own_heard entries later slot)
+      ≡ (has_bit opened.heard slot || own_heard entries (one ∷ later) slot) = λ slot below.
       let its : (id == first_identifier + slot) ≡ true → has_entry entries slot ≡ true =
       λ same. sym (own-slot entries slot id (sym (eqb-true _ _ same))) ∙ is in
       let test : (slot == k) ≡ (id == first_identifier + slot) = elim (cases_eq slot k) [
@@ -110,18 +110,18 @@ module _ (entries : List Placed) where
         | inr other ↦ ne_eqb slot k other ∙ sym (ne_eqb id (first_identifier + slot) (λ same. other (omega (arith, same))))
       ] in
       ap (λ b. b || own_heard entries later slot)
-      (contains_slot-set_of most_slots (λ s. (s == k) || contains_slot opened.heard s) slot
-      ∙ ap (λ b. b && ((slot == k) || contains_slot opened.heard slot)) (lt-ltb slot most_slots below)
-      ∙ ap (λ b. b || contains_slot opened.heard slot) test)
-      ∙ marks-own (id == first_identifier + slot) (contains_slot opened.heard slot) (has_entry entries slot)
+      (has_bit-set_of most_slots (λ s. (s == k) || has_bit opened.heard s) slot
+      ∙ ap (λ b. b && ((slot == k) || has_bit opened.heard slot)) (lt-ltb slot most_slots below)
+      ∙ ap (λ b. b || has_bit opened.heard slot) test)
+      ∙ marks-own (id == first_identifier + slot) (has_bit opened.heard slot) (has_entry entries slot)
       (list_any (λ one. one.frame.identifier == first_identifier + slot) later) its in
-      rest now (set_of-below most_slots (λ s. (s == k) || contains_slot opened.heard s))
+      rest now (set_of-below most_slots (λ s. (s == k) || has_bit opened.heard s))
       ∙ ap (λ n. Some (record opened { heard = n })) (set_of-same most_slots _ _ within)
   mark-step false one later opened is of_slot small rest =
       let id = one.frame.identifier in
-      let within : (slot : ℕ) → slot < most_slots → (contains_slot opened.heard slot || own_heard entries later slot)
-      ≡ (contains_slot opened.heard slot || own_heard entries (one ∷ later) slot) = λ slot below.
-      marks-none (id == first_identifier + slot) (contains_slot opened.heard slot) (has_entry entries slot)
+      let within : (slot : ℕ) → slot < most_slots → (has_bit opened.heard slot || own_heard entries later slot)
+      ≡ (has_bit opened.heard slot || own_heard entries (one ∷ later) slot) = λ slot below.
+      marks-none (id == first_identifier + slot) (has_bit opened.heard slot) (has_entry entries slot)
       (list_any (λ one. one.frame.identifier == first_identifier + slot) later)
       (λ same. sym (own-slot entries slot id (sym (eqb-true _ _ same))) ∙ is) in
       rest opened small ∙ ap (λ n. Some (record opened { heard = n })) (set_of-same most_slots _ _ within)
@@ -130,8 +130,8 @@ module _ (entries : List Placed) where
       → fold (marked entries) (Some opened) frames ≡ Some (heard_with opened (own_heard entries frames))
   mark-all [] of_slots opened small =
       ap (λ n. Some (record opened { heard = n }))
-      (set_of-from_slots most_slots opened.heard (λ slot. contains_slot opened.heard slot || own_heard entries [] slot) small
-      (λ slot _. and_none (contains_slot opened.heard slot) (has_entry entries slot)))
+      (set_of-from_slots most_slots opened.heard (λ slot. has_bit opened.heard slot || own_heard entries [] slot) small
+      (λ slot _. and_none (has_bit opened.heard slot) (has_entry entries slot)))
   mark-all (one ∷ later) of_slots opened small =
       mark-step (is_own_slot entries one.frame.identifier) one later opened refl (All-head IsOfSlot one later of_slots) small
       (mark-all later (All-tail IsOfSlot one later of_slots))
@@ -143,13 +143,13 @@ module _ (entries : List Placed) where
 
   -- the open cycle behind frames of which these are the slots
   pub mark-sent : (own sent mine : ℕ) (frames : List TimedFrame) (opened : Option Opened) → AreSlotsOf entries own → AreOfSlots sent frames
-      → ((slot : ℕ) → contains_slot mine slot ≡ (contains_slot own slot && contains_slot sent slot))
+      → ((slot : ℕ) → has_bit mine slot ≡ (has_bit own slot && has_bit sent slot))
       → IfSome opened (λ o. o.heard < 2 ^ most_slots) → option_map (with_all_heard mine) opened ≡ fold (marked entries) opened frames
   mark-sent own sent mine frames None are of_slots common small = sym (mark-nothing frames)
   mark-sent own sent mine frames (Some opened) are of_slots common small =
       ap (λ n. Some (record opened { heard = n })) (set_of-same most_slots _ _ (λ slot _.
-      ap (λ b. contains_slot opened.heard slot || b)
-      (common slot ∙ ap (λ b. b && contains_slot sent slot) (are slot) ∙ ap (λ b. has_entry entries slot && b) (of_slots.each slot))))
+      ap (λ b. has_bit opened.heard slot || b)
+      (common slot ∙ ap (λ b. b && has_bit sent slot) (are slot) ∙ ap (λ b. has_entry entries slot && b) (of_slots.each slot))))
       ∙ sym (mark-all frames of_slots.all opened small)
 
 -- what the node knows once it has heard frames of slots

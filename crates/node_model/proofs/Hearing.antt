@@ -11,9 +11,9 @@ use Rattle.profile.specs.Limits.{first_identifier}
 use Rattle.can_frame.specs.declared.data_frame.TimedFrame.{TimedFrame}
 use Rattle.cycle_layout.specs.Layout.{CycleLayout, IsLayout}
 use Rattle.requirement_table.specs.declared.entries.Placed.{Placed}
-use Rattle.requirement_table.specs.Slots.{contains_slot, set_of, most_slots}
+use Rattle.bit_sets.specs.Sets.{has_bit, set_of, most_slots}
 use Rattle.requirement_table.specs.Table.{IsInRange, IsWellPlaced}
-use Rattle.requirement_table.proofs.Shared.{contains_slot-set_of, contains_slot-none}
+use Rattle.bit_sets.proofs.Shared.{has_bit-set_of, has_bit-none}
 use Rattle.trigger_codec.specs.Heard.{Noted}
 use Rattle.trigger_codec.specs.Bytes.{triggers_with}
 use Rattle.async_window.specs.declared.request.Owner.{Owner}
@@ -62,7 +62,7 @@ kept true begun was e = absurd (cc)
 module _ (layout : CycleLayout) (owners : List Owner) (requests : List Request) (opening : Opening) where
   abbrev stands_marked : ℕ → List TimedFrame → ℕ → Type 0
   stands_marked number past heard = (slot : ℕ) → slot < most_slots → list_any (λ p. p.entry.slot == slot) (entries_of number opening.placed) ≡ true
-      → contains_slot heard slot ≡ was_sent layout opening past slot
+      → has_bit heard slot ≡ was_sent layout opening past slot
 
   abbrev in_cycle : ℕ → Noted → List TimedFrame → ℕ → ℕ → NodeState
   in_cycle number noted past heard frames =
@@ -145,7 +145,7 @@ module _ (layout : CycleLayout) (owners : List Owner) (requests : List Request) 
             (any.1.entry.slot, range.entry.slot, eqb-true _ _ any.4)
 
         abbrev more : ℕ
-        more = set_of most_slots (λ s. (s == (id - first_identifier)) || contains_slot heard s)
+        more = set_of most_slots (λ s. (s == (id - first_identifier)) || has_bit heard s)
 
         hears_slot : after_hearing open_node sent ≡ in_cycle number noted (past ++ sent ∷ []) more (counted frames)
         hears_slot =
@@ -166,9 +166,9 @@ module _ (layout : CycleLayout) (owners : List Owner) (requests : List Request) 
 
         marks_slot : stands_marked number (past ++ sent ∷ []) more
         marks_slot slot within its =
-            contains_slot-set_of most_slots (λ s. (s == (id - first_identifier)) || contains_slot heard s) slot
-            ∙ ap (λ b. b && (eqb slot (id - first_identifier) || contains_slot heard slot)) (lt-ltb slot most_slots within)
-            ∙ ap (λ b. b || contains_slot heard slot) (same_test slot)
+            has_bit-set_of most_slots (λ s. (s == (id - first_identifier)) || has_bit heard s) slot
+            ∙ ap (λ b. b && (eqb slot (id - first_identifier) || has_bit heard slot)) (lt-ltb slot most_slots within)
+            ∙ ap (λ b. b || has_bit heard slot) (same_test slot)
             ∙ ap (λ b. eqb id (first_identifier + slot) || b) (marked slot within its)
             ∙ turn (eqb id (first_identifier + slot)) (leb (start_of layout opening) sent.start) (was_sent layout opening past slot) (le-leb _ _ begun)
             ∙ sym (was_sent-next past sent slot)
@@ -222,7 +222,7 @@ module _ (layout : CycleLayout) (owners : List Owner) (requests : List Request) 
       cycle = stands.next_cycle;
       width = refl;
       mask = refl;
-      heard = λ slot within own. contains_slot-none slot ∙ sym (none_sent layout owners requests opening past sent slot before triggers);
+      heard = λ slot within own. has_bit-none slot ∙ sym (none_sent layout owners requests opening past sent slot before triggers);
     };
   }
 

@@ -10,18 +10,16 @@ use Rattle.profile.specs.Limits.{first_identifier}
 use Rattle.can_frame.specs.declared.data_frame.TimedFrame.{TimedFrame}
 use Rattle.cycle_layout.specs.Layout.{sync_start}
 use Rattle.requirement_table.specs.declared.entries.Placed.{Placed}
-use Rattle.requirement_table.specs.Slots.{contains_slot, most_slots}
+use Rattle.bit_sets.specs.Sets.{has_bit, most_slots}
 use Rattle.requirement_table.specs.Instance.{bytes_of, instance_of}
 use Rattle.requirement_table.specs.Table.{instance_in, sendable}
-use Rattle.requirement_table.proofs.Shared.{contains_slot-set_of}
-use Rattle.slot_sets.specs.Least.{least_where}
+use Rattle.bit_sets.proofs.Shared.{has_bit-set_of, least_where-same, IsLeastBelow, least_where-least}
+use Rattle.bit_sets.specs.Least.{least_where}
 use Rattle.node_model.specs.Node.{IsNode, NodeState, Opened, after_hearing, is_due, is_own_slot, node_frame, node_offer, offer_in, with_heard}
 use Rattle.node_model.specs.Window.{IsInWindow, due_frame, is_due_slot}
 use Rattle.node_model.proofs.OtherFrames.{other-frame}
 use Rattle.node_model.proofs.HeardSlots.{hear-one, marked}
 use Rattle.node_model.proofs.Known.{own-slot}
-use Rattle.slot_sets.proofs.Shared.{least_where-same}
-use Rattle.slot_sets.proofs.Shared.{IsLeastBelow, least_where-least}
 use Rattle.node_model.proofs.Offers.{offer-late}
 
 -- a time of the window lies in the open cycle
@@ -161,12 +159,12 @@ due-one : (entries : List Placed) (own : Bool) (k slot : ℕ) (opened : Option O
 due-one entries own k slot None within none = due-closed entries k slot own (slot == k)
 due-one entries true k slot (Some o) within none =
     let some = is_some (instance_in entries slot o.cycle) in
-    ap (λ b. contains_slot o.mask slot && (some && not b))
-    (contains_slot-set_of most_slots (λ s. (s == k) || contains_slot o.heard s) slot
-    ∙ ap (λ b. b && ((slot == k) || contains_slot o.heard slot)) (lt-ltb slot most_slots within))
-    ∙ heard_now (contains_slot o.mask slot) some (contains_slot o.heard slot) (slot == k)
+    ap (λ b. has_bit o.mask slot && (some && not b))
+    (has_bit-set_of most_slots (λ s. (s == k) || has_bit o.heard s) slot
+    ∙ ap (λ b. b && ((slot == k) || has_bit o.heard slot)) (lt-ltb slot most_slots within))
+    ∙ heard_now (has_bit o.mask slot) some (has_bit o.heard slot) (slot == k)
 due-one entries false k slot (Some o) within none =
-    never_own (contains_slot o.mask slot) (is_some (instance_in entries slot o.cycle)) (contains_slot o.heard slot) (slot == k)
+    never_own (has_bit o.mask slot) (is_some (instance_in entries slot o.cycle)) (has_bit o.heard slot) (slot == k)
     (λ same. none refl (eqb-true slot k same) o.cycle)
 
 neither : (a b : Bool) → (a || b) ≡ false → (a ≡ false) × (b ≡ false)

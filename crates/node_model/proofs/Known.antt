@@ -8,8 +8,8 @@ use Rattle.std.proofs.lemmas.List.Elements.{All-filter, All-map}
 use Rattle.std.proofs.lemmas.List.Kept.{AllPairs-filter}
 use Rattle.profile.specs.Limits.{first_identifier}
 use Rattle.requirement_table.specs.declared.entries.Placed.{Placed}
-use Rattle.requirement_table.specs.Slots.{contains_slot, most_slots}
-use Rattle.requirement_table.proofs.Shared.{contains_slot-above}
+use Rattle.bit_sets.specs.Sets.{has_bit, most_slots}
+use Rattle.bit_sets.proofs.Shared.{has_bit-above}
 use Rattle.requirement_table.specs.Table.{IsInRange, GoesBefore, IsWellPlaced}
 use Rattle.async_window.specs.declared.request.Owner.{Owner}
 use Rattle.node_model.specs.Node.{entries_of, identifiers_of, is_own_slot}
@@ -55,10 +55,10 @@ own-none (p ∷ rest) id below =
     let one : (first_identifier + p.entry.slot == id) ≡ false = grind (arith, nat_tests) in
     ap (λ b. b || is_own_slot rest id) one ∙ own-none rest id below
 
-is_own_slot-in : (entries : List Placed) (own slot id : ℕ) → AreSlotsOf entries own → first_identifier + slot ≡ id → contains_slot own slot ≡ true → is_own_slot entries id ≡ true
+is_own_slot-in : (entries : List Placed) (own slot id : ℕ) → AreSlotsOf entries own → first_identifier + slot ≡ id → has_bit own slot ≡ true → is_own_slot entries id ≡ true
 is_own_slot-in entries own slot id are is has = own-slot entries slot id is ∙ sym (are slot) ∙ has
 
-is_own_slot-out : (entries : List Placed) (own id : ℕ) → AreSlotsOf entries own → ((slot : ℕ) → first_identifier + slot ≡ id → contains_slot own slot ≡ false) → is_own_slot entries id ≡ false
+is_own_slot-out : (entries : List Placed) (own id : ℕ) → AreSlotsOf entries own → ((slot : ℕ) → first_identifier + slot ≡ id → has_bit own slot ≡ false) → is_own_slot entries id ≡ false
 is_own_slot-out entries own id are none =
     ⊎_elim
     (λ (below : id < first_identifier). own-none entries id below)
@@ -69,17 +69,17 @@ is_own_slot-out entries own id are none =
     (cases_lt id first_identifier)
 
 -- an identifier outside those of slots is not that of a slot in a set
-pub IsAmong-outside : (own id : ℕ) → own < 2 ^ most_slots → (id < first_identifier) ⊎ (first_identifier + most_slots ≤ id) → (slot : ℕ) → first_identifier + slot ≡ id → contains_slot own slot ≡ false
+pub IsAmong-outside : (own id : ℕ) → own < 2 ^ most_slots → (id < first_identifier) ⊎ (first_identifier + most_slots ≤ id) → (slot : ℕ) → first_identifier + slot ≡ id → has_bit own slot ≡ false
 IsAmong-outside own id below outside slot is =
     ⊎_elim
     (λ (low : id < first_identifier). absurd (omega arith))
-    (λ (high : first_identifier + most_slots ≤ id). contains_slot-above own most_slots slot below (omega arith))
+    (λ (high : first_identifier + most_slots ≤ id). has_bit-above own most_slots slot below (omega arith))
     outside
 
 -- the slot that is found for an identifier, and whether it is own
 pub own_slot-is : (entries : List Placed) (own id : ℕ) (found : Option ℕ) → AreSlotsOf entries own
-    → MatchOption found ((slot : ℕ) → first_identifier + slot ≡ id → contains_slot own slot ≡ false)
-    (λ slot. (first_identifier + slot ≡ id) × (slot < most_slots) × (contains_slot own slot ≡ true))
+    → MatchOption found ((slot : ℕ) → first_identifier + slot ≡ id → has_bit own slot ≡ false)
+    (λ slot. (first_identifier + slot ≡ id) × (slot < most_slots) × (has_bit own slot ≡ true))
     → MatchOption found (is_own_slot entries id ≡ false) (λ slot. (is_own_slot entries id ≡ true) × (first_identifier + slot ≡ id) × (slot < most_slots))
 own_slot-is entries own id None are none = is_own_slot-out entries own id are none
 own_slot-is entries own id (Some slot) are some = (is_own_slot-in entries own slot id are some.0 some.2, some.0, some.1)

@@ -9,19 +9,19 @@ use Rattle.profile.specs.Limits.{first_identifier}
 use Rattle.cycle_layout.specs.Layout.{sync_start, trigger_part}
 use Rattle.trigger_kind.specs.Kind.{part_of, triggers_of}
 use Rattle.trigger_kind.proofs.Shared.{part-least}
-use Rattle.requirement_table.specs.Slots.{contains_slot, most_slots}
+use Rattle.bit_sets.specs.Sets.{has_bit, most_slots}
 use Rattle.requirement_table.specs.Instance.{bytes_of}
 use Rattle.requirement_table.specs.Table.{instance_in}
 use Rattle.can_frame.specs.DataFrame.{DataFrame}
 use Rattle.async_window.specs.declared.request.Request.{Request}
 use Rattle.async_window.specs.Mailbox.{IsMail, IsNextInCycle, mail_offer, unsent_of}
 use Rattle.async_window.proofs.Shared.{IsLeastWith-same}
-use Rattle.slot_sets.specs.Least.{least_where}
+use Rattle.bit_sets.specs.Least.{least_where}
 use Rattle.node_model.specs.Node.{IsNextOffer, IsNode, NodeState, Opened, is_due, node_frame, node_offer, offer_in}
 use Rattle.node_model.specs.Kept.{IsOpenAt, KnowsDue, opened_of}
 use Rattle.node_model.specs.Window.{due_bytes, due_frame, is_due_slot}
 use Rattle.node_model.specs.declared.cycle.Open.{Open}
-use Rattle.slot_sets.proofs.Shared.{least_where-same, least_where-sound}
+use Rattle.bit_sets.proofs.Shared.{least_where-same, least_where-of}
 use Rattle.node_model.proofs.Mail.{offered-early, offered-asynchronous, offered-request}
 
 -- the same cycle is open at another time in it
@@ -44,13 +44,13 @@ offer-early false late one other is_same is_late = absurd (false≢true is_same)
 
 -- the identifier of the least slot that is due
 abbrev pub due_identifier : Open → Option ℕ
-due_identifier o = option_map (λ slot. first_identifier + slot) (least_where most_slots (contains_slot o.due))
+due_identifier o = option_map (λ slot. first_identifier + slot) (least_where most_slots (has_bit o.due))
 
 pub node_offer-late : (node : NodeState) (at : ℕ) (o : Open) → IsOpenAt node at o → sync_start node.layout o.cycle o.width ≤ at → node_offer node at ≡ due_identifier o
 node_offer-late node at o is late =
     in_cycle node at o is
     ∙ offer-late (nat_eq (at / node.layout.cycle) o.cycle) (nat_le (sync_start node.layout o.cycle o.width) at) _ _ (eq-eqb _ _ is.cycle) (le-leb _ _ late)
-    ∙ ap (option_map (λ slot. first_identifier + slot)) (sym (least_where-same most_slots (contains_slot o.due) (is_due node.entries (opened_of o)) is.due))
+    ∙ ap (option_map (λ slot. first_identifier + slot)) (sym (least_where-same most_slots (has_bit o.due) (is_due node.entries (opened_of o)) is.due))
 
 pub node_offer-early : (node : NodeState) (at : ℕ) (o : Open) → IsOpenAt node at o → at < sync_start node.layout o.cycle o.width → node_offer node at ≡ mail_offer node.layout o.width node.mail at
 node_offer-early node at o is early =
@@ -120,27 +120,27 @@ module _ (node : NodeState) (at : ℕ) (o : Open) (is : IsOpenAt node at o) (som
 
   -- where the mailboxes don't wake, only the synchronous window is left
   late-only : IsNextInCycle node.layout.cycle at MailOffers None → (later : ℕ) → at < later → later / node.layout.cycle ≡ at / node.layout.cycle → NodeOffers later
-      → (window ≤ later) × (is_some (least_where most_slots (contains_slot o.due)) ≡ true)
+      → (window ≤ later) × (is_some (least_where most_slots (has_bit o.due)) ≡ true)
   late-only none later behind same offers =
       ⊎_elim
       (λ (before : later < window). absurd (none later (behind, same, subst IsSome (offers-early later same before) offers)))
-      (λ (late : window ≤ later). (late, sym (is_some-map (λ slot. first_identifier + slot) (least_where most_slots (contains_slot o.due))) ∙ ap is_some (sym (offers-late later same late)) ∙ offers))
+      (λ (late : window ≤ later). (late, sym (is_some-map (λ slot. first_identifier + slot) (least_where most_slots (has_bit o.due))) ∙ ap is_some (sym (offers-late later same late)) ∙ offers))
       (cases_lt later window)
 
   abbrev first_late : ℕ
   first_late = max (at + 1) window
 
   abbrev has_late : Bool
-  has_late = is_some (least_where most_slots (contains_slot o.due)) && nat_lt first_late ends
+  has_late = is_some (least_where most_slots (has_bit o.due)) && nat_lt first_late ends
 
   wake-late : IsNextInCycle node.layout.cycle at MailOffers None → has_late ≡ true → IsNextInCycle node.layout.cycle at NodeOffers (Some first_late)
   wake-late none has =
-      let parts = and_parts (is_some (least_where most_slots (contains_slot o.due))) (nat_lt first_late ends) has in
+      let parts = and_parts (is_some (least_where most_slots (has_bit o.due))) (nat_lt first_late ends) has in
       let before : first_late < ends = ltb-true first_late ends parts.1 in
       let started = in_cycle-times node.layout.cycle at o.cycle some_time is.cycle in
       let from : o.cycle * node.layout.cycle ≤ first_late = omega (arith, started.0) in
       let same : first_late / node.layout.cycle ≡ at / node.layout.cycle = div-eq_of_lt-le node.layout.cycle from before ∙ sym is.cycle in
-      let offers : IsSome (due_identifier o) = is_some-map (λ slot. first_identifier + slot) (least_where most_slots (contains_slot o.due)) ∙ parts.0 in (
+      let offers : IsSome (due_identifier o) = is_some-map (λ slot. first_identifier + slot) (least_where most_slots (has_bit o.due)) ∙ parts.0 in (
         (omega arith, same, subst IsSome (sym (offers-late first_late same (omega arith))) offers),
         λ later other. let late = late-only none later other.0 other.1 other.2 in omega (arith, late.0, other.0),
       )
@@ -224,7 +224,7 @@ module _ (node : NodeState) (at : ℕ) (o : Open) (known : IsNode node) (opened 
   first_at = max (at + 1) window_at
 
   abbrev has_due : Bool
-  has_due = is_some (least_where most_slots (contains_slot o.due))
+  has_due = is_some (least_where most_slots (has_bit o.due))
 
   abbrev is_there : Bool
   is_there = has_due && nat_lt first_at ((o.cycle + 1) * E)
@@ -238,7 +238,7 @@ module _ (node : NodeState) (at : ℕ) (o : Open) (known : IsNode node) (opened 
       (λ (before : later < window_at).
       absurd (false≢true (subst IsSome (node_offer-early node later o is before ∙ silent later (omega arith)) some)))
       (λ (late : window_at ≤ later).
-      (late, times.1, sym (is_some-map (λ slot. first_identifier + slot) (least_where most_slots (contains_slot o.due))) ∙ ap is_some (sym (node_offer-late node later o is late)) ∙ some))
+      (late, times.1, sym (is_some-map (λ slot. first_identifier + slot) (least_where most_slots (has_bit o.due))) ∙ ap is_some (sym (node_offer-late node later o is late)) ∙ some))
       (cases_lt later window_at)
 
   due-there : is_there ≡ true → IsNextOffer node at (Some first_at)
@@ -248,7 +248,7 @@ module _ (node : NodeState) (at : ℕ) (o : Open) (known : IsNode node) (opened 
       let range = rw opened at known.opened in
       let from : o.cycle * E ≤ first_at = omega (arith, range.0, known.layout.room) in
       let is : IsOpenAt node first_at o = record { opened = opened; cycle = div-eq_of_lt-le E from before; due = due } in
-      let some : IsSome (due_identifier o) = is_some-map (λ slot. first_identifier + slot) (least_where most_slots (contains_slot o.due)) ∙ parts.0 in (
+      let some : IsSome (due_identifier o) = is_some-map (λ slot. first_identifier + slot) (least_where most_slots (has_bit o.due)) ∙ parts.0 in (
         (omega arith, subst IsSome (sym (node_offer-late node first_at o is (omega arith))) some),
         λ later has. let late = some-due later has.1 in omega (arith, late.0, has.0),
       )
@@ -312,7 +312,7 @@ offered-in : (node : NodeState) (at id : ℕ) (o : Opened) → node.opened ≡ S
 offered-in node at id o opened offered =
     ⊎_elim
     (λ (slot : (nat_eq (at / node.layout.cycle) o.cycle ≡ true) × (s : ℕ) × (least_where most_slots (is_due node.entries o) ≡ Some s) × (first_identifier + s ≡ id)).
-    let least = least_where-sound most_slots (is_due node.entries o) slot.1 slot.2 in
+    let least = least_where-of most_slots (is_due node.entries o) (Some slot.1) slot.2 in
     inl (offered_slot-at node at id slot.1 o opened (eqb-true _ _ slot.0) slot.3 least.0 least.1))
     (λ (mail : mail_offer node.layout o.width node.mail at ≡ Some id). inr (o.width, mail))
     (offer-cases (nat_eq (at / node.layout.cycle) o.cycle) (nat_le (sync_start node.layout o.cycle o.width) at)

@@ -11,7 +11,7 @@ use Rattle.can_frame.specs.DataFrame.{DataFrame}
 use Rattle.can_frame.specs.declared.data_frame.TimedFrame.{TimedFrame}
 use Rattle.cycle_layout.specs.Layout.{CycleLayout, IsLayout}
 use Rattle.requirement_table.specs.declared.entries.Placed.{Placed}
-use Rattle.requirement_table.specs.Slots.{contains_slot, most_slots}
+use Rattle.bit_sets.specs.Sets.{has_bit, most_slots}
 use Rattle.requirement_table.specs.Instance.{Instance, bytes_of}
 use Rattle.requirement_table.specs.Table.{IsWellPlaced, instance_in}
 use Rattle.async_window.specs.declared.request.Owner.{Owner}
@@ -22,11 +22,11 @@ use Rattle.requirement_table.specs.Opening.{Opening, width_of}
 use Rattle.trigger_codec.specs.Heard.{Noted}
 use Rattle.node_model.specs.Opening.{start_of, window_start}
 use Rattle.node_model.specs.Offered.{IsUnsent}
-use Rattle.slot_sets.specs.Least.{least_where}
+use Rattle.bit_sets.specs.Least.{least_where}
 use Rattle.node_model.specs.Node.{IsNode, NodeState, entries_of, identifiers_of, is_due, node_bytes, node_frame, node_offer}
 use Rattle.node_model.specs.Own.{OffersLeastOwn, OffersOwn, StandsIn, was_sent}
 use Rattle.node_model.proofs.OwnEntries.{instance-of_all, instance-of_own, sent_from}
-use Rattle.slot_sets.proofs.Shared.{IsLeastBelow, least_where-least}
+use Rattle.bit_sets.proofs.Shared.{IsLeastBelow, least_where-least}
 use Rattle.node_model.proofs.Standing.{standing, opened_for, standing_in-is}
 
 -- some frames, of which one has the least identifier
@@ -128,7 +128,7 @@ same_frame frame id bytes same also =
 module _ (layout : CycleLayout) (owners : List Owner) (requests : List Request) (opening : Opening) (past : List TimedFrame)
     (at number frames heard : ℕ) (noted : Noted) (positive : 0 < layout.cycle) (well : IsWellPlaced opening.placed) (time : at / layout.cycle ≡ opening.cycle)
     (marked : (slot : ℕ) → slot < most_slots → list_any (λ p. p.entry.slot == slot) (entries_of number opening.placed) ≡ true
-    → contains_slot heard slot ≡ was_sent layout opening past slot) where
+    → has_bit heard slot ≡ was_sent layout opening past slot) where
   abbrev node : NodeState
   node = standing layout owners requests opening.placed past (opening.cycle + 1) number (Some (opened_for opening heard)) frames noted
 
@@ -148,8 +148,8 @@ module _ (layout : CycleLayout) (owners : List Owner) (requests : List Request) 
   due-offers : window_start layout opening ≤ at → (slot : ℕ) → slot < most_slots → is_due entries (opened_for opening heard) slot ≡ true
       → Own (node_frame node at (first_identifier + slot))
   due-offers late slot within due =
-      let parts = and_parts (contains_slot opening.mask slot) (is_some (instance_in entries slot opening.cycle) && not (contains_slot heard slot)) due in
-      let more = and_parts (is_some (instance_in entries slot opening.cycle)) (not (contains_slot heard slot)) parts.1 in
+      let parts = and_parts (has_bit opening.mask slot) (is_some (instance_in entries slot opening.cycle) && not (has_bit heard slot)) due in
+      let more = and_parts (is_some (instance_in entries slot opening.cycle)) (not (has_bit heard slot)) parts.1 in
       let found = value-of (instance_in entries slot opening.cycle) more.0 in
       let all = instance-of_all number opening.placed slot opening.cycle found.0 well found.1 in
       let mark = marked slot within (slot-of_instance entries slot opening.cycle found.0 found.1) in
@@ -161,7 +161,7 @@ module _ (layout : CycleLayout) (owners : List Owner) (requests : List Request) 
           within = subst (λ c. at < (c + 1) * layout.cycle) time (within_cycle at layout.cycle positive);
           known = within;
           flagged = parts.0;
-          unsent = unsent-from layout opening past slot (sym mark ∙ not-true (contains_slot heard slot) more.1);
+          unsent = unsent-from layout opening past slot (sym mark ∙ not-true (has_bit heard slot) more.1);
           identifier = refl;
           bytes = ap (option_map bytes_of) all.0
               ∙ ap (λ b. Some b) (sym (bytes_of-slot node at slot found.0 within (ap (instance_in entries slot) time ∙ found.1)));

@@ -5,12 +5,10 @@ use Rattle.std.specs.Option.{option_map_or}
 use Rattle.std.proofs.lemmas.Bool.{cases_eq, false≢true, ne_eqb}
 use Rattle.std.proofs.lemmas.Option.{none-some}
 use Rattle.requirement_table.specs.declared.entries.Placed.{Placed}
-use Rattle.requirement_table.specs.Slots.{contains_slot, most_slots}
+use Rattle.bit_sets.specs.Sets.{has_bit}
 use Rattle.requirement_table.specs.Instance.{Instance, MaySend, bytes_of, payload, release_of}
 use Rattle.requirement_table.specs.Table.{IsInRange, IsWellPlaced, instance_in}
 use Rattle.requirement_table.proofs.Shared.{instance_in-found}
-use Rattle.slot_sets.specs.Least.{least_where}
-use Rattle.slot_sets.proofs.Shared.{IsLeastBelow, least_where-least}
 use Rattle.node_model.specs.declared.entries.Ready.{Ready}
 use Rattle.node_model.specs.Kept.{AreReady, IsReady, IsSendableIn, carried_after, ready_of, released_after}
 
@@ -130,20 +128,13 @@ and-other : (same has : Bool) → same ≡ false → (not same && has) ≡ false
 and-other true has other both = absurd (false≢true (sym other))
 and-other false has other both = both
 
-pub sendable-next : (c set_of left rest slot : ℕ) (old new : List Ready) → ((s : ℕ) → contains_slot rest s ≡ (not (s == slot) && contains_slot left s))
+pub sendable-next : (c set_of left rest slot : ℕ) (old new : List Ready) → ((s : ℕ) → has_bit rest s ≡ (not (s == slot) && has_bit left s))
     → IsSomeAnd (slice_get new slot) (IsSendableIn c) → ((s : ℕ) → s ≢ slot → slice_get new s ≡ slice_get old s)
-    → ((s : ℕ) → contains_slot set_of s ≡ true → contains_slot left s ≡ false → IsSomeAnd (slice_get old s) (IsSendableIn c))
-    → (s : ℕ) → contains_slot set_of s ≡ true → contains_slot rest s ≡ false → IsSomeAnd (slice_get new s) (IsSendableIn c)
+    → ((s : ℕ) → has_bit set_of s ≡ true → has_bit left s ≡ false → IsSomeAnd (slice_get old s) (IsSendableIn c))
+    → (s : ℕ) → has_bit set_of s ≡ true → has_bit rest s ≡ false → IsSomeAnd (slice_get new s) (IsSendableIn c)
 sendable-next c set_of left rest slot old new without now others before s has gone = elim (cases_eq s slot) [
   | inl same ↦ subst (λ j. IsSomeAnd (slice_get new j) (IsSendableIn c)) (sym same) now
   | inr other ↦
       subst (λ o. IsSomeAnd o (IsSendableIn c)) (sym (others s other))
-      (before s has (and-other (s == slot) (contains_slot left s) (ne_eqb s slot other) (sym (without s) ∙ gone)))
+      (before s has (and-other (s == slot) (has_bit left s) (ne_eqb s slot other) (sym (without s) ∙ gone)))
 ]
-
--- the least slot of those that are left, where there is one
-pub least-of : (left slot : ℕ) → least_where most_slots (contains_slot left) ≡ Some slot → IsLeastBelow most_slots (contains_slot left) (Some slot)
-least-of left slot is = subst (IsLeastBelow most_slots (contains_slot left)) is (least_where-least most_slots (contains_slot left))
-
-pub none-left : (left : ℕ) → least_where most_slots (contains_slot left) ≡ None → (slot : ℕ) → slot < most_slots → contains_slot left slot ≡ false
-none-left left none = subst (IsLeastBelow most_slots (contains_slot left)) none (least_where-least most_slots (contains_slot left))

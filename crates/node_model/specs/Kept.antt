@@ -5,7 +5,7 @@ use Rattle.std.specs.Option.{option_map_or}
 use Rattle.std.specs.List.{list_any}
 use Rattle.requirement_table.specs.declared.entries.Placed.{Placed}
 use Rattle.requirement_table.specs.Instance.{bytes_of, payload, release_of}
-use Rattle.requirement_table.specs.Slots.{contains_slot, most_slots}
+use Rattle.bit_sets.specs.Sets.{has_bit, most_slots}
 use Rattle.requirement_table.specs.Table.{instance_in, IsWellPlaced}
 use Rattle.node_model.specs.Node.{IsNode, NodeState, Opened, is_due, node_offer}
 use Rattle.node_model.specs.declared.cycle.Open.{Open}
@@ -20,12 +20,12 @@ opened_of open_cycle =
 
 -- `own` are the slots of these entries
 abbrev pub AreSlotsOf : List Placed → ℕ → Type 0
-AreSlotsOf entries own = (slot : ℕ) → contains_slot own slot ≡ list_any (λ p. p.entry.slot == slot) entries
+AreSlotsOf entries own = (slot : ℕ) → has_bit own slot ≡ list_any (λ p. p.entry.slot == slot) entries
 
 -- the open cycle's `due` are the slots that the node is to send in it
 abbrev pub KnowsDue : List Placed → Open → Type 0
 KnowsDue entries open_cycle =
-    (slot : ℕ) → slot < most_slots → contains_slot open_cycle.due slot ≡ is_due entries (opened_of open_cycle) slot
+    (slot : ℕ) → slot < most_slots → has_bit open_cycle.due slot ≡ is_due entries (opened_of open_cycle) slot
 
 -- the cycle from which on a node may have to send: the open one, or the next one where none is open
 abbrev pub sends_from : Option Opened → ℕ → ℕ
@@ -76,7 +76,7 @@ pub record IsSendableIn (c : ℕ) (ready : Ready) : Type 0 where
 
 -- that of each slot of a set is known, exists, and may be sent in this cycle
 abbrev pub AreSendableIn : ℕ → ℕ → List Ready → Type 0
-AreSendableIn c set slots = (slot : ℕ) → contains_slot set slot ≡ true → IsSomeAnd (slice_get slots slot) (IsSendableIn c)
+AreSendableIn c set slots = (slot : ℕ) → has_bit set slot ≡ true → IsSomeAnd (slice_get slots slot) (IsSendableIn c)
 
 -- of each slot that the node is to send in the open cycle the instance is known
 abbrev pub KnowsInstances : List Ready → Open → Type 0

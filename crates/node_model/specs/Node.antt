@@ -10,10 +10,10 @@ use Rattle.can_frame.specs.declared.data_frame.TimedFrame.{TimedFrame}
 use Rattle.cycle_layout.specs.Layout.{CycleLayout, IsLayout, sync_start}
 use Rattle.trigger_kind.specs.Kind.{opening_identifier, triggers_of}
 use Rattle.requirement_table.specs.declared.entries.Placed.{Placed}
-use Rattle.requirement_table.specs.Slots.{contains_slot, set_of, most_slots}
+use Rattle.bit_sets.specs.Sets.{has_bit, set_of, most_slots}
 use Rattle.requirement_table.specs.Instance.{bytes_of}
 use Rattle.requirement_table.specs.Table.{instance_in, IsWellPlaced}
-use Rattle.slot_sets.specs.Least.{least_where}
+use Rattle.bit_sets.specs.Least.{least_where}
 use Rattle.trigger_codec.specs.declared.message.Trigger.{Trigger}
 use Rattle.trigger_codec.specs.Bytes.{trigger_of}
 use Rattle.trigger_codec.specs.Heard.{IsNoted, Noted, first_heard, last_heard}
@@ -118,7 +118,7 @@ is_own_slot entries id = list_any (λ p. first_identifier + p.entry.slot == id) 
 
 -- an open cycle in which one more slot was heard
 abbrev pub with_heard : ℕ → Opened → Opened
-with_heard slot opened = record opened { heard = set_of most_slots (λ s. (s == slot) || contains_slot opened.heard s) }
+with_heard slot opened = record opened { heard = set_of most_slots (λ s. (s == slot) || has_bit opened.heard s) }
 
 -- a node that marks a slot in the open cycle, where one is open
 abbrev pub after_slot : NodeState → ℕ → NodeState
@@ -151,8 +151,8 @@ after_hearing node sent = let counting = record node { frames = counted node.fra
 -- the cycle, and has not heard it
 abbrev pub is_due : List Placed → Opened → ℕ → Bool
 is_due entries opened slot =
-    contains_slot opened.mask slot
-    && (is_some (instance_in entries slot opened.cycle) && not (contains_slot opened.heard slot))
+    has_bit opened.mask slot
+    && (is_some (instance_in entries slot opened.cycle) && not (has_bit opened.heard slot))
 
 -- what a node offers in an open cycle: in the synchronous window the least slot that it is to send, and before it what
 -- its mailboxes offer

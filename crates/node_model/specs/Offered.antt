@@ -6,7 +6,7 @@ use Rattle.can_frame.specs.DataFrame.{DataFrame}
 use Rattle.can_frame.specs.declared.data_frame.TimedFrame.{TimedFrame}
 use Rattle.cycle_layout.specs.Layout.{CycleLayout, trigger_part}
 use Rattle.requirement_table.specs.Instance.{Instance}
-use Rattle.requirement_table.specs.Slots.{contains_slot, most_slots}
+use Rattle.bit_sets.specs.Sets.{has_bit, most_slots}
 use Rattle.requirement_table.specs.Table.{instance_in}
 use Rattle.trigger_codec.specs.Bytes.{triggers_with}
 use Rattle.async_window.specs.declared.request.Request.{Request}
@@ -58,7 +58,7 @@ pub record OffersSlot (sends : Instance → List ℕ) (layout : CycleLayout) (op
   pub late_enough : window_start layout opening ≤ at
   pub within : at < end_of_cycle layout opening
   pub known : slot < most_slots
-  pub flagged : contains_slot opening.mask slot ≡ true
+  pub flagged : has_bit opening.mask slot ≡ true
   pub unsent : IsUnsent layout opening slot past
   pub identifier : frame.identifier ≡ first_identifier + slot
   pub bytes : bytes_sent sends opening slot ≡ Some frame.bytes

@@ -8,7 +8,7 @@ use Rattle.can_frame.specs.DataFrame.{DataFrame}
 use Rattle.can_frame.specs.declared.data_frame.TimedFrame.{TimedFrame}
 use Rattle.cycle_layout.specs.Layout.{CycleLayout}
 use Rattle.requirement_table.specs.declared.entries.Placed.{Placed}
-use Rattle.requirement_table.specs.Slots.{contains_slot, most_slots}
+use Rattle.bit_sets.specs.Sets.{has_bit, most_slots}
 use Rattle.requirement_table.specs.Instance.{Instance, bytes_of}
 use Rattle.requirement_table.specs.Table.{instance_in}
 use Rattle.async_window.specs.declared.request.Owner.{Owner}
@@ -59,7 +59,7 @@ pub record IsOpenFor (layout : CycleLayout) (opening : Opening) (past : List Tim
   pub width : opened.width ≡ width_of opening
   pub mask : opened.mask ≡ opening.mask
   pub heard : (slot : ℕ) → slot < most_slots → list_any (λ p. p.entry.slot == slot) node.entries ≡ true
-      → contains_slot opened.heard slot ≡ was_sent layout opening past slot
+      → has_bit opened.heard slot ≡ was_sent layout opening past slot
 
 -- a node within an opened cycle, after the frames `past`
 pub record StandsIn (layout : CycleLayout) (owners : List Owner) (requests : List Request)

@@ -7,7 +7,7 @@ use Rattle.profile.specs.Limits.{first_identifier}
 use Rattle.can_frame.specs.DataFrame.{DataFrame}
 use Rattle.can_frame.specs.declared.data_frame.TimedFrame.{TimedFrame}
 use Rattle.cycle_layout.specs.Layout.{sync_start}
-use Rattle.requirement_table.specs.Slots.{contains_slot, set_of, most_slots}
+use Rattle.bit_sets.specs.Sets.{has_bit, set_of, most_slots}
 use Rattle.requirement_table.specs.Instance.{bytes_of}
 use Rattle.requirement_table.specs.Table.{instance_in}
 use Rattle.node_model.specs.Node.{NodeState, Opened, is_due}
@@ -33,7 +33,7 @@ frame_due node slot = if is_due_slot node slot then Some (due_frame node slot) e
 abbrev pub with_all_heard : ℕ → Opened → Opened
 with_all_heard heard opened = record opened {
   heard = set_of most_slots
-      (λ slot. contains_slot opened.heard slot || contains_slot heard slot);
+      (λ slot. has_bit opened.heard slot || has_bit heard slot);
 }
 
 -- the times from `from` to below `until` lie in the synchronous window of the cycle that is open for the node, and it ends
@@ -49,4 +49,4 @@ pub record AreOfSlots (sent : ℕ) (frames : List TimedFrame) : Type 0 where
   pub all : All
       (λ one. (first_identifier ≤ one.frame.identifier) × (one.frame.identifier < first_identifier + most_slots)) frames
   pub each : (slot : ℕ)
-      → contains_slot sent slot ≡ list_any (λ one. one.frame.identifier == first_identifier + slot) frames
+      → has_bit sent slot ≡ list_any (λ one. one.frame.identifier == first_identifier + slot) frames

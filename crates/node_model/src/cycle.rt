@@ -5,18 +5,18 @@ ghost use Rattle.std.specs.Prelude.{nat_lt, max, if◌then◌else◌, is_some, f
 ghost use Rattle.std.specs.Prelude.{Some, None, IfSome, MatchOption, option_map};
 ghost use Rattle.profile.specs.Limits.{cycles_end, first_identifier, times_end};
 ghost use Rattle.requirement_table.specs.declared.entries.Placed.{Placed};
-ghost use Rattle.requirement_table.specs.Slots.{contains_slot, most_slots};
+ghost use Rattle.bit_sets.specs.Sets.{has_bit, most_slots};
 ghost use Rattle.requirement_table.specs.Table.{IsWellPlaced};
-ghost use Rattle.slot_sets.specs.Least.{least_where};
+ghost use Rattle.bit_sets.specs.Least.{least_where};
 ghost use Rattle.node_model.specs.Node.{opened_by, with_heard};
 ghost use Rattle.node_model.specs.declared.entries.Ready.{Ready};
 ghost use Rattle.node_model.specs.Kept.{AreReady, KnowsDue, KnowsInstances, opened_of, sends_from};
 
 use crate::entries::{ReadySlots, sendable_among, sendable_slots};
 use async_window::Offer;
+use bit_sets::{common, difference, least_slot};
 use profile::FIRST_IDENTIFIER;
 use requirement_table::{MOST_SLOTS, Mask, Placed};
-use slot_sets::{common, difference, least_slot};
 use trigger_codec::Trigger;
 
 /// A cycle that is open for a node.
@@ -130,7 +130,7 @@ pub fn after_slot(before: &Option<Open>, slot: u8) -> Option<Open>
 /// The identifier of the least slot that is to be sent in a cycle.
 pub fn least_due(open_cycle: &Open) -> Option<u16>
     ensures least { result
-        ≡ option_map (λ slot. first_identifier + slot) (least_where most_slots (contains_slot open_cycle.now.due)) }
+        ≡ option_map (λ slot. first_identifier + slot) (least_where most_slots (has_bit open_cycle.now.due)) }
 {
     Some(FIRST_IDENTIFIER + u16::from(least_slot(open_cycle.due)?))
 }
@@ -138,7 +138,7 @@ pub fn least_due(open_cycle: &Open) -> Option<u16>
 /// The same, together with how long it is offered: to the end of the cycle.
 pub fn offer_due(open_cycle: &Open, end: u64) -> Option<Offer>
     ensures least { option_map (λ offer. offer.id) result
-        ≡ option_map (λ slot. first_identifier + slot) (least_where most_slots (contains_slot open_cycle.now.due)) }
+        ≡ option_map (λ slot. first_identifier + slot) (least_where most_slots (has_bit open_cycle.now.due)) }
     ensures until { IfSome result (λ offer. offer.until ≡ end - 1) }
 {
     match least_due(open_cycle) {
@@ -155,7 +155,7 @@ pub fn offer_due(open_cycle: &Open, end: u64) -> Option<Offer>
 pub fn next_due(open_cycle: &Open, at: u64, window: u64, end: u64) -> Option<u64>
     requires time { at < times_end }
     ensures next { result
-        ≡ (if is_some (least_where most_slots (contains_slot open_cycle.now.due)) && nat_lt (max (at + 1) window) end
+        ≡ (if is_some (least_where most_slots (has_bit open_cycle.now.due)) && nat_lt (max (at + 1) window) end
         then Some (max (at + 1) window) else None) }
 {
     least_slot(open_cycle.due)?;
@@ -165,8 +165,8 @@ pub fn next_due(open_cycle: &Open, at: u64, window: u64, end: u64) -> Option<u64
 
 /// The flagged slots that can be sent and were not heard.
 fn unheard(flags: Mask, sendable: Mask, heard: Mask) -> Mask
-    ensures slots { (slot : ℕ) → contains_slot result slot
-        ≡ (contains_slot flags slot && (contains_slot sendable slot && not (contains_slot heard slot))) }
+    ensures slots { (slot : ℕ) → has_bit result slot
+        ≡ (has_bit flags slot && (has_bit sendable slot && not (has_bit heard slot))) }
 {
     difference(common(flags, sendable), heard)
 }
@@ -174,8 +174,8 @@ fn unheard(flags: Mask, sendable: Mask, heard: Mask) -> Mask
 /// The slot of an identifier, where it is one of a set.
 pub fn slot_among(among: Mask, id: u16) -> Option<u8>
     ensures slot { MatchOption result
-        ((slot : ℕ) → first_identifier + slot ≡ id → contains_slot among slot ≡ false)
-        (λ slot. (first_identifier + slot ≡ id) × (slot < most_slots) × (contains_slot among slot ≡ true)) }
+        ((slot : ℕ) → first_identifier + slot ≡ id → has_bit among slot ≡ false)
+        (λ slot. (first_identifier + slot ≡ id) × (slot < most_slots) × (has_bit among slot ≡ true)) }
 {
     among.known();
     if id < FIRST_IDENTIFIER || FIRST_IDENTIFIER + u16::from(MOST_SLOTS) <= id {

@@ -3,7 +3,7 @@
 ghost use Rattle.std.specs.Prelude.{◌≡◌, ◌^◌, ◌<◌, ◌≤◌, IfSome, List, fold, option_map, true};
 ghost use Rattle.requirement_table.specs.declared.entries.Placed.{Placed};
 ghost use Rattle.requirement_table.specs.Instance.{payload};
-ghost use Rattle.requirement_table.specs.Slots.{most_slots};
+ghost use Rattle.bit_sets.specs.Sets.{most_slots};
 ghost use Rattle.node_model.specs.Node.{after_hearing};
 ghost use Rattle.node_model.specs.declared.entries.Ready.{Ready};
 ghost use Rattle.node_model.specs.Kept.{KnowsDue, KnowsInstances, opened_of};
@@ -12,10 +12,10 @@ ghost use Rattle.node_model.specs.Window.{AreOfSlots, due_bytes, due_frame, is_d
 use crate::cycle::Open;
 use crate::entries::Ready;
 use crate::node::Node;
+use bit_sets::{common, difference, union};
 use can_frame::{Frame, TimedFrame};
 use profile::FIRST_IDENTIFIER;
 use requirement_table::Mask;
-use slot_sets::{common, difference, union};
 
 impl Node {
     /// The frame of a slot that the node is to send in the open cycle.

@@ -4,15 +4,15 @@ ghost use Rattle.std.specs.Prelude.{◌≡◌, ◌≢◌, ◌<◌, ◌≤◌, �
 ghost use Rattle.std.specs.Prelude.{List, is_some, length, nat_eq, slice_get, vec_capacity, ◌&&◌, ◌||◌};
 ghost use Rattle.std.specs.Prelude.{IfOk, IsSomeAnd, MatchOption};
 ghost use Rattle.profile.specs.Limits.{cycles_end};
-ghost use Rattle.requirement_table.specs.Slots.{contains_slot, most_slots};
+ghost use Rattle.bit_sets.specs.Sets.{has_bit, most_slots};
 ghost use Rattle.requirement_table.specs.Instance.{instance_of, latest, release_of};
 ghost use Rattle.requirement_table.specs.Table.{IsInRange, IsWellPlaced, instance_in, not_over};
 ghost use Rattle.node_model.specs.Node.{entries_of, identifiers_of};
 ghost use Rattle.node_model.specs.Kept.{AreReady, AreSendableIn, AreSlotsOf, HaveInstances, IsReady, IsSendableIn, ready_of};
 
 use async_window::Owner;
+use bit_sets::{least_slot, without_least};
 use requirement_table::{MOST_SLOTS, Mask, Placed, drop_over, first_over, is_over_in_range};
-use slot_sets::{least_slot, without_least};
 use std::alloc::{AllocError, Global};
 
 /// The identifiers that `owners` gives to a node.
@@ -158,8 +158,8 @@ pub fn sendable_among(set: Mask, entries: &[Placed], cycle: u64, ready: &mut Rea
     requires cycle { cycle < cycles_end }
     requires well_placed { IsWellPlaced entries.now }
     requires ready { AreReady entries.now ready.old }
-    ensures slots { (slot : ℕ) → contains_slot set slot ≡ true
-        → contains_slot result slot ≡ is_some (instance_in entries.now slot cycle) }
+    ensures slots { (slot : ℕ) → has_bit set slot ≡ true
+        → has_bit result slot ≡ is_some (instance_in entries.now slot cycle) }
     ensures sendable { AreSendableIn cycle result ready.new }
     ensures ready { AreReady entries.now ready.new }
 {
@@ -236,7 +236,7 @@ pub fn sendable_slots(entries: &[Placed], cycle: u64, ready: &mut ReadySlots) ->
     requires cycle { cycle < cycles_end }
     requires well_placed { IsWellPlaced entries.now }
     requires ready { AreReady entries.now ready.old }
-    ensures slots { (slot : ℕ) → contains_slot result slot ≡ is_some (instance_in entries.now slot cycle) }
+    ensures slots { (slot : ℕ) → has_bit result slot ≡ is_some (instance_in entries.now slot cycle) }
     ensures sendable { AreSendableIn cycle result ready.new }
     ensures ready { AreReady entries.now ready.new }
 {
@@ -252,8 +252,8 @@ pub fn sendable_slots(entries: &[Placed], cycle: u64, ready: &mut ReadySlots) ->
 fn with_sendable(slots: Mask, p: &Placed, cycle: u64, ready: &mut ReadySlots) -> Mask
     requires cycle { cycle < cycles_end }
     requires in_range { IsInRange p.now }
-    ensures slots { (slot : ℕ) → contains_slot result slot
-        ≡ ((nat_eq p.now.entry.slot slot && is_some (instance_of p.now cycle)) || contains_slot slots slot) }
+    ensures slots { (slot : ℕ) → has_bit result slot
+        ≡ ((nat_eq p.now.entry.slot slot && is_some (instance_of p.now cycle)) || has_bit slots slot) }
     ensures sendable { AreSendableIn cycle slots ready.old → AreSendableIn cycle result ready.new }
     ensures ready { (entries : List Placed) (place : ℕ) → IsWellPlaced entries → slice_get entries place ≡ Some p.now
         → AreReady entries ready.old → AreReady entries ready.new }

@@ -4,7 +4,7 @@ ghost use Rattle.std.specs.Prelude.{◌≡◌, ◌≢◌, ◌↔◌, ℕ, ◌+�
 ghost use Rattle.std.specs.Prelude.{All, AllPairs, IfOk, IfSome};
 ghost use Rattle.std.specs.Prelude.{IsSome, MatchOption, OnErr, OnOk, Some, None, false, true, length, option_map};
 ghost use Rattle.profile.specs.Limits.{arrivals_end, cycles_end, first_identifier, least_asynchronous, times_end};
-ghost use Rattle.requirement_table.specs.Slots.{most_slots};
+ghost use Rattle.bit_sets.specs.Sets.{most_slots};
 ghost use Rattle.requirement_table.specs.Table.{IsWellPlaced};
 ghost use Rattle.async_window.specs.Mailbox.{IsNextInCycle, left};
 ghost use Rattle.async_window.specs.Owners.{AreOwners};

@@ -1,19 +1,19 @@
 //! Which slots a node is to send in the cycle that is open for it, and the frame of one of them.
 
 ghost use Rattle.std.specs.Prelude.{◌≡◌, ℕ, ◌<◌, ◌||◌};
-ghost use Rattle.requirement_table.specs.Slots.{contains_slot, most_slots};
+ghost use Rattle.bit_sets.specs.Sets.{has_bit, most_slots};
 ghost use Rattle.node_model.specs.Window.{frame_due, is_due_slot};
 
 use crate::node::Node;
+use bit_sets::union;
 use can_frame::Frame;
 use requirement_table::Mask;
-use slot_sets::union;
 
 impl Node {
     /// A set of slots, with those that the node is to send in the open cycle.
     pub fn with_due_slots(&self, others: Mask) -> Mask
         ensures slots { (slot : ℕ) → slot < most_slots
-            → contains_slot result slot ≡ (contains_slot others slot || is_due_slot self.now.state slot) }
+            → has_bit result slot ≡ (has_bit others slot || is_due_slot self.now.state slot) }
     {
         match self.opened {
             Some(open_cycle) => union(others, open_cycle.due),

@@ -8,9 +8,10 @@ use Rattle.std.proofs.lemmas.Option.{same_Some}
 use Rattle.std.proofs.lemmas.Bool.Decides.{nat_tests}
 use Rattle.requirement_table.specs.declared.entries.Placed.{Placed}
 use Rattle.requirement_table.specs.Instance.{Instance, deadline_of, release_of}
-use Rattle.requirement_table.specs.Slots.{contains_slot, most_slots, sum_where}
+use Rattle.bit_sets.specs.Sets.{has_bit, most_slots}
 use Rattle.requirement_table.specs.Table.{IsWellPlaced, instance_in, is_last_in, releases_in, worst_in}
-use Rattle.requirement_table.proofs.Shared.{found-of, sum_where-same}
+use Rattle.requirement_table.proofs.Shared.{found-of}
+use Rattle.bit_sets.proofs.Shared.{sum_where-same, sum_where-costs}
 use Rattle.plan_check.specs.declared.blocks.Block.{Block}
 use Rattle.plan_check.specs.declared.breach.Breach.{Breach}
 use Rattle.plan_check.specs.declared.breach.Breach.TheVariants.{BadLoop, NotReleased, TooWide, Missed, NotClosed}
@@ -23,7 +24,6 @@ use Rattle.plan_check.specs.PlanKept.{HasPending, NoSlot, is_bad, is_held}
 use Rattle.plan_check.proofs.Current.{current-release}
 use Rattle.plan_check.proofs.Held.{before-suc, before-zero, holder-of}
 use Rattle.plan_check.proofs.Repeated.{flags-listed, good_cycle-of}
-use Rattle.plan_check.proofs.SlotSets.{sum_where-next, sum_where-zero}
 
 -- Tests that agree on the slots
 
@@ -43,29 +43,17 @@ least-same p q slot same least =
 
 -- what the sets of a cycle say, and what the slots cost that have an instance in it
 pub record IsCycle (placed : List Placed) (c released ends : ℕ) (costs : List ℕ) : Type 0 where
-  pub releases : (s : ℕ) → s < most_slots → contains_slot released s ≡ releases_in placed c s
-  pub last : (s : ℕ) → s < most_slots → contains_slot ends s ≡ is_last_in placed c s
+  pub releases : (s : ℕ) → s < most_slots → has_bit released s ≡ releases_in placed c s
+  pub last : (s : ℕ) → s < most_slots → has_bit ends s ≡ is_last_in placed c s
   pub cost : (s : ℕ) → s < most_slots → IsSome (instance_in placed s c) → get_or costs s 0 ≡ worst_in placed c s
 
 pub cycle-of : (placed : List Placed) (from count i released ends : ℕ) (block : Block) → IsFilled placed from count block → i < count
     → released ≡ get_or block.released i 0 → ends ≡ get_or block.ends i 0 → IsCycle placed (from + i) released ends block.costs
 cycle-of placed from count i released ends block filled below same_released same_ends = record {
-  releases = λ s known. ap (λ m. contains_slot m s) same_released ∙ (filled s known).released i below;
-  last = λ s known. ap (λ m. contains_slot m s) same_ends ∙ (filled s known).ends i below;
+  releases = λ s known. ap (λ m. has_bit m s) same_released ∙ (filled s known).released i below;
+  last = λ s known. ap (λ m. has_bit m s) same_ends ∙ (filled s known).ends i below;
   cost = λ s known some. (filled s known).cost i below some;
 }
-
--- a sum is the same where its members are
-sum_where-members : (n : ℕ) (p : ℕ → Bool) (f g : ℕ → ℕ) → ((s : ℕ) → s < n → p s ≡ true → f s ≡ g s) → sum_where n p f ≡ sum_where n p g
-sum_where-members zero p f g same = sum_where-zero p f ∙ sym (sum_where-zero p g)
-sum_where-members (suc n) p f g same =
-    let rest = sum_where-members n p f g (λ s below has. same s (omega arith) has) in
-    sum_where-next n p f ∙ ap (λ k. k + (if p n then f n else 0)) rest
-    ∙ ap (λ k. sum_where n p g + k) (here (p n) (λ has. same n (omega arith) has)) ∙ sym (sum_where-next n p g)
-  where
-    here : (b : Bool) → (b ≡ true → f n ≡ g n) → (if b then f n else 0) ≡ (if b then g n else 0)
-    here true same = same refl
-    here false same = refl
 
 waits-from : (flagged waits : Bool) → (flagged && not waits) ≡ false → flagged ≡ true → waits ≡ true
 waits-from flagged true none has = refl
@@ -73,13 +61,13 @@ waits-from true false none has = absurd (cc)
 waits-from false false none has = absurd (cc)
 
 module _ (placed : List Placed) (window : ℕ) (certificate : CertificateView) (n c released ends held mask : ℕ) (costs : List ℕ)
-    (well : IsWellPlaced placed) (valid : HasPending placed certificate.from (contains_slot certificate.pending)) (at : c ≡ certificate.from + n)
-    (is : IsCycle placed c released ends costs) (holds : (s : ℕ) → s < most_slots → contains_slot held s ≡ is_held placed certificate n s)
-    (flags : (s : ℕ) → s < most_slots → contains_slot mask s ≡ is_flagged certificate n s)
+    (well : IsWellPlaced placed) (valid : HasPending placed certificate.from (has_bit certificate.pending)) (at : c ≡ certificate.from + n)
+    (is : IsCycle placed c released ends costs) (holds : (s : ℕ) → s < most_slots → has_bit held s ≡ is_held placed certificate n s)
+    (flags : (s : ℕ) → s < most_slots → has_bit mask s ≡ is_flagged certificate n s)
     (good : (m : ℕ) → m < n → IsGoodAt placed window certificate m) where
   waits-is : (s : ℕ) → s < most_slots → waits_in released held s ≡ is_waiting placed certificate n s
   waits-is s known =
-      ap (λ b. b || contains_slot released s) (holds s known)
+      ap (λ b. b || has_bit released s) (holds s known)
       ∙ ap (λ b. is_held placed certificate n s || b) (is.releases s known ∙ ap (λ x. releases_in placed x s) at)
 
   unreleased-is : (s : ℕ) → s < most_slots → unreleased_in released held mask s ≡ is_unreleased placed certificate n s
@@ -88,14 +76,14 @@ module _ (placed : List Placed) (window : ℕ) (certificate : CertificateView) (
 
   missed-is : (s : ℕ) → s < most_slots → missed_in released ends held mask s ≡ is_missed placed certificate n s
   missed-is s known =
-      ap (λ b. b && contains_slot ends s && not (contains_slot mask s)) (waits-is s known)
-      ∙ ap (λ b. is_waiting placed certificate n s && b && not (contains_slot mask s)) (is.last s known ∙ ap (λ x. is_last_in placed x s) at)
+      ap (λ b. b && has_bit ends s && not (has_bit mask s)) (waits-is s known)
+      ∙ ap (λ b. is_waiting placed certificate n s && b && not (has_bit mask s)) (is.last s known ∙ ap (λ x. is_last_in placed x s) at)
       ∙ ap (λ b. is_waiting placed certificate n s && is_last_in placed (certificate.from + n) s && not b) (flags s known)
 
   -- after good cycles a slot that waits has an instance
   waiting-some : (s : ℕ) → s < most_slots → is_waiting placed certificate n s ≡ true → IsSome (instance_in placed s c)
   waiting-some s known waiting =
-      let holder = holder-of placed (flags_of certificate) certificate.from (contains_slot certificate.pending) well n s known valid
+      let holder = holder-of placed (flags_of certificate) certificate.from (has_bit certificate.pending) well n s known valid
       (λ m below. good_cycle-of placed window certificate m (good m below)) waiting in
       let p = holder.owing.entry in
       let k = holder.owing.number in
@@ -105,11 +93,11 @@ module _ (placed : List Placed) (window : ℕ) (certificate : CertificateView) (
 
   width-is : NoSlot (unreleased_in released held mask) → width_of costs mask ≡ width_at placed certificate n
   width-is holding =
-      sum_where-members most_slots (contains_slot mask) (λ s. get_or costs s 0) (worst_in placed (certificate.from + n))
+      sum_where-costs most_slots (has_bit mask) (λ s. get_or costs s 0) (worst_in placed (certificate.from + n))
       (λ s known flagged.
-      let waits = waits-from (contains_slot mask s) (waits_in released held s) (holding s known) flagged in
+      let waits = waits-from (has_bit mask s) (waits_in released held s) (holding s known) flagged in
       is.cost s known (waiting-some s known (sym (waits-is s known) ∙ waits)) ∙ ap (λ x. worst_in placed x s) at)
-      ∙ sum_where-same most_slots (contains_slot mask) (is_flagged certificate n) (worst_in placed (certificate.from + n)) flags
+      ∙ sum_where-same most_slots (has_bit mask) (is_flagged certificate n) (worst_in placed (certificate.from + n)) flags
 
   -- a cycle that is good by its sets is a good one
   pub step-good : IsGoodIn costs window released ends held mask → IsGoodAt placed window certificate n
@@ -120,13 +108,13 @@ module _ (placed : List Placed) (window : ℕ) (certificate : CertificateView) (
   }
 
   -- what is left of the slots that wait is held in the next cycle
-  pub step-held : (left : ℕ) → ((s : ℕ) → s < most_slots → contains_slot left s ≡ (waits_in released held s && not (contains_slot mask s)))
-      → (s : ℕ) → s < most_slots → contains_slot left s ≡ is_held placed certificate (suc n) s
+  pub step-held : (left : ℕ) → ((s : ℕ) → s < most_slots → has_bit left s ≡ (waits_in released held s && not (has_bit mask s)))
+      → (s : ℕ) → s < most_slots → has_bit left s ≡ is_held placed certificate (suc n) s
   step-held left made s known =
       made s known
-      ∙ ap (λ b. b && not (contains_slot mask s)) (waits-is s known)
+      ∙ ap (λ b. b && not (has_bit mask s)) (waits-is s known)
       ∙ ap (λ b. is_waiting placed certificate n s && not b) (flags s known)
-      ∙ sym (before-suc placed (flags_of certificate) certificate.from (contains_slot certificate.pending) n s)
+      ∙ sym (before-suc placed (flags_of certificate) certificate.from (has_bit certificate.pending) n s)
 
   -- a breach that its sets show is the first one of the certificate
   pub step-breach : (breach : Breach) → NoSlot (is_bad placed certificate) → n < length certificate.masks
@@ -158,8 +146,8 @@ module _ (placed : List Placed) (window : ℕ) (certificate : CertificateView) (
 
 -- the mask of a listed cycle flags what the cycle flags
 pub mask-flags : (certificate : CertificateView) (n mask : ℕ) → IsCertificate certificate.from certificate.first certificate.masks
-    → n < length certificate.masks → mask ≡ get_or certificate.masks n 0 → (s : ℕ) → s < most_slots → contains_slot mask s ≡ is_flagged certificate n s
-mask-flags certificate n mask is listed same s known = ap (λ m. contains_slot m s) same ∙ sym (flags-listed certificate is n s listed)
+    → n < length certificate.masks → mask ≡ get_or certificate.masks n 0 → (s : ℕ) → s < most_slots → has_bit mask s ≡ is_flagged certificate n s
+mask-flags certificate n mask is listed same s known = ap (λ m. has_bit m s) same ∙ sym (flags-listed certificate is n s listed)
 
 swapped : (waits flagged last : Bool) → ((waits && not flagged) && last) ≡ (waits && last && not flagged)
 swapped true true true = refl
@@ -169,15 +157,15 @@ swapped true false false = refl
 swapped false flagged last = refl
 
 -- what ends of the slots that are left is missed
-pub ends-missed : (released ends held mask waiting left both : ℕ) → ((s : ℕ) → contains_slot waiting s ≡ waits_in released held s)
-    → ((s : ℕ) → s < most_slots → contains_slot left s ≡ (contains_slot waiting s && not (contains_slot mask s)))
-    → ((s : ℕ) → contains_slot both s ≡ (contains_slot left s && contains_slot ends s))
-    → (s : ℕ) → s < most_slots → contains_slot both s ≡ missed_in released ends held mask s
+pub ends-missed : (released ends held mask waiting left both : ℕ) → ((s : ℕ) → has_bit waiting s ≡ waits_in released held s)
+    → ((s : ℕ) → s < most_slots → has_bit left s ≡ (has_bit waiting s && not (has_bit mask s)))
+    → ((s : ℕ) → has_bit both s ≡ (has_bit left s && has_bit ends s))
+    → (s : ℕ) → s < most_slots → has_bit both s ≡ missed_in released ends held mask s
 ends-missed released ends held mask waiting left both waits lefts boths s known =
     boths s
-    ∙ ap (λ b. b && contains_slot ends s) (lefts s known)
-    ∙ ap (λ b. (b && not (contains_slot mask s)) && contains_slot ends s) (waits s)
-    ∙ swapped (waits_in released held s) (contains_slot mask s) (contains_slot ends s)
+    ∙ ap (λ b. b && has_bit ends s) (lefts s known)
+    ∙ ap (λ b. (b && not (has_bit mask s)) && has_bit ends s) (waits s)
+    ∙ swapped (waits_in released held s) (has_bit mask s) (has_bit ends s)
 
 some-instance : (o : Option Instance) (c : ℕ) → option_map_or (λ i. nat_eq (deadline_of i.placed i.number) (c + 1)) o false ≡ true
     → (i : Instance) × (o ≡ Some i)
@@ -212,13 +200,13 @@ missed-release placed c slot place release found well current last is some =
 
 -- the breach of an instance that is left in its last cycle
 pub cycle-missed : (placed : List Placed) (costs : List ℕ) (window c released ends held mask slot : ℕ) (breach : Breach)
-    → ((s : ℕ) → s < most_slots → contains_slot ends s ≡ is_last_in placed c s) → NoSlot (unreleased_in released held mask) → width_of costs mask ≤ window
+    → ((s : ℕ) → s < most_slots → has_bit ends s ≡ is_last_in placed c s) → NoSlot (unreleased_in released held mask) → width_of costs mask ≤ window
     → IsLeastSlot (missed_in released ends held mask) slot
     → IfSome (instance_in placed slot c) (λ i. breach ≡ Missed slot (release_of i.placed i.number) c)
     → IsBreachIn placed costs window c released ends held mask breach
 cycle-missed placed costs window c released ends held mask slot breach last holding fits least is =
-    let parts = and_parts (waits_in released held slot && contains_slot ends slot) (not (contains_slot mask slot)) least.passes in
-    let front = and_parts (waits_in released held slot) (contains_slot ends slot) parts.0 in
+    let parts = and_parts (waits_in released held slot && has_bit ends slot) (not (has_bit mask slot)) least.passes in
+    let front = and_parts (waits_in released held slot) (has_bit ends slot) parts.0 in
     let some = last-some placed c slot (sym (last slot least.known) ∙ front.1) in
     let made : breach ≡ Missed slot (release_of some.0.placed some.0.number) c = rw some.1 at is in
     rw made (record {
@@ -247,26 +235,26 @@ passed-start placed c slots places count all = record {
 }
 
 pub held-start : (placed : List Placed) (certificate : CertificateView) (pending : ℕ) → pending ≡ certificate.pending
-    → (s : ℕ) → contains_slot pending s ≡ is_held placed certificate 0 s
+    → (s : ℕ) → has_bit pending s ≡ is_held placed certificate 0 s
 held-start placed certificate pending same s =
-    ap (λ m. contains_slot m s) same ∙ sym (before-zero placed (flags_of certificate) certificate.from (contains_slot certificate.pending) s)
+    ap (λ m. has_bit m s) same ∙ sym (before-zero placed (flags_of certificate) certificate.from (has_bit certificate.pending) s)
 
 -- what is kept of the slots that are pending before the first repeated cycle, where a block begins
 pub before-step : (placed : List Placed) (certificate : CertificateView) (c first held before chosen : ℕ) → certificate.from ≤ c
     → first ≡ certificate.first → certificate.from ≤ certificate.first → chosen ≡ (if nat_le c first then held else before)
-    → ((s : ℕ) → s < most_slots → contains_slot held s ≡ is_held placed certificate (c - certificate.from) s)
+    → ((s : ℕ) → s < most_slots → has_bit held s ≡ is_held placed certificate (c - certificate.from) s)
     → (certificate.first < c → (s : ℕ) → s < most_slots
-    → contains_slot before s ≡ is_held placed certificate (certificate.first - certificate.from) s)
+    → has_bit before s ≡ is_held placed certificate (certificate.first - certificate.from) s)
     → certificate.first ≤ c → (s : ℕ) → s < most_slots
-    → contains_slot chosen s ≡ is_held placed certificate (certificate.first - certificate.from) s
+    → has_bit chosen s ≡ is_held placed certificate (certificate.first - certificate.from) s
 before-step placed certificate c first held before chosen behind same after is holds earlier near s known =
     ⊎_elim
     (λ (late : first < c).
     let test : nat_le c first ≡ false = grind (arith, nat_tests) in
-    ap (λ m. contains_slot m s) (is ∙ cond-false (nat_le c first) held before test) ∙ earlier (omega arith) s known)
+    ap (λ m. has_bit m s) (is ∙ cond-false (nat_le c first) held before test) ∙ earlier (omega arith) s known)
     (λ (early : c ≤ first).
     let here : c - certificate.from ≡ certificate.first - certificate.from = omega arith in
-    ap (λ m. contains_slot m s) (is ∙ cond-true (nat_le c first) held before (le-leb c first early)) ∙ holds s known
+    ap (λ m. has_bit m s) (is ∙ cond-true (nat_le c first) held before (le-leb c first early)) ∙ holds s known
     ∙ ap (λ k. is_held placed certificate k s) here)
     (cases_lt first c)
 

@@ -3,7 +3,7 @@ use Rattle.std.proofs.Common.{◌≡◌, ◌≢◌, ℕ, ◌+◌, ◌<◌, ◌�
 use Rattle.std.proofs.lemmas.Bool.{cases_eq, cases_lt}
 use Rattle.requirement_table.specs.declared.entries.Placed.{Placed}
 use Rattle.requirement_table.specs.Instance.{released_by, worst}
-use Rattle.requirement_table.specs.Slots.{contains_slot}
+use Rattle.bit_sets.specs.Sets.{has_bit}
 use Rattle.requirement_table.specs.Table.{IsWellPlaced, instance_in}
 use Rattle.plan_check.specs.declared.blocks.Block.{Block}
 use Rattle.plan_check.specs.Blocks.{AreMarked, IsClearFor, IsFilled, IsFilledFor, IsSameBut, ends_by, has_at}
@@ -11,10 +11,10 @@ use Rattle.plan_check.specs.Places.{AreSlotsBelow, IsCurrent}
 use Rattle.plan_check.proofs.Current.{absent-instance, current-end}
 use Rattle.plan_check.proofs.Entries.{cost-current, last-current, last-none, releases-current, releases-none}
 
-only-marks : (count slot one i : ℕ) (test : ℕ → Bool) (old new : List ℕ) → AreMarked count test one old new → contains_slot one slot ≡ true
+only-marks : (count slot one i : ℕ) (test : ℕ → Bool) (old new : List ℕ) → AreMarked count test one old new → has_bit one slot ≡ true
     → i < count → has_at old i slot ≡ false → has_at new i slot ≡ test i
 only-marks count slot one i test old new marked has below none =
-    marked i slot below ∙ ap (λ b. b || (contains_slot one slot && test i)) none ∙ ap (λ b. b && test i) has
+    marked i slot below ∙ ap (λ b. b || (has_bit one slot && test i)) none ∙ ap (λ b. b && test i) has
 
 -- a slot without an entry that is not over
 nothing-filled : (placed : List Placed) (from count slot : ℕ) (block : Block) → IsWellPlaced placed
@@ -34,7 +34,7 @@ filled-none placed from count slot place block well current at clear =
 -- a slot with such an entry
 pub filled-some : (placed : List Placed) (from count slot place one : ℕ) (p : Placed) (old new : Block) → IsWellPlaced placed
     → ((i : ℕ) → i < count → IsCurrent placed (from + i) slot place) → slice_get placed place ≡ Some p → IsClearFor count slot old
-    → contains_slot one slot ≡ true → AreMarked count (λ i. is_some (released_by p (from + i))) one old.released new.released
+    → has_bit one slot ≡ true → AreMarked count (λ i. is_some (released_by p (from + i))) one old.released new.released
     → AreMarked count (λ i. ends_by p (from + i)) one old.ends new.ends → get_or new.costs slot 0 ≡ worst p.entry.length
     → IsFilledFor placed from count slot new
 filled-some placed from count slot place one p old new well current at clear has released ends cost_is = record {
@@ -89,7 +89,7 @@ filled-whole placed from count slots n block well below all filled clear = λ s 
 
 -- Sets that are emptied
 
-pub emptied-next : (k slot empty other : ℕ) (block : Block) → contains_slot empty slot ≡ false → contains_slot other slot ≡ false
+pub emptied-next : (k slot empty other : ℕ) (block : Block) → has_bit empty slot ≡ false → has_bit other slot ≡ false
     → k < length block.released → k < length block.ends → IsClearFor k slot block
     → IsClearFor (k + 1) slot (record { released = set block.released k empty; ends = set block.ends k other; costs = block.costs })
 emptied-next k slot empty other block none nothing within also clear = record {
@@ -97,11 +97,11 @@ emptied-next k slot empty other block none nothing within also clear = record {
   ends = one block.ends other nothing also clear.ends;
 }
   where
-    one : (sets : List ℕ) (x : ℕ) → contains_slot x slot ≡ false → k < length sets → ((i : ℕ) → i < k → has_at sets i slot ≡ false)
+    one : (sets : List ℕ) (x : ℕ) → has_bit x slot ≡ false → k < length sets → ((i : ℕ) → i < k → has_at sets i slot ≡ false)
         → (i : ℕ) → i < k + 1 → has_at (set sets k x) i slot ≡ false
     one sets x free room before i low =
         ⊎_elim
         (λ (same : i ≡ k).
-        rw same (ap (λ n. contains_slot n slot) (get_or-set_same sets k x 0 room) ∙ free))
-        (λ (apart : i ≢ k). ap (λ n. contains_slot n slot) (get_or-set_other sets k i x 0 apart) ∙ before i (omega arith))
+        rw same (ap (λ n. has_bit n slot) (get_or-set_same sets k x 0 room) ∙ free))
+        (λ (apart : i ≢ k). ap (λ n. has_bit n slot) (get_or-set_other sets k i x 0 apart) ∙ before i (omega arith))
         (cases_eq i k)

@@ -9,7 +9,7 @@ use Rattle.std.proofs.lemmas.List.Folds.{Any-from_list_any, list_any-from_Any}
 use Rattle.requirement_table.specs.declared.entries.Placed.{Placed}
 use Rattle.requirement_table.specs.Flags.{IsFlaggedOnce, IsGoodCycle, waits}
 use Rattle.requirement_table.specs.Instance.{Exists, Instance, IsLastCycle, IsReleasedIn, MaySend, deadline_of, release_of, released_by}
-use Rattle.requirement_table.specs.Slots.{most_slots}
+use Rattle.bit_sets.specs.Sets.{most_slots}
 use Rattle.requirement_table.specs.Table.{IsInRange, IsWellPlaced, held_before, instance_in, is_last_in, releases_in}
 use Rattle.requirement_table.proofs.Shared.{IsReleasedIn-from_released_by, found-in, found-of, released_by-released}
 use Rattle.plan_check.specs.PlanKept.{HasPending, IsOwed, IsOwedIn}

@@ -4,7 +4,7 @@ use Rattle.std.proofs.Math.Nat.{add-mul-mod_self_right, mod-lt, mul-add-mod_self
 use Rattle.std.proofs.lemmas.Bool.{and_from, cases_eq, cases_lt, cases_order, eq-eqb, le-leb}
 use Rattle.std.proofs.lemmas.Bool.Decides.{nat_tests}
 use Rattle.std.proofs.lemmas.Nat.{div-add-mod', mod-mul-add}
-use Rattle.requirement_table.specs.Slots.{contains_slot}
+use Rattle.bit_sets.specs.Sets.{has_bit}
 use Rattle.plan_check.specs.Blocks.{AreMarked, has_at, meets}
 
 -- Cycles counted from another one
@@ -88,8 +88,8 @@ marking-start first step end one sets count =
       after = omega arith;
       whole = ap (λ n. n % step) same ∙ zero-rest step;
       sets_are = λ i slot within.
-          nothing-yet (has_at sets i slot) (contains_slot one slot)
-          ∙ ap (λ b. has_at sets i slot || (contains_slot one slot && b)) (sym (none i));
+          nothing-yet (has_at sets i slot) (has_bit one slot)
+          ∙ ap (λ b. has_at sets i slot || (has_bit one slot && b)) (sym (none i));
     }
   where
     zero-rest : (n : ℕ) → 0 % n ≡ 0
@@ -162,7 +162,7 @@ module _ (first step end one : ℕ) (old sets : List ℕ) (at : ℕ) (some : 1 �
           (cases_lt i (at + step))
 
   pub marking-next : (index new : ℕ) → index ≡ at
-      → ((slot : ℕ) → contains_slot new slot ≡ (has_at sets index slot || contains_slot one slot))
+      → ((slot : ℕ) → has_bit new slot ≡ (has_at sets index slot || has_bit one slot))
       → length (set sets index new) ≡ length sets
       → IsMarking first step end one old (set sets index new) (at + step)
   marking-next index new same made count =
@@ -177,27 +177,27 @@ module _ (first step end one : ℕ) (old sets : List ℕ) (at : ℕ) (some : 1 �
             ⊎_elim
             (λ (is : i ≡ at).
             let place : i ≡ index = is ∙ sym same in
-            let held : has_at (set sets index new) i slot ≡ contains_slot new slot
+            let held : has_at (set sets index new) i slot ≡ has_bit new slot
             = ap (λ k. has_at (set sets index new) k slot) place
-            ∙ ap (λ n. contains_slot n slot) (get_or-set_same sets index new 0 (let all = marking.count in omega arith)) in
-            let was : has_at sets index slot ≡ (has_at old i slot || (contains_slot one slot && false))
+            ∙ ap (λ n. has_bit n slot) (get_or-set_same sets index new 0 (let all = marking.count in omega arith)) in
+            let was : has_at sets index slot ≡ (has_at old i slot || (has_bit one slot && false))
             = ap (λ k. has_at sets k slot) (sym place) ∙ marking.sets_are i slot low
-            ∙ ap (λ b. has_at old i slot || (contains_slot one slot && b))
+            ∙ ap (λ b. has_at old i slot || (has_bit one slot && b))
             (ap (λ k. nat_lt k at && (nat_lt k end && meets first step k)) is ∙ before-test) in
-            held ∙ made slot ∙ ap (λ b. b || contains_slot one slot) was
-            ∙ marked-here (has_at old i slot) (contains_slot one slot) (nat_lt i (at + step) && (nat_lt i end && meets first step i))
+            held ∙ made slot ∙ ap (λ b. b || has_bit one slot) was
+            ∙ marked-here (has_at old i slot) (has_bit one slot) (nat_lt i (at + step) && (nat_lt i end && meets first step i))
             (ap (λ k. nat_lt k (at + step) && (nat_lt k end && meets first step k)) is ∙ here-test))
             (λ (other : i ≢ at).
             let apart : i ≢ index = λ is. other (is ∙ same) in
-            ap (λ n. contains_slot n slot) (get_or-set_other sets index i new 0 apart) ∙ marking.sets_are i slot low
-            ∙ ap (λ b. has_at old i slot || (contains_slot one slot && b)) (other-test i other))
+            ap (λ n. has_bit n slot) (get_or-set_other sets index i new 0 apart) ∙ marking.sets_are i slot low
+            ∙ ap (λ b. has_at old i slot || (has_bit one slot && b)) (other-test i other))
             (cases_eq i at);
       }
 
 pub marking-end : (first step end one : ℕ) (old sets : List ℕ) (at : ℕ) → end ≤ at → IsMarking first step end one old sets at
     → AreMarked 256 (λ i. nat_lt i end && meets first step i) one old sets
 marking-end first step end one old sets at all marking = λ i slot low.
-    marking.sets_are i slot low ∙ ap (λ b. has_at old i slot || (contains_slot one slot && b)) (past i)
+    marking.sets_are i slot low ∙ ap (λ b. has_at old i slot || (has_bit one slot && b)) (past i)
   where
     past : (i : ℕ) → (nat_lt i at && (nat_lt i end && meets first step i)) ≡ (nat_lt i end && meets first step i)
     past i =
@@ -215,4 +215,4 @@ marking-end first step end one old sets at all marking = λ i slot low.
 pub marked-as : (count : ℕ) (p q : ℕ → Bool) (one : ℕ) (old new : List ℕ) → count ≤ 256 → ((i : ℕ) → i < count → p i ≡ q i)
     → AreMarked 256 p one old new → AreMarked count q one old new
 marked-as count p q one old new few same marked = λ i slot below.
-    marked i slot (omega arith) ∙ ap (λ b. has_at old i slot || (contains_slot one slot && b)) (same i below)
+    marked i slot (omega arith) ∙ ap (λ b. has_at old i slot || (has_bit one slot && b)) (same i below)

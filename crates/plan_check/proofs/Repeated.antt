@@ -5,22 +5,15 @@ use Rattle.std.proofs.lemmas.Bool.{cases_lt, cond-true, cond-false}
 use Rattle.std.proofs.lemmas.Bool.Decides.{nat_tests}
 use Rattle.requirement_table.specs.declared.entries.Placed.{Placed}
 use Rattle.requirement_table.specs.Flags.{IsGoodCycle}
-use Rattle.requirement_table.specs.Slots.{contains_slot, most_slots, sum_where}
+use Rattle.bit_sets.specs.Sets.{has_bit, most_slots}
 use Rattle.requirement_table.specs.Table.{IsWellPlaced, is_last_in, releases_in, worst_in}
-use Rattle.requirement_table.proofs.Shared.{GoesRound, SameAgain, same-again, sum_where-same}
+use Rattle.requirement_table.proofs.Shared.{GoesRound, SameAgain, same-again}
+use Rattle.bit_sets.proofs.Shared.{sum_where-same, sum_where-costs}
 use Rattle.plan_check.specs.Certificate.{CertificateView, IsCertificate, flags_of, length_of, place_of}
 use Rattle.plan_check.specs.PlanKept.{NoSlot, differ, is_bad, is_held, is_open}
 use Rattle.plan_check.specs.Breaches.{IsGoodAt, is_flagged, is_waiting, width_at}
 use Rattle.plan_check.proofs.Rounds.{rounds-of}
 use Rattle.plan_check.proofs.Held.{before-suc}
-
-pub sum_where-costs : (n : ℕ) (p : ℕ → Bool) (f g : ℕ → ℕ) → ((s : ℕ) → s < n → f s ≡ g s) → sum_where n p f ≡ sum_where n p g
-unfolding sum_where
-sum_where-costs zero p f g same = refl
-sum_where-costs (suc n) p f g same =
-    let rest = sum_where-costs n p f g (λ s below. same s (omega arith)) in
-    let here = same n (omega arith) in
-    cc
 
 -- The mask of a cycle
 
@@ -51,9 +44,9 @@ module _ (certificate : CertificateView) (is : IsCertificate certificate.from ce
 
   -- in a listed cycle the mask is the listed one
   pub flags-listed : (n slot : ℕ) → n < length certificate.masks
-      → flags_of certificate (certificate.from + n) slot ≡ contains_slot (get_or certificate.masks n 0) slot
+      → flags_of certificate (certificate.from + n) slot ≡ has_bit (get_or certificate.masks n 0) slot
   unfolding flags_of
-  flags-listed n slot listed = ap (λ place. contains_slot (get_or certificate.masks place 0) slot) (place-listed n listed)
+  flags-listed n slot listed = ap (λ place. has_bit (get_or certificate.masks place 0) slot) (place-listed n listed)
 
   -- from `first` on the masks are repeated
   pub flags-again : (c slot : ℕ) → certificate.first ≤ c → flags_of certificate (c + length_of certificate) slot ≡ flags_of certificate c slot
@@ -63,7 +56,7 @@ module _ (certificate : CertificateView) (is : IsCertificate certificate.from ce
       let before = certificate.first - certificate.from in
       let rest = c - certificate.first in
       let moved : c + d - certificate.first ≡ rest + 1 * d = omega arith in
-      ap (λ place. contains_slot (get_or certificate.masks place 0) slot)
+      ap (λ place. has_bit (get_or certificate.masks place 0) slot)
       (place-after (c + d) (omega arith)
       ∙ ap (λ k. before + k % d) moved
       ∙ ap (λ k. before + k) (add-mul-mod_self_right rest 1 d)
@@ -90,7 +83,7 @@ good-in_time false last flagged is holds due = absurd (cc)
 
 -- a good cycle of a certificate is one of a kept table
 pub good_cycle-of : (placed : List Placed) (window : ℕ) (certificate : CertificateView) (n : ℕ) → IsGoodAt placed window certificate n
-    → IsGoodCycle placed (flags_of certificate) certificate.from (contains_slot certificate.pending) n
+    → IsGoodCycle placed (flags_of certificate) certificate.from (has_bit certificate.pending) n
 good_cycle-of placed window certificate n good = record {
   holding = λ slot known flagged. good-holding (is_flagged certificate n slot) (is_waiting placed certificate n slot) (good.released slot known) flagged;
   in_time = λ slot known waiting last.
@@ -132,7 +125,7 @@ module _ (placed : List Placed) (window : ℕ) (certificate : CertificateView) (
       let next : n ≡ suc m = omega arith in
       let far : suc m + d ≡ suc (m + d) = omega arith in
       let flags = flags_of certificate in
-      let pending = contains_slot certificate.pending in
+      let pending = has_bit certificate.pending in
       rw (next, far)
       (before-suc placed flags certificate.from pending (m + d) slot
       ∙ ap (λ b. (b || releases_in placed (certificate.from + (m + d)) slot) && not (flags (certificate.from + (m + d)) slot)) (held-on j m slot refl known)
@@ -155,7 +148,7 @@ module _ (placed : List Placed) (window : ℕ) (certificate : CertificateView) (
       sum_where-same most_slots (is_flagged certificate (n + length_of certificate)) (is_flagged certificate n) (worst_in placed far)
       (λ slot known. flagged-again n slot late)
       ∙ sum_where-costs most_slots (is_flagged certificate n) (worst_in placed far) (worst_in placed c)
-      (λ slot known. ap (λ x. worst_in placed x slot) at ∙ (again-at n slot late).cost)
+      (λ slot known _. ap (λ x. worst_in placed x slot) at ∙ (again-at n slot late).cost)
 
   good-again : (n : ℕ) → certificate.first - certificate.from ≤ n → IsGoodAt placed window certificate n → IsGoodAt placed window certificate (n + length_of certificate)
   good-again n late good =

@@ -2,9 +2,9 @@
 use Rattle.std.proofs.Common.{◌≡◌, ℕ, zero, suc, ◌+◌, ◌%◌, ◌<◌, Bool, nat_eq, if◌then◌else◌, Option, Some, None, MatchOption, bit_xor, refl, sym, subst, ap, ◌∙◌, arith}
 use Rattle.std.specs.Int.{bit_at}
 use Rattle.std.proofs.lemmas.Nat.Bits.{bit_at-lt, bit_at_xor}
-use Rattle.requirement_table.specs.Slots.{contains_slot, most_slots, sum_where}
-use Rattle.slot_sets.specs.Least.{least_where}
-use Rattle.slot_sets.proofs.Shared.{IsLeastBelow, least_where-least}
+use Rattle.bit_sets.specs.Sets.{has_bit, most_slots}
+use Rattle.bit_sets.specs.Least.{least_where}
+use Rattle.bit_sets.proofs.Shared.{IsLeastBelow, least_where-of}
 use Rattle.plan_check.specs.PlanKept.{NoSlot, differ}
 use Rattle.plan_check.specs.Breaches.{IsLeastSlot}
 
@@ -19,8 +19,8 @@ xor-test a b small_a small_b =
     (zero_or_one b small_b (λ y. nat_eq ((0 + y) % 2) 1 ≡ differ (nat_eq 0 1) (nat_eq y 1)) refl refl)
     (zero_or_one b small_b (λ y. nat_eq ((1 + y) % 2) 1 ≡ differ (nat_eq 1 1) (nat_eq y 1)) refl refl)
 
-pub contains_slot-symmetric : (a b s : ℕ) → contains_slot (bit_xor a b) s ≡ differ (contains_slot a s) (contains_slot b s)
-contains_slot-symmetric a b s =
+pub has_bit-symmetric : (a b s : ℕ) → has_bit (bit_xor a b) s ≡ differ (has_bit a s) (has_bit b s)
+has_bit-symmetric a b s =
     ap (λ n. nat_eq n 1) (bit_at_xor a b s) ∙ xor-test (bit_at a s) (bit_at b s) (bit_at-lt a s) (bit_at-lt b s)
 
 -- what `least_where` finds, in the words of a breach
@@ -30,13 +30,4 @@ in-words test (Some least) is = record { known = is.0; passes = is.1; least = is
 
 pub least-found : (test : ℕ → Bool) (found : Option ℕ) → found ≡ least_where most_slots test
     → MatchOption found (NoSlot test) (λ slot. IsLeastSlot test slot)
-least-found test found is = in-words test found (subst (IsLeastBelow most_slots test) (sym is) (least_where-least most_slots test))
-
--- a sum over one slot more
-pub sum_where-zero : (p : ℕ → Bool) (f : ℕ → ℕ) → sum_where 0 p f ≡ 0
-unfolding sum_where
-sum_where-zero p f = refl
-
-pub sum_where-next : (n : ℕ) (p : ℕ → Bool) (f : ℕ → ℕ) → sum_where (suc n) p f ≡ sum_where n p f + (if p n then f n else 0)
-unfolding sum_where
-sum_where-next n p f = refl
+least-found test found is = in-words test found (least_where-of most_slots test found (sym is))

@@ -5,7 +5,7 @@ use Rattle.std.proofs.Math.Nat.{le-max_left, le-max_right}
 use Rattle.std.proofs.lemmas.Bool.{cases_lt, eqb-true, and_parts, false_from_ne_true, not-true}
 use Rattle.requirement_table.specs.declared.entries.Placed.{Placed}
 use Rattle.requirement_table.specs.Instance.{IsLastCycle, MaySend, deadline_of, release_of}
-use Rattle.requirement_table.specs.Slots.{contains_slot, most_slots}
+use Rattle.bit_sets.specs.Sets.{has_bit, most_slots}
 use Rattle.requirement_table.specs.Table.{IsWellPlaced, instance_in, is_last_in}
 use Rattle.plan_check.specs.declared.breach.Breach.{Breach}
 use Rattle.plan_check.specs.declared.breach.Breach.TheVariants.{BadLoop, NotReleased, TooWide, Missed, NotClosed}
@@ -20,13 +20,13 @@ pub passes-none : (test : ℕ → Bool) (slot : ℕ) → NoSlot test → IsLeast
 passes-none test slot none least = let passes = least.passes in let nothing = none slot least.known in absurd (cc)
 
 module _ (placed : List Placed) (window : ℕ) (certificate : CertificateView) (well : IsWellPlaced placed)
-    (valid : HasPending placed certificate.from (contains_slot certificate.pending)) where
+    (valid : HasPending placed certificate.from (has_bit certificate.pending)) where
   only-owed : ((n : ℕ) → IsGoodAt placed window certificate n) → (c n slot : ℕ) → c ≡ certificate.from + n → slot < most_slots
-      → flags_of certificate c slot ≡ true → IsOwedIn placed certificate.from (contains_slot certificate.pending) c slot
+      → flags_of certificate c slot ≡ true → IsOwedIn placed certificate.from (has_bit certificate.pending) c slot
   only-owed good c n slot at known flagged =
       let here : is_flagged certificate n slot ≡ true = rw at at flagged in
       let cycle = good_cycle-of placed window certificate n (good n) in
-      let holder = holder-of placed (flags_of certificate) certificate.from (contains_slot certificate.pending) well n slot known valid
+      let holder = holder-of placed (flags_of certificate) certificate.from (has_bit certificate.pending) well n slot known valid
       (λ m below. good_cycle-of placed window certificate m (good m)) (cycle.holding slot known here) in
       rw at holder.owing
 
@@ -40,7 +40,7 @@ module _ (placed : List Placed) (window : ℕ) (certificate : CertificateView) (
         loop = record { rounds = rounds; closed = closed };
         kept = record {
           each = λ p k last owed is_last.
-              flagged-once placed (flags_of certificate) certificate.from (contains_slot certificate.pending) well p k last valid
+              flagged-once placed (flags_of certificate) certificate.from (has_bit certificate.pending) well p k last valid
               (λ m. good_cycle-of placed window certificate m (good m)) owed is_last;
           only = λ c slot after known flagged. only-owed good c (c - certificate.from) slot (omega arith) known flagged;
           fits = λ c after.
@@ -52,7 +52,7 @@ module _ (placed : List Placed) (window : ℕ) (certificate : CertificateView) (
 
   module _ (taken : IsTaken placed window certificate) where
     -- an instance that is to be sent is not flagged before a cycle in which it is flagged
-    once-before : (p : Placed) (k n c : ℕ) → IsOwed placed certificate.from (contains_slot certificate.pending) p k → MaySend p k (certificate.from + n)
+    once-before : (p : Placed) (k n c : ℕ) → IsOwed placed certificate.from (has_bit certificate.pending) p k → MaySend p k (certificate.from + n)
         → is_flagged certificate n p.entry.slot ≡ true → certificate.from ≤ c → release_of p k ≤ c → c < certificate.from + n
         → flags_of certificate c p.entry.slot ≡ true → ⊥
     once-before p k n c owed sends now after released before flagged =
@@ -72,7 +72,7 @@ module _ (placed : List Placed) (window : ℕ) (certificate : CertificateView) (
         let p = owing.entry in
         let k = owing.number in
         let now : is_flagged certificate n p.entry.slot ≡ true = ap (is_flagged certificate n) owing.of_slot ∙ parts.0 in
-        let waiting = waits-of placed (flags_of certificate) certificate.from (contains_slot certificate.pending) well p k n owing.owed owing.sends.released
+        let waiting = waits-of placed (flags_of certificate) certificate.from (has_bit certificate.pending) well p k n owing.owed owing.sends.released
         (λ c after released before flagged. once-before p k n c owing.owed owing.sends now after released before flagged) in
         let here : is_waiting placed certificate n slot ≡ true = sym (ap (is_waiting placed certificate n) owing.of_slot) ∙ waiting in
         let none = not-true (is_waiting placed certificate n slot) parts.1 in
@@ -82,7 +82,7 @@ module _ (placed : List Placed) (window : ℕ) (certificate : CertificateView) (
     missed-at n slot known good test =
         let parts = and_parts (is_waiting placed certificate n slot && is_last_in placed (certificate.from + n) slot) (not (is_flagged certificate n slot)) test in
         let front = and_parts (is_waiting placed certificate n slot) (is_last_in placed (certificate.from + n) slot) parts.0 in
-        let holder = holder-of placed (flags_of certificate) certificate.from (contains_slot certificate.pending) well n slot known valid
+        let holder = holder-of placed (flags_of certificate) certificate.from (has_bit certificate.pending) well n slot known valid
         (λ m below. good_cycle-of placed window certificate m (good m below)) front.0 in
         let p = holder.owing.entry in
         let k = holder.owing.number in

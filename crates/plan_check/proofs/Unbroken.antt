@@ -4,10 +4,10 @@ use Rattle.std.specs.Option.{option_map_or}
 use Rattle.std.proofs.lemmas.Bool.{and_parts, cases_lt}
 use Rattle.requirement_table.specs.declared.entries.Placed.{Placed}
 use Rattle.requirement_table.specs.Instance.{Instance, release_of}
-use Rattle.requirement_table.specs.Slots.{contains_slot, most_slots}
+use Rattle.bit_sets.specs.Sets.{has_bit, most_slots}
 use Rattle.requirement_table.specs.Table.{IsWellPlaced, instance_in, is_last_in}
-use Rattle.slot_sets.specs.Least.{least_where}
-use Rattle.slot_sets.proofs.Shared.{IsLeastBelow, least_where-least}
+use Rattle.bit_sets.specs.Least.{least_where}
+use Rattle.bit_sets.proofs.Shared.{IsLeastBelow, least_where-least}
 use Rattle.plan_check.specs.declared.breach.Breach.{Breach}
 use Rattle.plan_check.specs.declared.breach.Breach.TheVariants.{BadLoop, NotReleased, TooWide, Missed, NotClosed}
 use Rattle.plan_check.specs.Breaches.{IsBreach, IsGoodAt, IsLeastSlot, IsReached, is_flagged, is_missed, is_unreleased, is_waiting, width_at}
@@ -93,6 +93,6 @@ module _ (placed : List Placed) (window : ℕ) (certificate : CertificateView) (
       no-slot (is_open placed certificate)
       (λ slot least. none (NotClosed slot) (record { rounds = rounds-none; good = goods-listed; slot_is = least }))
 
-  pub unbroken-taken : IsWellPlaced placed → HasPending placed certificate.from (contains_slot certificate.pending)
+  pub unbroken-taken : IsWellPlaced placed → HasPending placed certificate.from (has_bit certificate.pending)
       → IsCertificate certificate.from certificate.first certificate.masks → IsTaken placed window certificate
   unbroken-taken well valid is = taken-of placed window certificate well valid is rounds-none goods-listed closed-none

@@ -3,7 +3,7 @@ use Rattle.std.specs.Prelude.{◌≡◌, ◌≢◌, ℕ, ◌+◌, ◌-◌, ◌%�
 use Rattle.std.specs.Option.{option_map_or}
 use Rattle.requirement_table.specs.declared.entries.Placed.{Placed}
 use Rattle.requirement_table.specs.Instance.{deadline_of, instance_of}
-use Rattle.requirement_table.specs.Slots.{contains_slot, most_slots}
+use Rattle.bit_sets.specs.Sets.{has_bit, most_slots}
 use Rattle.requirement_table.specs.Table.{instance_in, is_last_in, releases_in, worst_in}
 use Rattle.plan_check.specs.declared.blocks.Block.{Block}
 use Rattle.plan_check.specs.declared.blocks.LastBlock.{LastBlock}
@@ -19,13 +19,13 @@ ends_by p c = option_map_or (λ k. nat_eq (deadline_of p k) (c + 1)) (instance_o
 
 -- whether a slot stands in the i-th of some sets
 abbrev pub has_at : List ℕ → ℕ → ℕ → Bool
-has_at sets i slot = contains_slot (slice_index_or sets i 0) slot
+has_at sets i slot = has_bit (slice_index_or sets i 0) slot
 
 -- of so many sets, those that pass the test have the slots of `one` besides what stood in them, and the others are as
 -- before
 abbrev pub AreMarked : ℕ → (ℕ → Bool) → ℕ → List ℕ → List ℕ → Type 0
 AreMarked count test one old new =
-    (i slot : ℕ) → i < count → has_at new i slot ≡ (has_at old i slot || (contains_slot one slot && test i))
+    (i slot : ℕ) → i < count → has_at new i slot ≡ (has_at old i slot || (has_bit one slot && test i))
 
 -- the block says of a slot what it does in the cycles from `from` on, so many: in which of them it releases an
 -- instance, in which an instance has its last cycle, and what an instance costs that may be sent in one of them

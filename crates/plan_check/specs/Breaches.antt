@@ -3,7 +3,7 @@ use Rattle.std.specs.Prelude.{◌≡◌, ℕ, ◌+◌, ◌<◌, ◌≤◌, Bool,
 use Rattle.requirement_table.specs.declared.entries.Placed.{Placed}
 use Rattle.requirement_table.specs.Flags.{waits}
 use Rattle.requirement_table.specs.Instance.{Instance, release_of}
-use Rattle.requirement_table.specs.Slots.{contains_slot, most_slots}
+use Rattle.bit_sets.specs.Sets.{has_bit, most_slots}
 use Rattle.requirement_table.specs.Table.{instance_in, is_last_in, width_in}
 use Rattle.plan_check.specs.declared.breach.Breach.{Breach}
 use Rattle.plan_check.specs.declared.breach.Breach.TheVariants.{BadLoop, NotReleased, TooWide, Missed, NotClosed}
@@ -16,7 +16,7 @@ use Rattle.plan_check.specs.PlanKept.{NoSlot, is_bad, is_open}
 -- flagged before it, or one that is released in it
 abbrev pub is_waiting : List Placed → CertificateView → ℕ → ℕ → Bool
 is_waiting placed certificate n slot =
-    waits placed (flags_of certificate) certificate.from (contains_slot certificate.pending) n slot
+    waits placed (flags_of certificate) certificate.from (has_bit certificate.pending) n slot
 
 -- whether the cycle flags the slot
 abbrev pub is_flagged : CertificateView → ℕ → ℕ → Bool

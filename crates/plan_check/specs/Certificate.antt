@@ -1,7 +1,7 @@
 -- Certificates of a plan: the masks of some cycles, of which the last part is repeated for ever. Cycles are elementary
 -- cycles.
 use Rattle.std.specs.Prelude.{ℕ, ◌+◌, ◌-◌, ◌%◌, ◌<◌, ◌≤◌, Bool, nat_lt, if◌then◌else◌, List, length, get_or}
-use Rattle.requirement_table.specs.Slots.{contains_slot}
+use Rattle.bit_sets.specs.Sets.{has_bit}
 
 -- what contracts see of a certificate: the cycle of its first mask, the set of the slots that are pending before that
 -- cycle, the first cycle of the part that is repeated, and the masks, one for each cycle
@@ -33,4 +33,4 @@ mask_in certificate c = get_or certificate.masks (place_of certificate c) 0
 
 -- whether a cycle flags a slot
 unfoldable pub flags_of : CertificateView → ℕ → ℕ → Bool
-flags_of certificate c slot = contains_slot (mask_in certificate c) slot
+flags_of certificate c slot = has_bit (mask_in certificate c) slot

@@ -4,7 +4,7 @@
 use Rattle.std.specs.Prelude.{◌≡◌, ℕ, ◌<◌, ◌≤◌, Bool, not, ◌&&◌, ◌||◌, List, Some, length, slice_index_or}
 use Rattle.requirement_table.specs.declared.entries.Placed.{Placed}
 use Rattle.requirement_table.specs.Instance.{Instance, release_of}
-use Rattle.requirement_table.specs.Slots.{contains_slot, most_slots, sum_where}
+use Rattle.bit_sets.specs.Sets.{has_bit, most_slots, sum_where}
 use Rattle.requirement_table.specs.Table.{instance_in}
 use Rattle.plan_check.specs.declared.breach.Breach.{Breach}
 use Rattle.plan_check.specs.declared.breach.Breach.TheVariants.{BadLoop, NotReleased, TooWide, Missed, NotClosed}
@@ -13,14 +13,14 @@ use Rattle.plan_check.specs.Breaches.{IsLeastSlot}
 
 -- whether the slot has an instance that is not planned before the cycle
 abbrev pub waits_in : ℕ → ℕ → ℕ → Bool
-waits_in released held slot = contains_slot held slot || contains_slot released slot
+waits_in released held slot = has_bit held slot || has_bit released slot
 
 abbrev pub unreleased_in : ℕ → ℕ → ℕ → ℕ → Bool
-unreleased_in released held mask slot = contains_slot mask slot && not (waits_in released held slot)
+unreleased_in released held mask slot = has_bit mask slot && not (waits_in released held slot)
 
 abbrev pub missed_in : ℕ → ℕ → ℕ → ℕ → ℕ → Bool
 missed_in released ends held mask slot =
-    waits_in released held slot && contains_slot ends slot && not (contains_slot mask slot)
+    waits_in released held slot && has_bit ends slot && not (has_bit mask slot)
 
 -- what is kept of what the slots cost: there is a place for each bit of two words, and no slot costs more than 255 bit
 -- times
@@ -30,7 +30,7 @@ pub record AreCosts (costs : List ℕ) : Type 0 where
 
 -- what the slots of a set cost together, in bit times
 abbrev pub width_of : List ℕ → ℕ → ℕ
-width_of costs mask = sum_where most_slots (contains_slot mask) (λ slot. slice_index_or costs slot 0)
+width_of costs mask = sum_where most_slots (has_bit mask) (λ slot. slice_index_or costs slot 0)
 
 -- the cycle has no breach
 pub record IsGoodIn (costs : List ℕ) (window released ends held mask : ℕ) : Type 0 where

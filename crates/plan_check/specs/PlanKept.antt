@@ -7,7 +7,7 @@ use Rattle.std.specs.Option.{option_map_or}
 use Rattle.requirement_table.specs.declared.entries.Placed.{Placed}
 use Rattle.requirement_table.specs.Flags.{IsFlaggedOnce}
 use Rattle.requirement_table.specs.Instance.{Exists, IsLastCycle, MaySend, deadline_of, release_of}
-use Rattle.requirement_table.specs.Slots.{contains_slot, most_slots}
+use Rattle.bit_sets.specs.Sets.{has_bit, most_slots}
 use Rattle.requirement_table.specs.Table.{IsHeldFrom, free_from, held_before, width_in}
 use Rattle.plan_check.specs.Certificate.{CertificateView, flags_of, length_of}
 
@@ -61,7 +61,7 @@ is_bad placed certificate slot =
 -- not flagged before it
 abbrev pub is_held : List Placed → CertificateView → ℕ → ℕ → Bool
 is_held placed certificate n slot =
-    held_before placed (flags_of certificate) certificate.from (contains_slot certificate.pending) n slot
+    held_before placed (flags_of certificate) certificate.from (has_bit certificate.pending) n slot
 
 -- one of two holds, and the other does not
 abbrev pub differ : Bool → Bool → Bool
@@ -82,4 +82,4 @@ pub record HasGoodLoop (placed : List Placed) (certificate : CertificateView) : 
 -- the certificate keeps the table for ever, and its loop shows it
 pub record IsTaken (placed : List Placed) (window : ℕ) (certificate : CertificateView) : Type 0 where
   pub loop : HasGoodLoop placed certificate
-  pub kept : IsPlanKept placed window certificate.from (contains_slot certificate.pending) (flags_of certificate)
+  pub kept : IsPlanKept placed window certificate.from (has_bit certificate.pending) (flags_of certificate)

@@ -3,7 +3,7 @@
 ghost use Rattle.std.specs.Prelude.{◌≡◌, ℕ, ◌+◌, ◌*◌, ◌^◌, ◌<◌, ◌≤◌, ◌&&◌, true, false, nat_lt, All, IfSome, is_some, slice_get};
 ghost use Rattle.profile.specs.Limits.{cycles_end};
 ghost use Rattle.requirement_table.specs.Instance.{released_by};
-ghost use Rattle.requirement_table.specs.Slots.{most_slots};
+ghost use Rattle.bit_sets.specs.Sets.{most_slots};
 ghost use Rattle.requirement_table.specs.Table.{IsInRange, IsWellPlaced, is_over};
 ghost use Rattle.plan_check.specs.Blocks.{AreMarked, IsClearFor, IsFilled, IsFilledFor, IsLast, IsSameBut, ends_by, meets};
 ghost use Rattle.plan_check.specs.Places.{AreCurrent, AreSlotsBelow, IsCurrent};
@@ -11,8 +11,8 @@ ghost use Rattle.plan_check.specs.PlanKept.{goes_round};
 
 use crate::places::{Places, goes_round};
 use crate::widths::Costs;
+use bit_sets::union;
 use requirement_table::{Mask, Placed, cost};
-use slot_sets::union;
 
 /// The most cycles of a block.
 pub const BLOCK_CYCLES: u64 = 256;

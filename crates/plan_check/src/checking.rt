@@ -5,7 +5,7 @@ ghost use Rattle.std.specs.Prelude.{IsOk, IfErr, IfOk, IfSome, length};
 ghost use Rattle.std.specs.List.{list_any};
 ghost use Rattle.profile.specs.Limits.{cycles_end};
 ghost use Rattle.requirement_table.specs.Instance.{release_of};
-ghost use Rattle.requirement_table.specs.Slots.{contains_slot, most_slots};
+ghost use Rattle.bit_sets.specs.Sets.{has_bit, most_slots};
 ghost use Rattle.requirement_table.specs.Table.{IsWellPlaced, instance_in, is_last_in};
 ghost use Rattle.plan_check.specs.Blocks.{IsFilled};
 ghost use Rattle.plan_check.specs.Breaches.{IsBreach, IsGoodAt};
@@ -19,8 +19,8 @@ use crate::certificate::Certificate;
 use crate::places::{goes_round, move_places, place_at, release_at, slots_of};
 use crate::sets::{least, symmetric_difference};
 use crate::widths::{Costs, width};
+use bit_sets::{common, difference, union};
 use requirement_table::{MOST_SLOTS, Mask, Placed};
-use slot_sets::{common, difference, union};
 
 /// Checks that a certificate keeps the placed entries for ever within a window of `w` bit times.
 ///
@@ -33,7 +33,7 @@ use slot_sets::{common, difference, union};
 /// The first breach.
 pub fn check(placed: &[Placed], w: u32, certificate: &Certificate) -> Result<(), Breach>
     requires well_placed { IsWellPlaced placed.now }
-    requires pending { HasPending placed.now certificate.now.from (contains_slot certificate.now.pending) }
+    requires pending { HasPending placed.now certificate.now.from (has_bit certificate.now.pending) }
     requires cycles { certificate.now.from + length certificate.now.masks ≤ cycles_end }
     ensures ok { IsOk result ↔ IsTaken placed.now w certificate.now }
     ensures breach { IfErr result (λ breach. IsBreach placed.now w certificate.now breach) }
@@ -51,7 +51,7 @@ pub fn check(placed: &[Placed], w: u32, certificate: &Certificate) -> Result<(),
 /// The slots with an entry that doesn't go round with the cycles from `first` on, `length` at a time.
 fn bad_slots(placed: &[Placed], first: u64, length: u64) -> Mask
     requires well_placed { IsWellPlaced placed.now }
-    ensures slots { (slot : ℕ) → contains_slot result slot
+    ensures slots { (slot : ℕ) → has_bit result slot
         ≡ list_any (λ p. nat_eq p.entry.slot slot && not (goes_round first length p)) placed.now }
 {
     let mut bad = Mask::empty();
@@ -73,14 +73,14 @@ fn check_cycles(
     certificate: &Certificate,
 ) -> Result<(Mask, Mask), Breach>
     requires well_placed { IsWellPlaced placed.now }
-    requires pending { HasPending placed.now certificate.now.from (contains_slot certificate.now.pending) }
+    requires pending { HasPending placed.now certificate.now.from (has_bit certificate.now.pending) }
     requires cycles { certificate.now.from + length certificate.now.masks ≤ cycles_end }
     requires rounds { NoSlot (is_bad placed.now certificate.now) }
     ensures before { IfOk result (λ r. (slot : ℕ) → slot < most_slots
-        → contains_slot r.0 slot
+        → has_bit r.0 slot
         ≡ is_held placed.now certificate.now (certificate.now.first - certificate.now.from) slot) }
     ensures behind { IfOk result (λ r. (slot : ℕ) → slot < most_slots
-        → contains_slot r.1 slot
+        → has_bit r.1 slot
         ≡ is_held placed.now certificate.now
         (certificate.now.first - certificate.now.from + length_of certificate.now) slot) }
     ensures good { IfOk result (λ _. (n : ℕ) → n < length certificate.now.masks
@@ -147,7 +147,7 @@ fn check_block(
     held: Mask,
 ) -> Result<Mask, Breach>
     requires well_placed { IsWellPlaced placed.now }
-    requires pending { HasPending placed.now certificate.now.from (contains_slot certificate.now.pending) }
+    requires pending { HasPending placed.now certificate.now.from (has_bit certificate.now.pending) }
     requires cycles { certificate.now.from + length certificate.now.masks ≤ cycles_end }
     requires rounds { NoSlot (is_bad placed.now certificate.now) }
     requires certificate { IsCertificate certificate.now.from certificate.now.first certificate.now.masks }
@@ -156,10 +156,10 @@ fn check_block(
     requires within { cycle + count ≤ certificate.now.from + length certificate.now.masks }
     requires filled { IsFilled placed.now cycle count block.now }
     requires held { (slot : ℕ) → slot < most_slots
-        → contains_slot held slot ≡ is_held placed.now certificate.now (cycle - certificate.now.from) slot }
+        → has_bit held slot ≡ is_held placed.now certificate.now (cycle - certificate.now.from) slot }
     requires good { (n : ℕ) → n < cycle - certificate.now.from → IsGoodAt placed.now w certificate.now n }
     ensures held { IfOk result (λ left. (slot : ℕ) → slot < most_slots
-        → contains_slot left slot ≡ is_held placed.now certificate.now (cycle + count - certificate.now.from) slot) }
+        → has_bit left slot ≡ is_held placed.now certificate.now (cycle + count - certificate.now.from) slot) }
     ensures good { IfOk result (λ _. (n : ℕ) → n < cycle + count - certificate.now.from
         → IsGoodAt placed.now w certificate.now n) }
     ensures breach { IfErr result (λ breach. IsBreach placed.now w certificate.now breach) }
@@ -198,10 +198,10 @@ fn check_cycle(
     mask: Mask,
 ) -> Result<Mask, Breach>
     requires well_placed { IsWellPlaced placed.now }
-    requires ends { (slot : ℕ) → slot < most_slots → contains_slot ends slot ≡ is_last_in placed.now cycle slot }
+    requires ends { (slot : ℕ) → slot < most_slots → has_bit ends slot ≡ is_last_in placed.now cycle slot }
     ensures good { IfOk result (λ _. IsGoodIn costs.now w released ends held mask) }
     ensures held { IfOk result (λ left. (slot : ℕ) → slot < most_slots
-        → contains_slot left slot ≡ (waits_in released held slot && not (contains_slot mask slot))) }
+        → has_bit left slot ≡ (waits_in released held slot && not (has_bit mask slot))) }
     ensures breach { IfErr result (λ breach.
         IsBreachIn placed.now costs.now w cycle released ends held mask breach) }
 {

@@ -2,7 +2,7 @@
 
 ghost use Rattle.std.specs.Prelude.{◌≡◌, ℕ, ◌<◌, List, All, None};
 ghost use Rattle.requirement_table.specs.declared.entries.Placed.{Placed};
-ghost use Rattle.requirement_table.specs.Slots.{contains_slot};
+ghost use Rattle.bit_sets.specs.Sets.{has_bit};
 ghost use Rattle.requirement_table.specs.Table.{IsWellPlaced};
 ghost use Rattle.plan_check.specs.declared.breach.Breach.{Breach};
 ghost use Rattle.plan_check.specs.declared.plan_runs.Run.{Run};
@@ -23,13 +23,13 @@ pub fn one_breach()
 /// certificate without a breach is taken. So `yes` and a breach never stand for one certificate, and one of them does.
 pub fn taken_without_breach()
     ensures none { (placed : List Placed) (window : ℕ) (certificate : CertificateView) (breach : Breach)
-        → IsWellPlaced placed → HasPending placed certificate.from (contains_slot certificate.pending)
+        → IsWellPlaced placed → HasPending placed certificate.from (has_bit certificate.pending)
         → IsTaken placed window certificate → ¬ IsBreach placed window certificate breach }
     ensures good { (placed : List Placed) (window : ℕ) (certificate : CertificateView) (n : ℕ)
-        → IsWellPlaced placed → HasPending placed certificate.from (contains_slot certificate.pending)
+        → IsWellPlaced placed → HasPending placed certificate.from (has_bit certificate.pending)
         → IsTaken placed window certificate → IsGoodAt placed window certificate n }
     ensures taken { (placed : List Placed) (window : ℕ) (certificate : CertificateView)
-        → IsWellPlaced placed → HasPending placed certificate.from (contains_slot certificate.pending)
+        → IsWellPlaced placed → HasPending placed certificate.from (has_bit certificate.pending)
         → IsCertificate certificate.from certificate.first certificate.masks
         → ((breach : Breach) → ¬ IsBreach placed window certificate breach)
         → IsTaken placed window certificate }

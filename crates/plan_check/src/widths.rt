@@ -1,7 +1,7 @@
 //! What sets of slots cost.
 
 ghost use Rattle.std.specs.Prelude.{◌≡◌, ◌≢◌, ℕ, ◌+◌, ◌*◌, ◌<◌, ◌≤◌, slice_index_or};
-ghost use Rattle.requirement_table.specs.Slots.{contains_slot, sum_where};
+ghost use Rattle.bit_sets.specs.Sets.{has_bit, sum_where};
 ghost use Rattle.plan_check.specs.Cycles.{width_of};
 
 use requirement_table::Mask;
@@ -73,7 +73,7 @@ pub fn width(costs: &Costs, mask: Mask) -> u32
 /// What the slots from `base` on cost together whose bits are set in a word. Each turn takes the lowest set bit.
 fn word_width(costs: &Costs, base: usize, word: u64) -> u32
     requires base { base ≤ 64 }
-    ensures width { result ≡ sum_where 64 (contains_slot word) (λ slot. slice_index_or costs.now (base + slot) 0) }
+    ensures width { result ≡ sum_where 64 (has_bit word) (λ slot. slice_index_or costs.now (base + slot) 0) }
     ensures bound { result ≤ 255 * 64 }
 {
     let mut sum = 0;

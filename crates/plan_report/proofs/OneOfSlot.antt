@@ -6,7 +6,7 @@ use Rattle.std.proofs.lemmas.Option.{slice_get_within, get_or_from_slice_get}
 use Rattle.requirement_table.specs.declared.entries.Placed.{Placed}
 use Rattle.requirement_table.specs.Instance.{MaySend, instance_of}
 use Rattle.requirement_table.specs.Table.{IsInRange, IsWellPlaced, GoesBefore, free_from, is_over}
-use Rattle.requirement_table.specs.Slots.{most_slots}
+use Rattle.bit_sets.specs.Sets.{most_slots}
 use Rattle.requirement_table.proofs.Shared.{MaySend-from_instance, instance_of-sent, one_instance}
 use Rattle.plan_report.specs.Current.{ArePassed, IsCurrent, IsTheOne}
 

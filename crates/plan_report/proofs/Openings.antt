@@ -7,10 +7,10 @@ use Rattle.std.proofs.lemmas.List.Sums.{sum_by_push}
 use Rattle.requirement_table.specs.declared.entries.Placed.{Placed}
 use Rattle.requirement_table.specs.Instance.{Instance, worst_of}
 use Rattle.requirement_table.specs.Opening.{Opening, width_of}
-use Rattle.requirement_table.specs.Slots.{contains_slot, most_slots}
+use Rattle.bit_sets.specs.Sets.{has_bit, most_slots}
 use Rattle.requirement_table.specs.Table.{instance_in, width_in, worst_in}
 use Rattle.change_protocol.specs.Applied.{without_end}
-use Rattle.planner_policies.proofs.Shared.{sum_where-costs}
+use Rattle.bit_sets.proofs.Shared.{sum_where-costs}
 use Rattle.admission_rules.specs.declared.Rules.{Rules}
 use Rattle.master_core.specs.declared.event.Event.{Event}
 use Rattle.master_core.specs.declared.event.Event.TheVariants.{Submit, Look, Open}
@@ -27,10 +27,10 @@ unended None = refl
 unended (Some i) = refl
 
 -- so the opening has the same width
-width-same : (placed : List Placed) (o : Opening) → IsSameIn placed o → width_in placed o.cycle (contains_slot o.mask) ≡ width_of o
+width-same : (placed : List Placed) (o : Opening) → IsSameIn placed o → width_in placed o.cycle (has_bit o.mask) ≡ width_of o
 width-same placed o same =
-    sum_where-costs most_slots (contains_slot o.mask) (worst_in placed o.cycle) (worst_in o.placed o.cycle)
-    (λ s below. sym (unended (instance_in placed s o.cycle)) ∙ ap (λ i. option_map_or worst_of i 0) (sym (same s)) ∙ unended (instance_in o.placed s o.cycle))
+    sum_where-costs most_slots (has_bit o.mask) (worst_in placed o.cycle) (worst_in o.placed o.cycle)
+    (λ s below _. sym (unended (instance_in placed s o.cycle)) ∙ ap (λ i. option_map_or worst_of i 0) (sym (same s)) ∙ unended (instance_in o.placed s o.cycle))
 
 next_of-push : (before : List Event) (event : Event) → next_of (before ++ event ∷ []) ≡ next_of before + cond (is_open event) 1 0
 next_of-push before event = sum_by_push (λ e. cond (is_open e) 1 0) before event
@@ -48,7 +48,7 @@ widths-after rules placed before (Look caller looked ∷ later) next is right sa
 widths-after rules placed before (Open cycle mask ∷ later) next is right same =
     let this : Opening = record { cycle = cycle; mask = mask; placed = placed_of before } in
     let now : next ≡ cycle = is ∙ sym right.0.0 in
-    ap (λ n. width_in placed n (contains_slot mask) ∷ opened_widths placed (next + 1) later) now
+    ap (λ n. width_in placed n (has_bit mask) ∷ opened_widths placed (next + 1) later) now
     ∙ ap (λ w. w ∷ opened_widths placed (next + 1) later)
     (width-same placed this (All-head (IsSameIn placed) this (openings_after (before ++ Open cycle mask ∷ []) later) same))
     ∙ ap (λ l. width_of this ∷ l)

@@ -7,11 +7,11 @@ use Rattle.std.proofs.lemmas.Option.{slice_get-get_or}
 use Rattle.std.proofs.Math.Seq.{drop-cons}
 use Rattle.requirement_table.specs.declared.entries.Placed.{Placed}
 use Rattle.requirement_table.specs.Instance.{Instance, MaySend, latest, release_of, worst, worst_of}
-use Rattle.requirement_table.specs.Slots.{contains_slot, most_slots, sum_where}
+use Rattle.bit_sets.specs.Sets.{has_bit, most_slots, sum_where}
 use Rattle.requirement_table.specs.Table.{IsInRange, IsWellPlaced, free_from, instance_in, is_over, worst_in}
-use Rattle.requirement_table.proofs.Shared.{instance_in-found, instance_in-sound, instance_of-sent, period-parts, sum_where-same}
-use Rattle.slot_sets.specs.Least.{least_where}
-use Rattle.slot_sets.proofs.Shared.{IsLeastBelow, least_where-least}
+use Rattle.requirement_table.proofs.Shared.{instance_in-found, instance_in-sound, instance_of-sent, period-parts}
+use Rattle.bit_sets.proofs.Shared.{none-of, sum_where-none, sum_where-without}
+use Rattle.bit_sets.specs.Least.{least_where}
 use Rattle.plan_report.specs.Current.{ArePassed, IsCurrent, IsTheOne}
 use Rattle.plan_report.specs.declared.current.Current.{Current}
 use Rattle.master_core.specs.declared.event.Event.{Event}
@@ -80,50 +80,18 @@ worst-none placed slot cycle well none = by (instance_in placed slot cycle) (ins
 
 -- Sets of slots
 
--- the least slot of a set is one of its slots
-pub least-in : (set slot : ℕ) → least_where most_slots (contains_slot set) ≡ Some slot → IsLeastBelow most_slots (contains_slot set) (Some slot)
-least-in set slot is = subst (IsLeastBelow most_slots (contains_slot set)) is (least_where-least most_slots (contains_slot set))
-
-sum-nothing : (n : ℕ) (p : ℕ → Bool) (f : ℕ → ℕ) → ((s : ℕ) → s < n → p s ≡ false) → sum_where n p f ≡ 0
-unfolding sum_where
-sum-nothing zero p f none = refl
-sum-nothing (suc n) p f none =
-    let front = sum-nothing n p f (λ s below. none s (omega arith)) in
-    let here : cond (p n) (f n) 0 ≡ 0 = cond-false (p n) (f n) 0 (none n (omega arith)) in
-    omega arith
-
 -- a set without a slot costs nothing
-pub sum-empty : (set : ℕ) (f : ℕ → ℕ) → least_where most_slots (contains_slot set) ≡ None → sum_where most_slots (contains_slot set) f ≡ 0
-sum-empty set f none =
-    let empty : IsLeastBelow most_slots (contains_slot set) None =
-    subst (IsLeastBelow most_slots (contains_slot set)) none (least_where-least most_slots (contains_slot set)) in
-    sum-nothing most_slots (contains_slot set) f empty
-
-sum-but_one : (n slot : ℕ) (p q : ℕ → Bool) (f : ℕ → ℕ) → slot < n → p slot ≡ true → q slot ≡ false
-    → ((s : ℕ) → s < n → (s ≡ slot → ⊥) → q s ≡ p s) → sum_where n q f + f slot ≡ sum_where n p f
-unfolding sum_where
-sum-but_one zero slot p q f below has lacks others = absurd (omega arith)
-sum-but_one (suc n) slot p q f below has lacks others =
-    elim (cases_eq n slot) as (λ _. (sum_where n q f + cond (q n) (f n) 0) + f slot ≡ sum_where n p f + cond (p n) (f n) 0) [
-      | inl same ↦
-          let front : sum_where n q f ≡ sum_where n p f = sum_where-same n q p f (λ s h. others s (omega arith) (λ is. omega arith)) in
-          let with_it : cond (p n) (f n) 0 ≡ f slot = subst (λ k. cond (p k) (f k) 0 ≡ f slot) (sym same) (cond-true (p slot) (f slot) 0 has) in
-          let without_it : cond (q n) (f n) 0 ≡ 0 = subst (λ k. cond (q k) (f k) 0 ≡ 0) (sym same) (cond-false (q slot) (f slot) 0 lacks) in
-          omega arith
-      | inr other ↦
-          let front = sum-but_one n slot p q f (omega arith) has lacks (λ s h. others s (omega arith)) in
-          let here : cond (q n) (f n) 0 ≡ cond (p n) (f n) 0 = ap (λ b. cond b (f n) 0) (others n (omega arith) other) in
-          omega arith
-    ]
+pub sum-empty : (set : ℕ) (f : ℕ → ℕ) → least_where most_slots (has_bit set) ≡ None → sum_where most_slots (has_bit set) f ≡ 0
+sum-empty set f none = sum_where-none most_slots (has_bit set) f (none-of set none)
 
 -- what a set costs without one of its slots, and what this slot costs
-pub sum-without : (set rest slot : ℕ) (f : ℕ → ℕ) → slot < most_slots → contains_slot set slot ≡ true
-    → ((s : ℕ) → contains_slot rest s ≡ (not (s == slot) && contains_slot set s))
-    → sum_where most_slots (contains_slot rest) f + f slot ≡ sum_where most_slots (contains_slot set) f
+pub sum-without : (set rest slot : ℕ) (f : ℕ → ℕ) → slot < most_slots → has_bit set slot ≡ true
+    → ((s : ℕ) → has_bit rest s ≡ (not (s == slot) && has_bit set s))
+    → sum_where most_slots (has_bit rest) f + f slot ≡ sum_where most_slots (has_bit set) f
 sum-without set rest slot f below has without =
-    sum-but_one most_slots slot (contains_slot set) (contains_slot rest) f below has
-    (without slot ∙ ap (λ b. not b && contains_slot set slot) (eq-eqb slot slot refl))
-    (λ s _ other. without s ∙ ap (λ b. not b && contains_slot set s) (ne_eqb s slot other))
+    sum_where-without most_slots slot (has_bit set) (has_bit rest) f below has
+    (without slot ∙ ap (λ b. not b && has_bit set slot) (eq-eqb slot slot refl))
+    (λ s _ other. without s ∙ ap (λ b. not b && has_bit set s) (ne_eqb s slot other))
 
 -- Events
 

@@ -3,7 +3,7 @@
 use Rattle.std.specs.Prelude.{◌≡◌, ℕ, ◌+◌, ◌<◌, ◌≤◌, if◌then◌else◌, List, [], ◌∷◌, ◌++◌}
 use Rattle.std.specs.List.{sum}
 use Rattle.requirement_table.specs.declared.entries.Placed.{Placed}
-use Rattle.requirement_table.specs.Slots.{contains_slot}
+use Rattle.bit_sets.specs.Sets.{has_bit}
 use Rattle.requirement_table.specs.Table.{width_in}
 use Rattle.master_core.specs.declared.event.Event.{Event}
 use Rattle.master_core.specs.declared.event.Event.TheVariants.{Submit, Look, Open}
@@ -16,7 +16,7 @@ use Rattle.plan_report.specs.declared.load.KnownWidth.{KnownWidth}
 abbrev pub opened_width : List Placed → ℕ → Event → List ℕ
 opened_width placed next (Submit caller change from verdict trail) = []
 opened_width placed next (Look caller looked) = []
-opened_width placed next (Open cycle mask) = width_in placed next (contains_slot mask) ∷ []
+opened_width placed next (Open cycle mask) = width_in placed next (has_bit mask) ∷ []
 
 -- those of the cycles that events open, from cycle `next` on
 abbrev pub opened_widths : List Placed → ℕ → List Event → List ℕ
@@ -30,4 +30,4 @@ load_of widths = record { least = least_of widths; greatest = greatest_of widths
 
 -- from the cycle `next` on, as long as it is known, it is the width of its slots
 abbrev pub IsWidthFrom : List Placed → ℕ → KnownWidth → Type 0
-IsWidthFrom placed next width = (c : ℕ) → next ≤ c → c < width.until → width_in placed c (contains_slot width.mask) ≡ width.bits
+IsWidthFrom placed next width = (c : ℕ) → next ≤ c → c < width.until → width_in placed c (has_bit width.mask) ≡ width.bits

@@ -3,7 +3,7 @@
 
 ghost use Rattle.std.specs.Prelude.{◌≡◌, ℕ, ◌<◌, ◌≤◌, ◌==◌, ◌&&◌, not, List, Some, false, true, slice_get};
 ghost use Rattle.requirement_table.specs.declared.entries.Placed.{Placed};
-ghost use Rattle.requirement_table.specs.Slots.{most_slots};
+ghost use Rattle.bit_sets.specs.Sets.{most_slots};
 ghost use Rattle.requirement_table.specs.Table.{IsInRange, IsWellPlaced, free_from, is_over};
 ghost use Rattle.plan_report.specs.Current.{ArePassed, IsCurrent};
 

@@ -3,16 +3,16 @@
 
 ghost use Rattle.std.specs.Prelude.{◌≡◌, ℕ, ◌+◌, ◌*◌, ◌^◌, ◌<◌, ◌≤◌, ◌++◌, ◌∷◌, [], List};
 ghost use Rattle.requirement_table.specs.Instance.{MaySend, worst};
-ghost use Rattle.requirement_table.specs.Slots.{contains_slot, most_slots};
+ghost use Rattle.bit_sets.specs.Sets.{has_bit, most_slots};
 ghost use Rattle.requirement_table.specs.Table.{IsInRange, IsWellPlaced, width_in, worst_in};
 ghost use Rattle.plan_report.specs.Current.{ArePassed};
 ghost use Rattle.plan_report.specs.Opened.{IsWidthFrom, load_of, opened_width, opened_widths};
 
 use crate::current::Places;
 use crate::tally::{greater, lesser};
+use bit_sets::least_slot;
 use master_core::Event;
 use requirement_table::{Mask, Placed, cost};
-use slot_sets::least_slot;
 
 /// The least and the greatest of some widths, where there are any, and their sum, in bit times.
 #[derive(Clone, Copy, Debug)]
@@ -133,7 +133,7 @@ fn renew(known: &mut KnownWidth, places: &mut Places, placed: &[Placed], cycle: 
     requires near { cycle < 2 ^ 63 }
     ensures passed { ArePassed placed.now places.new.first cycle }
     ensures known { IsWidthFrom placed.now cycle known.new }
-    ensures width { known.new.bits ≡ width_in placed.now cycle (contains_slot mask) }
+    ensures width { known.new.bits ≡ width_in placed.now cycle (has_bit mask) }
     ensures range { known.new.bits ≤ most_slots * worst 8 }
 {
     if cycle < known.until && known.mask == mask {
@@ -149,7 +149,7 @@ fn width(places: &mut Places, placed: &[Placed], cycle: u64, mask: Mask) -> Know
     requires near { cycle < 2 ^ 63 }
     ensures passed { ArePassed placed.now places.new.first cycle }
     ensures known { IsWidthFrom placed.now cycle result }
-    ensures width { result.bits ≡ width_in placed.now cycle (contains_slot mask) }
+    ensures width { result.bits ≡ width_in placed.now cycle (has_bit mask) }
     ensures range { result.bits ≤ most_slots * worst 8 }
 {
     let mut bits = 0;

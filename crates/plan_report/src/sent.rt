@@ -4,7 +4,7 @@ ghost use Rattle.std.specs.Prelude.{◌≡◌, ℕ, ◌+◌, ◌-◌, ◌^◌, �
 ghost use Rattle.std.specs.Prelude.{List, All, IfOk, IfSome, MatchOption, Some, length, slice_set};
 ghost use Rattle.profile.specs.Limits.{first_identifier};
 ghost use Rattle.can_frame.specs.declared.data_frame.TimedFrame.{TimedFrame};
-ghost use Rattle.requirement_table.specs.Slots.{most_slots};
+ghost use Rattle.bit_sets.specs.Sets.{most_slots};
 ghost use Rattle.requirement_table.specs.Table.{IsWellPlaced};
 ghost use Rattle.bus_trace.specs.Log.{triggers_in, triggers_with};
 ghost use Rattle.plan_report.specs.Current.{ArePassed};

@@ -5,9 +5,9 @@ use Rattle.std.proofs.lemmas.Bool.{both_ways, cases_Bool, eq-eqb, eqb-true, le-l
 use Rattle.std.proofs.lemmas.List.Elements.{All-cons, All-nil, All-weaker}
 use Rattle.std.proofs.lemmas.List.Sums.{sum_by-cons}
 use Rattle.requirement_table.specs.declared.entries.Placed.{Placed}
-use Rattle.requirement_table.specs.Slots.{contains_slot, most_slots}
+use Rattle.bit_sets.specs.Sets.{has_bit, most_slots}
 use Rattle.requirement_table.specs.Table.{IsWellPlaced}
-use Rattle.requirement_table.proofs.Shared.{contains_slot-none}
+use Rattle.bit_sets.proofs.Shared.{has_bit-none, turned-eq}
 use Rattle.planner_policies.specs.declared.Fill.{Fill}
 use Rattle.planner_policies.specs.declared.Fill.TheVariants.{Prefix, Skip}
 use Rattle.planner_policies.specs.declared.due.Due.{Due}
@@ -61,7 +61,7 @@ split-all plan c before mask width all =
 pub all-planned : (plan : Planning) (c : ℕ) (before : ℕ → Bool) (mask width next : ℕ) → IsAllFitting plan c before mask width → next ≡ 0
     → IsPlanned plan c before mask width next
 all-planned plan c before mask width next all none =
-    let empty : IsSetOf next [] = record { slots = λ slot. ap (λ m. contains_slot m slot) none ∙ contains_slot-none slot; below = omega arith } in
+    let empty : IsSetOf next [] = record { slots = λ slot. ap (λ m. has_bit m slot) none ∙ has_bit-none slot; below = omega arith } in
     split-planned plan c before all.line [] (split-all plan c before mask width all) mask width next all.slots all.cost all.fits empty
     (All-nil (λ due. due.last ≢ c))
 
@@ -134,11 +134,6 @@ any-between p (x ∷ front) due back =
     turned true false r = refl
     turned false b r = refl
 
-pub turned-eq : (one other : ℕ) → nat_eq one other ≡ nat_eq other one
-turned-eq one other =
-    same-test (nat_eq one other) (nat_eq other one) (λ same. eq-eqb other one (sym (eqb-true one other same)))
-    (λ same. eq-eqb one other (sym (eqb-true other one same)))
-
 -- what is pending of some rows fits the window
 pub record IsGathered (plan : Planning) (c : ℕ) (before : ℕ → Bool) (rows : List Placed) (mask width : ℕ) : Type 0 where
   pub line : List Due
@@ -147,7 +142,7 @@ pub record IsGathered (plan : Planning) (c : ℕ) (before : ℕ → Bool) (rows 
   pub cost : width ≡ cost_of line
   pub fits : width ≤ plan.window
 
-pub gathered-start : (plan : Planning) (c : ℕ) (before : ℕ → Bool) (mask : ℕ) → ((slot : ℕ) → contains_slot mask slot ≡ false)
+pub gathered-start : (plan : Planning) (c : ℕ) (before : ℕ → Bool) (mask : ℕ) → ((slot : ℕ) → has_bit mask slot ≡ false)
     → IsGathered plan c before [] mask 0
 gathered-start plan c before mask empty = record {
   line = [];
@@ -159,7 +154,7 @@ gathered-start plan c before mask empty = record {
 
 pub gathered-more : (plan : Planning) (c : ℕ) (before : ℕ → Bool) (rows : List Placed) (k : ℕ) (d : Placed) (mask width with' : ℕ) (due : Due)
     → k < length rows → (so_far : IsGathered plan c before (take k rows) mask width) → IsMore plan c before rows k d so_far.line due
-    → due.cost ≤ plan.window - width → ((slot : ℕ) → contains_slot with' slot ≡ (nat_eq slot due.slot || contains_slot mask slot))
+    → due.cost ≤ plan.window - width → ((slot : ℕ) → has_bit with' slot ≡ (nat_eq slot due.slot || has_bit mask slot))
     → IsGathered plan c before (take (k + 1) rows) with' (width + due.cost)
 gathered-more plan c before rows k d mask width with' due within so_far more small made =
     let line = so_far.line in
@@ -173,7 +168,7 @@ gathered-more plan c before rows k d mask width with' due within so_far more sma
       line = place.after;
       found = line_of-more plan c before rows k d line place.after due within so_far.found more put;
       slots = λ slot. made slot
-          ∙ ap (λ b. b || contains_slot mask slot) (turned-eq slot due.slot)
+          ∙ ap (λ b. b || has_bit mask slot) (turned-eq slot due.slot)
           ∙ ap (λ b. nat_eq due.slot slot || b) (so_far.slots slot ∙ ap (list_any (has_slot slot)) put.was)
           ∙ sym (any-between (has_slot slot) put.front due put.back)
           ∙ ap (list_any (has_slot slot)) (sym put.is);
@@ -194,7 +189,7 @@ gathered-none plan c before rows k d mask width well within stands so_far none =
 
 pub gathered-whole : (plan : Planning) (c pending : ℕ) (rows : List Placed) (mask width : ℕ) → IsWellPlaced plan.placed
     → IsPermutation plan.placed rows → IsValid plan.placed c pending → mask < 2 ^ most_slots
-    → IsGathered plan c (contains_slot pending) rows mask width → IsAllFitting plan c (contains_slot pending) mask width
+    → IsGathered plan c (has_bit pending) rows mask width → IsAllFitting plan c (has_bit pending) mask width
 gathered-whole plan c pending rows mask width well same valid below all = record {
   line = all.line;
   whole = whole_line-of plan c pending rows all.line well same valid all.found;

@@ -4,9 +4,9 @@ use Rattle.std.specs.List.{sum_by}
 use Rattle.std.proofs.lemmas.Bool.{and_from, and_parts, eq-eqb, eqb-true, false_from_ne_true}
 use Rattle.std.proofs.lemmas.List.Elements.{All-contains, All-map, All-weaker}
 use Rattle.std.proofs.lemmas.List.Folds.{list_any-from_Any}
-use Rattle.requirement_table.specs.Slots.{set_of, most_slots}
+use Rattle.bit_sets.specs.Sets.{set_of, most_slots}
 use Rattle.requirement_table.specs.Table.{instance_in, is_last_in, width_in, worst_in}
-use Rattle.requirement_table.proofs.Shared.{set_of-from_slots, sum_where-same}
+use Rattle.bit_sets.proofs.Shared.{set_of-from_slots, sum_where-same}
 use Rattle.planner_policies.specs.declared.due.Due.{Due}
 use Rattle.planner_policies.specs.declared.state.Miss.{Miss}
 use Rattle.planner_policies.specs.Due.{IsDueIn, IsLeastMissed, IsLineTaken, IsPlanned, IsSetOf, IsWholeLine, left_of, taken_of}

@@ -5,7 +5,7 @@ use Rattle.std.proofs.lemmas.Bool.{eq-eqb, eqb-true, le-leb, lt-leb}
 use Rattle.std.proofs.lemmas.List.{append-nil}
 use Rattle.std.proofs.lemmas.List.Folds.{list_any-append}
 use Rattle.std.proofs.lemmas.List.Sums.{sum_by-append, sum_by-cons}
-use Rattle.requirement_table.specs.Slots.{contains_slot}
+use Rattle.bit_sets.specs.Sets.{has_bit}
 use Rattle.planner_policies.specs.declared.Fill.TheVariants.{Skip}
 use Rattle.planner_policies.specs.declared.due.Due.{Due}
 use Rattle.planner_policies.specs.declared.state.Miss.{Miss}
@@ -17,7 +17,7 @@ use Rattle.planner_policies.proofs.Missed.{least_missed-with}
 
 -- the set has the slots of the instances
 abbrev pub HasSlots : ℕ → List Due → Type 0
-HasSlots mask line = (slot : ℕ) → contains_slot mask slot ≡ list_any (has_slot slot) line
+HasSlots mask line = (slot : ℕ) → has_bit mask slot ≡ list_any (has_slot slot) line
 
 -- what is taken of the instances so far, and what is left
 pub record HasGone (window c : ℕ) (line : List Due) (width mask others : ℕ) (least : Option Miss) : Type 0 where
@@ -45,7 +45,7 @@ module _ (window c : ℕ) (line : List Due) (d : Due) (width mask others : ℕ) 
   room = let is = gone.width_is in omega arith
 
   -- one more instance that fits
-  pub gone-take : (with' : ℕ) → d.cost ≤ window - width → ((slot : ℕ) → contains_slot with' slot ≡ (nat_eq slot d.slot || contains_slot mask slot))
+  pub gone-take : (with' : ℕ) → d.cost ≤ window - width → ((slot : ℕ) → has_bit with' slot ≡ (nat_eq slot d.slot || has_bit mask slot))
       → HasGone window c (line ++ d ∷ []) (width + d.cost) with' others least
   gone-take with' fits made =
       let small : nat_le d.cost (window - cost_of (taken_of Skip window line)) ≡ true = rw room (le-leb d.cost (window - width) fits) in
@@ -67,7 +67,7 @@ module _ (window c : ℕ) (line : List Due) (d : Due) (width mask others : ℕ) 
       }
 
   -- one more instance that does not fit
-  pub gone-leave : (with' : ℕ) → window - width < d.cost → ((slot : ℕ) → contains_slot with' slot ≡ (nat_eq slot d.slot || contains_slot others slot))
+  pub gone-leave : (with' : ℕ) → window - width < d.cost → ((slot : ℕ) → has_bit with' slot ≡ (nat_eq slot d.slot || has_bit others slot))
       → HasGone window c (line ++ d ∷ []) width mask with' (with_missed c least d)
   gone-leave with' wide made =
       let big : nat_le d.cost (window - cost_of (taken_of Skip window line)) ≡ false = rw room (lt-leb d.cost (window - width) wide) in

@@ -1,7 +1,7 @@
 -- With the filling `Skip` what is planned is each pending slot that still fits.
 use Rattle.std.proofs.Common.{◌≡◌, ℕ, ◌<◌, ◌≤◌, ◌&&◌, not, Bool, true, nat_le, sym, ◌∙◌, ⊎_elim}
 use Rattle.std.proofs.lemmas.Bool.{and_from, and_parts, both_ways, cases_lt, le-leb, leb-true, not-true}
-use Rattle.requirement_table.specs.Slots.{most_slots}
+use Rattle.bit_sets.specs.Sets.{most_slots}
 use Rattle.planner_policies.specs.declared.Fill.TheVariants.{Prefix, Skip}
 use Rattle.planner_policies.specs.Order.{TakesWhatFits, width_with}
 use Rattle.planner_policies.specs.Plan.{Planning, left_after, pending_in, planned_in}

@@ -2,15 +2,14 @@
 use Rattle.std.proofs.Common.{◌≡◌, ◌≢◌, ℕ, zero, suc, ◌+◌, ◌<◌, ◌≤◌, ◌&&◌, ◌||◌, ◌⊎◌, inl, inr, not, Bool, true, false, nat_eq, nat_le, List, refl, sym, ap, ◌∙◌, ⊎_elim, arith}
 use Rattle.std.proofs.lemmas.Bool.{and_from, and_parts, both_ways, cases_Bool, cases_eq, eq-eqb, eqb-true, false_from_ne_true, le-leb, leb-true, not-true, not_from_false, or_cases, or_left, or_right}
 use Rattle.requirement_table.specs.declared.entries.Placed.{Placed}
-use Rattle.requirement_table.specs.Slots.{most_slots, sum_where}
+use Rattle.bit_sets.specs.Sets.{most_slots, sum_where}
 use Rattle.requirement_table.specs.Table.{is_last_in, releases_in, width_in, worst_in}
-use Rattle.requirement_table.proofs.Shared.{sum_where-same}
+use Rattle.bit_sets.proofs.Shared.{sum_where-same, sum_where-costs, sum_where-count, sum_where-le, sum_where-less, sum_where-with, sum_where-none}
 use Rattle.planner_policies.specs.declared.Fill.{Fill}
 use Rattle.planner_policies.specs.declared.Fill.TheVariants.{Prefix, Skip}
 use Rattle.planner_policies.specs.declared.Policy.{Policy}
 use Rattle.planner_policies.specs.Plan.{goes_before, is_by, is_fitting, is_in_front, is_taken}
 use Rattle.planner_policies.proofs.KeyOrder.{is_by-antisym, is_by-refl, is_by-total, is_by-trans}
-use Rattle.planner_policies.proofs.Sums.{sum_where-costs, sum_where-count, sum_where-le, sum_where-less, sum_where-with, sum_where-zero}
 
 -- tests that hold together are one test
 pub same-test : (a b : Bool) → (a ≡ true → b ≡ true) → (b ≡ true → a ≡ true) → a ≡ b
@@ -336,7 +335,7 @@ taken-fits policy fill window placed c pending =
     let taken : ℕ → Bool = is_taken policy fill window placed c pending in
     ⊎_elim
     (λ (none : (s : ℕ) → s < most_slots → is_taken policy fill window placed c pending s ≡ false).
-    rw (sum_where-zero most_slots taken (worst_in placed c) none) (omega arith))
+    rw (sum_where-none most_slots taken (worst_in placed c) none) (omega arith))
     (λ (last : IsLastOf policy placed c (is_taken policy fill window placed c pending) most_slots).
     let room = taken-room policy window placed c pending fill last.slot last.within last.is in
     let split = width-up-to policy placed c taken last.slot last.within last.is in
@@ -363,7 +362,7 @@ module _ (policy : Policy) (window : ℕ) (placed placed' : List Placed) (c c' :
     (alike : AreAlike policy placed placed' c c') (agree : Agree pending' pending) where
   width-alike : (p' p : ℕ → Bool) → Agree p' p → width_in placed' c' p' ≡ width_in placed c p
   width-alike p' p same =
-      sum_where-same most_slots p' p (worst_in placed' c') same ∙ sum_where-costs most_slots p (worst_in placed' c') (worst_in placed c) alike.cost
+      sum_where-same most_slots p' p (worst_in placed' c') same ∙ sum_where-costs most_slots p (worst_in placed' c') (worst_in placed c) (λ s below _. alike.cost s below)
 
   front-alike : (slot : ℕ) → slot < most_slots → is_in_front policy window placed' c' pending' slot ≡ is_in_front policy window placed c pending slot
   front-alike slot known =

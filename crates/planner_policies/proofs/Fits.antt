@@ -4,10 +4,11 @@ use Rattle.std.specs.Option.{option_map_or}
 use Rattle.std.proofs.lemmas.Bool.{and_from, and_parts, both_ways, eq-eqb, ltb-true, or_cases}
 use Rattle.requirement_table.specs.declared.entries.Placed.{Placed}
 use Rattle.requirement_table.specs.Instance.{Instance, MaySend, deadline_of}
-use Rattle.requirement_table.specs.Slots.{contains_slot, set_of, most_slots}
+use Rattle.bit_sets.specs.Sets.{has_bit, set_of, most_slots}
 use Rattle.requirement_table.specs.Table.{IsWellPlaced, held_before, instance_in, is_last_in, releases_in, width_in}
 use Rattle.requirement_table.specs.Flags.{IsGoodCycle, waits}
-use Rattle.requirement_table.proofs.Shared.{contains_slot-set_of, found-in, found-of}
+use Rattle.requirement_table.proofs.Shared.{found-in, found-of}
+use Rattle.bit_sets.proofs.Shared.{has_bit-set_of}
 use Rattle.planner_policies.specs.Plan.{HasNoMiss, HasNoMissIn, IsValid, Planning, flags_of, is_missed_in, left_after, pending_at, pending_before, pending_in, planned_at, planned_in}
 use Rattle.planner_policies.proofs.Going.{before-first, state-left, state-missed}
 use Rattle.planner_policies.proofs.Filling.{taken-fits, taken-pending}
@@ -27,36 +28,36 @@ record HasInstance (placed : List Placed) (slot c : ℕ) : Type 0 where
   found : instance_in placed slot c ≡ Some instance
 
 pending-instance : (placed : List Placed) (c pending slot : ℕ) → IsWellPlaced placed → IsValid placed c pending
-    → pending_in placed c (contains_slot pending) slot ≡ true → HasInstance placed slot c
+    → pending_in placed c (has_bit pending) slot ≡ true → HasInstance placed slot c
 pending-instance placed c pending slot well valid waiting =
     ⊎_elim
-    (λ (before : contains_slot pending slot ≡ true). let held = valid slot before in record { instance = held.instance; found = held.found })
+    (λ (before : has_bit pending slot ≡ true). let held = valid slot before in record { instance = held.instance; found = held.found })
     (λ (now : releases_in placed c slot ≡ true).
     let one = releaser-of placed slot c well now in
     record {
       instance = record { placed = one.entry; number = one.number };
       found = ap (λ s. instance_in placed s c) (sym one.of_slot) ∙ found-of placed one.entry one.number c well one.stands one.sends;
     })
-    (or_cases (contains_slot pending slot) (releases_in placed c slot) waiting)
+    (or_cases (has_bit pending slot) (releases_in placed c slot) waiting)
 
 some-is : (o : Option Instance) (i : Instance) → o ≡ Some i → IsSome o
 some-is (Some x) i is = refl
 some-is None i is = absurd (cc)
 
 pub planned-sendable : (plan : Planning) (c pending slot : ℕ) → IsWellPlaced plan.placed → IsValid plan.placed c pending
-    → planned_in plan c (contains_slot pending) slot ≡ true → IsSome (instance_in plan.placed slot c)
+    → planned_in plan c (has_bit pending) slot ≡ true → IsSome (instance_in plan.placed slot c)
 planned-sendable plan c pending slot well valid planned =
-    let has = pending-instance plan.placed c pending slot well valid (planned-pending plan c (contains_slot pending) slot planned) in
+    let has = pending-instance plan.placed c pending slot well valid (planned-pending plan c (has_bit pending) slot planned) in
     some-is (instance_in plan.placed slot c) has.instance has.found
 
 -- the state that a cycle without a miss leaves is valid
-pub left-valid : (plan : Planning) (c pending : ℕ) → IsWellPlaced plan.placed → IsValid plan.placed c pending → HasNoMissIn plan c (contains_slot pending)
-    → IsValid plan.placed (c + 1) (set_of most_slots (left_after plan c (contains_slot pending)))
+pub left-valid : (plan : Planning) (c pending : ℕ) → IsWellPlaced plan.placed → IsValid plan.placed c pending → HasNoMissIn plan c (has_bit pending)
+    → IsValid plan.placed (c + 1) (set_of most_slots (left_after plan c (has_bit pending)))
 left-valid plan c pending well valid none slot in' =
-    let both = and_parts (nat_lt slot most_slots) (left_after plan c (contains_slot pending) slot)
-    (sym (contains_slot-set_of most_slots (left_after plan c (contains_slot pending)) slot) ∙ in') in
+    let both = and_parts (nat_lt slot most_slots) (left_after plan c (has_bit pending) slot)
+    (sym (has_bit-set_of most_slots (left_after plan c (has_bit pending)) slot) ∙ in') in
     let known = ltb-true slot most_slots both.0 in
-    let waiting = (and_parts (pending_in plan.placed c (contains_slot pending) slot) (not (planned_in plan c (contains_slot pending) slot)) both.1).0 in
+    let waiting = (and_parts (pending_in plan.placed c (has_bit pending) slot) (not (planned_in plan c (has_bit pending) slot)) both.1).0 in
     let has = pending-instance plan.placed c pending slot well valid waiting in
     let i = has.instance in
     let found = found-in plan.placed slot c i well has.found in
@@ -67,8 +68,8 @@ left-valid plan c pending well valid none slot in' =
     let is : is_last_in plan.placed c slot ≡ true
     = ap (λ o. option_map_or (λ x. nat_eq (deadline_of x.placed x.number) (c + 1)) o false) has.found
     ∙ eq-eqb (deadline_of i.placed i.number) (c + 1) last in
-    both_ways (is_missed_in plan c (contains_slot pending) slot) (none slot known)
-    (and_from (left_after plan c (contains_slot pending) slot) (is_last_in plan.placed c slot) both.1 is) in
+    both_ways (is_missed_in plan c (has_bit pending) slot) (none slot known)
+    (and_from (left_after plan c (has_bit pending) slot) (is_last_in plan.placed c slot) both.1 is) in
     let sends : MaySend i.placed i.number (c + 1) = record { exists = found.sends.exists; released = omega arith; in_time = omega arith } in
     record {
       instance = i;
@@ -76,10 +77,10 @@ left-valid plan c pending well valid none slot in' =
       before = omega arith;
     }
 
-valid-first : (plan : Planning) (slot : ℕ) → contains_slot (pending_at plan zero) slot ≡ true → contains_slot plan.pending slot ≡ true
+valid-first : (plan : Planning) (slot : ℕ) → has_bit (pending_at plan zero) slot ≡ true → has_bit plan.pending slot ≡ true
 valid-first plan slot in' =
     sym (before-first plan slot)
-    ∙ (and_parts (nat_lt slot most_slots) (pending_before plan zero slot) (sym (contains_slot-set_of most_slots (pending_before plan zero) slot) ∙ in')).1
+    ∙ (and_parts (nat_lt slot most_slots) (pending_before plan zero slot) (sym (has_bit-set_of most_slots (pending_before plan zero) slot) ∙ in')).1
 
 pub valid-along : (plan : Planning) (n : ℕ) → IsWellPlaced plan.placed → IsValid plan.placed plan.from plan.pending → HasNoMiss plan n
     → IsValid plan.placed (plan.from + n) (pending_at plan n)
@@ -96,7 +97,7 @@ valid-along plan (suc n) well valid none =
     rw (cycle, number) left
 
 -- the slots that are pending are those that hold an instance where the plan is followed
-pub held-is : (plan : Planning) (n slot : ℕ) → held_before plan.placed (flags_of plan) plan.from (contains_slot plan.pending) n slot ≡ pending_before plan n slot
+pub held-is : (plan : Planning) (n slot : ℕ) → held_before plan.placed (flags_of plan) plan.from (has_bit plan.pending) n slot ≡ pending_before plan n slot
 unfolding held_before pending_before
 held-is plan zero slot = refl
 held-is plan (suc n) slot =
@@ -105,11 +106,11 @@ held-is plan (suc n) slot =
     ∙ ap (λ k. pending_in plan.placed (plan.from + n) (pending_before plan n) slot && not (planned_at plan k slot)) at
 
 -- where no instance is missed the plan keeps the table
-pub good-cycle : (plan : Planning) (n m : ℕ) → HasNoMiss plan n → m < n → IsGoodCycle plan.placed (flags_of plan) plan.from (contains_slot plan.pending) m
+pub good-cycle : (plan : Planning) (n m : ℕ) → HasNoMiss plan n → m < n → IsGoodCycle plan.placed (flags_of plan) plan.from (has_bit plan.pending) m
 good-cycle plan n m none within =
     let at : plan.from + m - plan.from ≡ m = omega arith in
     let flag : (slot : ℕ) → flags_of plan (plan.from + m) slot ≡ planned_at plan m slot = λ slot. ap (λ k. planned_at plan k slot) at in
-    let waiting : (slot : ℕ) → waits plan.placed (flags_of plan) plan.from (contains_slot plan.pending) m slot
+    let waiting : (slot : ℕ) → waits plan.placed (flags_of plan) plan.from (has_bit plan.pending) m slot
     ≡ pending_in plan.placed (plan.from + m) (pending_before plan m) slot
     = λ slot. ap (λ b. b || releases_in plan.placed (plan.from + m) slot) (held-is plan m slot) in
     record {

@@ -2,9 +2,9 @@
 use Rattle.std.proofs.Common.{◌≡◌, ℕ, zero, suc, ◌+◌, ◌<◌, ◌≤◌, ◌&&◌, List, refl, sym, ap, ◌∙◌, arith}
 use Rattle.std.proofs.lemmas.Bool.{lt-ltb}
 use Rattle.requirement_table.specs.declared.entries.Placed.{Placed}
-use Rattle.requirement_table.specs.Slots.{contains_slot, set_of, most_slots}
+use Rattle.bit_sets.specs.Sets.{has_bit, set_of, most_slots}
 use Rattle.requirement_table.specs.Table.{instance_in, releases_in}
-use Rattle.requirement_table.proofs.Shared.{contains_slot-set_of, set_of-same}
+use Rattle.bit_sets.proofs.Shared.{has_bit-set_of, set_of-same}
 use Rattle.planner_policies.specs.Plan.{IsMissAt, IsMissIn, Planning, is_missed_at, is_missed_in, left_after, mask_at, pending_at, pending_before, planned_at, planned_in}
 use Rattle.planner_policies.proofs.Steps.{alike-from_same, left-alike, missed-alike, planned-alike}
 use Rattle.planner_policies.proofs.Filling.{AreAlike}
@@ -13,14 +13,14 @@ pub before-next : (plan : Planning) (n slot : ℕ) → pending_before plan (suc 
 unfolding pending_before
 before-next plan n slot = refl
 
-pub before-first : (plan : Planning) (slot : ℕ) → pending_before plan zero slot ≡ contains_slot plan.pending slot
+pub before-first : (plan : Planning) (slot : ℕ) → pending_before plan zero slot ≡ has_bit plan.pending slot
 unfolding pending_before
 before-first plan slot = refl
 
 -- a slot is in the set of the pending ones where it is pending
-pub pending-test : (plan : Planning) (n slot : ℕ) → slot < most_slots → contains_slot (pending_at plan n) slot ≡ pending_before plan n slot
+pub pending-test : (plan : Planning) (n slot : ℕ) → slot < most_slots → has_bit (pending_at plan n) slot ≡ pending_before plan n slot
 pending-test plan n slot known =
-    contains_slot-set_of most_slots (pending_before plan n) slot ∙ ap (λ b. b && pending_before plan n slot) (lt-ltb slot most_slots known)
+    has_bit-set_of most_slots (pending_before plan n) slot ∙ ap (λ b. b && pending_before plan n slot) (lt-ltb slot most_slots known)
 
 module _ (plan : Planning) (placed : List Placed) (n : ℕ)
     (same : (k slot : ℕ) → k < n → slot < most_slots → instance_in placed slot (plan.from + k) ≡ instance_in plan.placed slot (plan.from + k))
@@ -83,28 +83,28 @@ on-missed plan n m slot known =
 alike-itself : (plan : Planning) (c : ℕ) → AreAlike plan.policy plan.placed plan.placed c c
 alike-itself plan c = alike-from_same plan.policy plan.placed plan.placed c c refl (λ slot known. refl) (λ slot known. refl)
 
-pub state-planned : (plan : Planning) (n : ℕ) → set_of most_slots (planned_in plan (plan.from + n) (contains_slot (pending_at plan n))) ≡ mask_at plan n
+pub state-planned : (plan : Planning) (n : ℕ) → set_of most_slots (planned_in plan (plan.from + n) (has_bit (pending_at plan n))) ≡ mask_at plan n
 state-planned plan n =
-    set_of-same most_slots (planned_in plan (plan.from + n) (contains_slot (pending_at plan n))) (planned_at plan n)
-    (planned-alike plan plan.placed plan.from plan.pending (plan.from + n) (plan.from + n) (pending_before plan n) (contains_slot (pending_at plan n))
+    set_of-same most_slots (planned_in plan (plan.from + n) (has_bit (pending_at plan n))) (planned_at plan n)
+    (planned-alike plan plan.placed plan.from plan.pending (plan.from + n) (plan.from + n) (pending_before plan n) (has_bit (pending_at plan n))
     (alike-itself plan (plan.from + n)) (pending-test plan n))
 
-pub state-left : (plan : Planning) (n : ℕ) → set_of most_slots (left_after plan (plan.from + n) (contains_slot (pending_at plan n))) ≡ pending_at plan (n + 1)
+pub state-left : (plan : Planning) (n : ℕ) → set_of most_slots (left_after plan (plan.from + n) (has_bit (pending_at plan n))) ≡ pending_at plan (n + 1)
 state-left plan n =
-    set_of-same most_slots (left_after plan (plan.from + n) (contains_slot (pending_at plan n))) (pending_before plan (n + 1))
+    set_of-same most_slots (left_after plan (plan.from + n) (has_bit (pending_at plan n))) (pending_before plan (n + 1))
     (λ slot known.
-    left-alike plan plan.placed plan.from plan.pending (plan.from + n) (plan.from + n) (pending_before plan n) (contains_slot (pending_at plan n))
+    left-alike plan plan.placed plan.from plan.pending (plan.from + n) (plan.from + n) (pending_before plan n) (has_bit (pending_at plan n))
     (alike-itself plan (plan.from + n)) (pending-test plan n) slot known
     ∙ sym (before-next plan n slot)
     ∙ (let next : suc n ≡ n + 1 = omega arith in ap (λ k. pending_before plan k slot) next))
 
 pub state-missed : (plan : Planning) (n slot : ℕ) → slot < most_slots
-    → is_missed_in plan (plan.from + n) (contains_slot (pending_at plan n)) slot ≡ is_missed_at plan n slot
+    → is_missed_in plan (plan.from + n) (has_bit (pending_at plan n)) slot ≡ is_missed_at plan n slot
 state-missed plan n slot known =
-    missed-alike plan plan.placed plan.from plan.pending (plan.from + n) (plan.from + n) (pending_before plan n) (contains_slot (pending_at plan n))
+    missed-alike plan plan.placed plan.from plan.pending (plan.from + n) (plan.from + n) (pending_before plan n) (has_bit (pending_at plan n))
     (alike-itself plan (plan.from + n)) (pending-test plan n) slot known
 
-pub state-miss : (plan : Planning) (n slot release : ℕ) → IsMissIn plan (plan.from + n) (contains_slot (pending_at plan n)) slot release
+pub state-miss : (plan : Planning) (n slot release : ℕ) → IsMissIn plan (plan.from + n) (has_bit (pending_at plan n)) slot release
     → IsMissAt plan n slot release
 state-miss plan n slot release miss =
     let known = miss.known in

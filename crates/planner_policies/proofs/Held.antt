@@ -7,12 +7,12 @@ use Rattle.std.proofs.lemmas.List.Folds.{Any-from_list_any, list_any-from_Any}
 use Rattle.std.proofs.lemmas.List.Sorted.{list_any-IsPermutation}
 use Rattle.requirement_table.specs.declared.entries.Placed.{Placed}
 use Rattle.requirement_table.specs.Instance.{instance_of, release_of}
-use Rattle.requirement_table.specs.Slots.{contains_slot, set_of, most_slots}
+use Rattle.bit_sets.specs.Sets.{has_bit, most_slots}
 use Rattle.requirement_table.specs.Table.{IsHeldFrom, IsWellPlaced, instance_in}
-use Rattle.requirement_table.proofs.Shared.{MaySend-from_instance, contains_slot-none, found-in, found-of, set_of-contains_slot, set_of-same}
+use Rattle.requirement_table.proofs.Shared.{MaySend-from_instance, found-in, found-of}
+use Rattle.bit_sets.proofs.Shared.{empty-set, has_bit-none}
 use Rattle.planner_policies.specs.Due.{holds_of, is_held_in}
 use Rattle.planner_policies.specs.Plan.{IsValid}
-use Rattle.planner_policies.proofs.Sums.{sum_where-none}
 
 pub held-parts : (o : Option ℕ) (p : Placed) (c : ℕ) → option_map_or (λ k. nat_lt (release_of p k) c) o false ≡ true
     → (k : ℕ) × (o ≡ Some k) × (release_of p k < c)
@@ -46,13 +46,9 @@ held-test placed c slot well held =
           (number ∙ lt-ltb (release_of i.placed i.number) c held.before),
     )
 
-set_of-none : (n : ℕ) → set_of n (λ _. false) ≡ 0
-unfolding set_of
-set_of-none n = sum_where-none n (λ slot. 2 ^ slot)
-
 -- what is left of the pending slots, without those that have such an instance
 abbrev IsRest : List Placed → ℕ → ℕ → ℕ → Type 0
-IsRest rows c pending rest = (slot : ℕ) → contains_slot rest slot ≡ (contains_slot pending slot && not (list_any (holds_of c slot) rows))
+IsRest rows c pending rest = (slot : ℕ) → has_bit rest slot ≡ (has_bit pending slot && not (list_any (holds_of c slot) rows))
 
 none-left : (b held : Bool) → b ≡ true → false ≡ (b && not held) → held ≡ true
 none-left b true is none = refl
@@ -65,15 +61,13 @@ left-none false held all = refl
 pub valid-sound : (placed rows : List Placed) (c pending rest : ℕ) → IsWellPlaced placed → IsPermutation placed rows → IsRest rows c pending rest
     → rest ≡ 0 → IsValid placed c pending
 valid-sound placed rows c pending rest well same left none slot waiting =
-    let here = sym (contains_slot-none slot) ∙ ap (λ m. contains_slot m slot) (sym none) ∙ left slot in
-    let held = none-left (contains_slot pending slot) (list_any (holds_of c slot) rows) waiting here in
+    let here = sym (has_bit-none slot) ∙ ap (λ m. has_bit m slot) (sym none) ∙ left slot in
+    let held = none-left (has_bit pending slot) (list_any (holds_of c slot) rows) waiting here in
     held-from placed c slot well (list_any-IsPermutation (holds_of c slot) placed rows same ∙ held)
 
 pub valid-complete : (placed rows : List Placed) (c pending rest : ℕ) → IsWellPlaced placed → IsPermutation placed rows → IsRest rows c pending rest
     → rest < 2 ^ most_slots → IsValid placed c pending → rest ≡ 0
 valid-complete placed rows c pending rest well same left below valid =
-    set_of-contains_slot most_slots rest below
-    ∙ set_of-same most_slots (contains_slot rest) (λ _. false)
-    (λ slot known. left slot ∙ left-none (contains_slot pending slot) (list_any (holds_of c slot) rows)
+    empty-set most_slots rest below
+    (λ slot known. left slot ∙ left-none (has_bit pending slot) (list_any (holds_of c slot) rows)
     (λ waiting. sym (list_any-IsPermutation (holds_of c slot) placed rows same) ∙ held-test placed c slot well (valid slot waiting)))
-    ∙ set_of-none most_slots

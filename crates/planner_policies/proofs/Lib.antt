@@ -19,7 +19,6 @@ mod Pairs
 mod Rows
 mod RankOrder
 mod Steps
-mod Sums
 mod TakenEach
 mod TakenFront
 mod Waiting

@@ -6,9 +6,9 @@ use Rattle.std.proofs.lemmas.List.{get_or-drop, get_or-take, length-drop, length
 use Rattle.std.proofs.lemmas.List.Elements.{All-contains, All-head, All-tail, All-take}
 use Rattle.std.proofs.lemmas.List.Folds.{Any-from_list_any, list_any_at}
 use Rattle.std.proofs.lemmas.List.Sums.{sum_by-cons, sum_by-take-le}
-use Rattle.requirement_table.specs.Slots.{most_slots, sum_where}
+use Rattle.bit_sets.specs.Sets.{most_slots, sum_where}
 use Rattle.requirement_table.specs.Table.{width_in, worst_in}
-use Rattle.requirement_table.proofs.Shared.{sum_where-same}
+use Rattle.bit_sets.proofs.Shared.{sum_where-same, sum_where-none, sum_where-with}
 use Rattle.planner_policies.specs.Order.{IsInKeyOrder, IsLongestFront}
 use Rattle.planner_policies.specs.declared.Fill.TheVariants.{Prefix}
 use Rattle.planner_policies.specs.Plan.{Planning, is_by, left_after, pending_in, planned_in}
@@ -16,7 +16,6 @@ use Rattle.planner_policies.proofs.Filling.{in-front, same-test}
 use Rattle.planner_policies.proofs.KeyOrder.{is_by-antisym, is_by-refl}
 use Rattle.planner_policies.proofs.Lines.{same-read}
 use Rattle.planner_policies.proofs.Pairs.{pairs-head, pairs-tail, pairs-take}
-use Rattle.planner_policies.proofs.Sums.{sum_where-none, sum_where-with}
 
 -- the test of a list
 abbrev pub has : List ℕ → ℕ → Bool
@@ -32,7 +31,7 @@ not-in x xs apart =
 -- the sum over the slots of a list of distinct slots
 pub sum_where-list : (n : ℕ) (xs : List ℕ) (f : ℕ → ℕ) → All (λ x. x < n) xs → AllPairs (λ v w. v ≢ w) xs
     → sum_where n (has xs) f ≡ sum_by f xs
-sum_where-list n [] f below distinct = sum_where-none n f
+sum_where-list n [] f below distinct = sum_where-none n (λ _. false) f (λ s below. refl)
 sum_where-list n (x ∷ xs) f below distinct =
     sum_where-with n x (has xs) f (All-head (λ w. w < n) x xs below) (not-in x xs (pairs-head (λ v w. v ≢ w) x xs distinct))
     ∙ ap (λ m. f x + m) (sum_where-list n xs f (All-tail (λ w. w < n) x xs below) (pairs-tail (λ v w. v ≢ w) x xs distinct))

@@ -5,7 +5,7 @@ use Rattle.std.proofs.lemmas.Bool.{cases_lt}
 use Rattle.std.proofs.lemmas.Bool.Decides.{nat_tests}
 use Rattle.requirement_table.specs.declared.entries.Placed.{Placed}
 use Rattle.requirement_table.specs.Instance.{Instance, deadline_of}
-use Rattle.requirement_table.specs.Slots.{contains_slot, most_slots}
+use Rattle.bit_sets.specs.Sets.{has_bit, most_slots}
 use Rattle.requirement_table.specs.Table.{IsWellPlaced, instance_in}
 use Rattle.requirement_table.proofs.Shared.{GoesRound, IsMoved, SameAgain, instance-again, later, moved-again, same-again}
 use Rattle.planner_policies.specs.declared.Policy.{Policy}
@@ -105,7 +105,7 @@ module _ (plan : Planning) (n m : ℕ) (well : IsWellPlaced plan.placed) (furthe
   loop-pending zero slot known =
       let at_m : m + 0 ≡ m = omega arith in
       let at_n : n + 0 ≡ n = omega arith in
-      ap (λ k. pending_before plan k slot) at_m ∙ sym (pending-test plan m slot known) ∙ ap (λ mask. contains_slot mask slot) (sym same)
+      ap (λ k. pending_before plan k slot) at_m ∙ sym (pending-test plan m slot known) ∙ ap (λ mask. has_bit mask slot) (sym same)
       ∙ pending-test plan n slot known ∙ ap (λ k. pending_before plan k slot) (sym at_n)
   loop-pending (suc k) slot known =
       let at_m : m + suc k ≡ suc (m + k) = omega arith in

@@ -10,7 +10,7 @@ use Rattle.std.proofs.lemmas.List.Sorted.{All-permutation, length_permutation, l
 use Rattle.std.proofs.lemmas.List.Sums.{get_or-le-sum_by, sum_by-cons, sum_by_more_le}
 use Rattle.requirement_table.specs.declared.entries.Placed.{Placed}
 use Rattle.requirement_table.specs.Instance.{Exists, IsReleasedIn, MaySend, instance_of, release_of, released_by}
-use Rattle.requirement_table.specs.Slots.{contains_slot, most_slots}
+use Rattle.bit_sets.specs.Sets.{has_bit, most_slots}
 use Rattle.requirement_table.specs.Table.{IsInRange, IsWellPlaced, instance_in, releases_in}
 use Rattle.requirement_table.proofs.Shared.{IsReleasedIn-from_released_by, MaySend-from_instance, found-in, found-of, instance_of-sent, one_instance, released_by-released}
 use Rattle.planner_policies.specs.declared.due.Due.{Due}
@@ -332,11 +332,11 @@ line_of-more plan c before rows k d line after due within so_far more put =
 
 -- each slot that is pending has an instance that may be sent
 pub sends-pending : (plan : Planning) (c slot : ℕ) (pending : ℕ) → IsWellPlaced plan.placed → IsValid plan.placed c pending
-    → pending_in plan.placed c (contains_slot pending) slot ≡ true → list_any (sends_of c slot) plan.placed ≡ true
+    → pending_in plan.placed c (has_bit pending) slot ≡ true → list_any (sends_of c slot) plan.placed ≡ true
 sends-pending plan c slot pending well valid waiting =
     let placed = plan.placed in
     ⊎_elim
-    (λ (before : contains_slot pending slot ≡ true).
+    (λ (before : has_bit pending slot ≡ true).
     let held = valid slot before in
     let i = held.instance in
     let found = found-in placed slot c i well held.found in
@@ -351,10 +351,10 @@ sends-pending plan c slot pending well valid waiting =
       other.stands.2,
       sends-test c slot other.entry other.number (All-contains IsInRange placed other.entry well.in_range other.stands) other.of_slot other.sends,
     ))
-    (or_cases (contains_slot pending slot) (releases_in placed c slot) waiting)
+    (or_cases (has_bit pending slot) (releases_in placed c slot) waiting)
 
 pub whole_line-of : (plan : Planning) (c : ℕ) (pending : ℕ) (rows : List Placed) (line : List Due) → IsWellPlaced plan.placed → IsPermutation plan.placed rows
-    → IsValid plan.placed c pending → IsLineOf plan c (contains_slot pending) rows line → IsWholeLine plan c (contains_slot pending) line
+    → IsValid plan.placed c pending → IsLineOf plan c (has_bit pending) rows line → IsWholeLine plan c (has_bit pending) line
 whole_line-of plan c pending rows line well same valid done = record {
   each = done.each;
   distinct = done.distinct;

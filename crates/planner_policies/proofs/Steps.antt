@@ -3,7 +3,7 @@ use Rattle.std.proofs.Common.{◌≡◌, ℕ, ◌+◌, ◌<◌, ◌&&◌, ◌||�
 use Rattle.std.specs.Option.{option_map_or}
 use Rattle.requirement_table.specs.declared.entries.Placed.{Placed}
 use Rattle.requirement_table.specs.Instance.{deadline_of, worst_of}
-use Rattle.requirement_table.specs.Slots.{most_slots}
+use Rattle.bit_sets.specs.Sets.{most_slots}
 use Rattle.requirement_table.specs.Table.{instance_in, is_last_in, releases_in}
 use Rattle.planner_policies.specs.declared.Policy.{Policy}
 use Rattle.planner_policies.specs.Plan.{Planning, by_number, is_missed_in, key_of, left_after, pending_in, planned_in}

@@ -5,9 +5,9 @@ use Rattle.std.proofs.lemmas.Bool.{and_from, and_parts, both_ways, cases_Bool, e
 use Rattle.std.proofs.lemmas.List.Elements.{All-cons, All-contains, All-head, All-map, All-nil, All-tail, All-weaker}
 use Rattle.std.proofs.lemmas.List.Folds.{list_any-append}
 use Rattle.std.proofs.lemmas.List.Sums.{sum_by-cons}
-use Rattle.requirement_table.specs.Slots.{most_slots}
+use Rattle.bit_sets.specs.Sets.{most_slots}
 use Rattle.requirement_table.specs.Table.{width_in, worst_in}
-use Rattle.requirement_table.proofs.Shared.{sum_where-same}
+use Rattle.bit_sets.proofs.Shared.{sum_where-same}
 use Rattle.planner_policies.specs.declared.Fill.TheVariants.{Skip}
 use Rattle.planner_policies.specs.declared.due.Due.{Due}
 use Rattle.planner_policies.specs.Due.{IsDueIn, IsWholeLine, is_due_by, left_of, taken_of}

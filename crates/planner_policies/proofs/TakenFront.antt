@@ -5,7 +5,7 @@ use Rattle.std.proofs.lemmas.Bool.{cases_lt, le-leb, lt-leb}
 use Rattle.std.proofs.lemmas.List.{length-map, take-map, take-take}
 use Rattle.std.proofs.lemmas.List.Elements.{All-contains, All-drop, All-map, All-take, All-weaker}
 use Rattle.std.proofs.lemmas.List.Sums.{sum_by-cons, sum_by-take-le}
-use Rattle.requirement_table.specs.Slots.{most_slots}
+use Rattle.bit_sets.specs.Sets.{most_slots}
 use Rattle.requirement_table.specs.Table.{worst_in}
 use Rattle.planner_policies.specs.declared.Fill.TheVariants.{Prefix}
 use Rattle.planner_policies.specs.declared.due.Due.{Due}

@@ -6,7 +6,7 @@ use Rattle.std.specs.List.{list_any}
 use Rattle.std.specs.Option.{option_map_or}
 use Rattle.requirement_table.specs.declared.entries.Placed.{Placed}
 use Rattle.requirement_table.specs.Instance.{Instance, MaySend, deadline_of, instance_of, release_of, worst_of}
-use Rattle.requirement_table.specs.Slots.{contains_slot, most_slots, set_of}
+use Rattle.bit_sets.specs.Sets.{has_bit, most_slots, set_of}
 use Rattle.requirement_table.specs.Table.{instance_in, width_in}
 use Rattle.planner_policies.specs.declared.Fill.{Fill}
 use Rattle.planner_policies.specs.declared.Fill.TheVariants.{Prefix, Skip}
@@ -113,7 +113,7 @@ left_of Skip room (due ∷ line) =
 
 -- the set of the slots of instances
 pub record IsSetOf (mask : ℕ) (line : List Due) : Type 0 where
-  pub slots : (slot : ℕ) → contains_slot mask slot ≡ list_any (λ due. nat_eq due.slot slot) line
+  pub slots : (slot : ℕ) → has_bit mask slot ≡ list_any (λ due. nat_eq due.slot slot) line
   pub below : mask < 2 ^ most_slots
 
 -- all that is pending in a cycle fits the window together: its slots, and what it costs

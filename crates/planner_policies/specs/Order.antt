@@ -1,7 +1,7 @@
 -- What is planned, said over the pending slots in key order. Lengths are bit times.
 use Rattle.std.specs.Prelude.{◌≡◌, ◌≢◌, ℕ, ◌+◌, ◌<◌, ◌≤◌, Bool, true, ◌&&◌, ◌↔◌}
 use Rattle.std.specs.Prelude.{List, All, AllPairs, Contains, length, sum_by, take}
-use Rattle.requirement_table.specs.Slots.{most_slots}
+use Rattle.bit_sets.specs.Sets.{most_slots}
 use Rattle.requirement_table.specs.Table.{width_in, worst_in}
 use Rattle.planner_policies.specs.Plan.{Planning, goes_before, is_by, pending_in}
 

@@ -8,7 +8,7 @@ use Rattle.std.specs.Prelude.{nat_lt, nat_le, nat_eq, List, Some}
 use Rattle.std.specs.Option.{option_map_or}
 use Rattle.requirement_table.specs.declared.entries.Placed.{Placed}
 use Rattle.requirement_table.specs.Instance.{Instance, deadline_of, release_of}
-use Rattle.requirement_table.specs.Slots.{contains_slot, set_of, most_slots}
+use Rattle.bit_sets.specs.Sets.{has_bit, set_of, most_slots}
 use Rattle.requirement_table.specs.Table.{IsHeldFrom, instance_in, is_last_in, releases_in, width_in, worst_in}
 use Rattle.planner_policies.specs.declared.Fill.{Fill}
 use Rattle.planner_policies.specs.declared.Fill.TheVariants.{Prefix, Skip}
@@ -141,7 +141,7 @@ HasNoMissIn plan c before = (slot : ℕ) → slot < most_slots → is_missed_in 
 
 -- whether the slot has an instance that was released before the n-th cycle and not planned before it
 unfoldable pub pending_before : Planning → ℕ → ℕ → Bool
-pending_before plan zero slot = contains_slot plan.pending slot
+pending_before plan zero slot = has_bit plan.pending slot
 pending_before plan (suc n) slot = left_after plan (plan.from + n) (pending_before plan n) slot
 
 -- *Plan*: whether the slot is planned in the n-th cycle, and the set of these slots
@@ -184,4 +184,4 @@ flags_of plan c slot = planned_at plan (c - plan.from) slot
 
 -- *Valid*: each pending slot has an instance that was released before the cycle and whose last cycle is not below it
 abbrev pub IsValid : List Placed → ℕ → ℕ → Type 0
-IsValid placed c pending = (slot : ℕ) → contains_slot pending slot ≡ true → IsHeldFrom placed c slot
+IsValid placed c pending = (slot : ℕ) → has_bit pending slot ≡ true → IsHeldFrom placed c slot

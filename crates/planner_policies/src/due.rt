@@ -3,7 +3,7 @@
 ghost use Rattle.std.specs.Prelude.{◌≡◌, ◌<◌, ℕ, IfSome, None, false, nat_le};
 ghost use Rattle.profile.specs.Limits.{cycles_end};
 ghost use Rattle.requirement_table.specs.Instance.{MaySend};
-ghost use Rattle.requirement_table.specs.Slots.{contains_slot};
+ghost use Rattle.bit_sets.specs.Sets.{has_bit};
 ghost use Rattle.requirement_table.specs.Table.{IsInRange};
 ghost use Rattle.planner_policies.specs.Due.{IsDueOf, IsReleaseWaiting, is_due_by, key_with, waits};
 ghost use Rattle.planner_policies.specs.Plan.{by_number};
@@ -61,7 +61,7 @@ impl Due {
 pub(crate) fn due_of(policy: Policy, placed: &Placed, state: &PlanState) -> Option<Due>
     requires in_range { IsInRange placed.now }
     requires cycle { state.now.cycle < cycles_end }
-    ensures pending { IsDueOf policy (contains_slot state.now.pending) state.now.cycle placed.now result }
+    ensures pending { IsDueOf policy (has_bit state.now.pending) state.now.cycle placed.now result }
 {
     let release = release_waiting(placed, state)?;
     let entry = &placed.entry;
@@ -84,9 +84,9 @@ fn release_waiting(placed: &Placed, state: &PlanState) -> Option<u64>
     requires in_range { IsInRange placed.now }
     requires cycle { state.now.cycle < cycles_end }
     ensures waiting { IfSome result
-        (λ release. IsReleaseWaiting (contains_slot state.now.pending) state.now.cycle placed.now release) }
+        (λ release. IsReleaseWaiting (has_bit state.now.pending) state.now.cycle placed.now release) }
     ensures none { result ≡ None → (k : ℕ) → MaySend placed.now k state.now.cycle
-        → waits (contains_slot state.now.pending) state.now.cycle placed.now k ≡ false }
+        → waits (has_bit state.now.pending) state.now.cycle placed.now k ≡ false }
 {
     if state.pending.has(placed.entry.slot) {
         let instance = current_instance(placed, state.cycle)?;

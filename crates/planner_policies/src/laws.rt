@@ -3,7 +3,7 @@
 ghost use Rattle.std.specs.Prelude.{◌≡◌, ℕ, ◌+◌, ◌-◌, ◌<◌, ◌≤◌, ◌↔◌};
 ghost use Rattle.std.specs.Prelude.{Bool, true, false, IsSome, List, All, Contains, take, drop, filter};
 ghost use Rattle.requirement_table.specs.declared.entries.Placed.{Placed};
-ghost use Rattle.requirement_table.specs.Slots.{contains_slot, set_of, most_slots};
+ghost use Rattle.bit_sets.specs.Sets.{has_bit, set_of, most_slots};
 ghost use Rattle.requirement_table.specs.Flags.{HasWaiting, HasWaitingBefore, IsGoodCycle};
 ghost use Rattle.requirement_table.specs.Table.{IsFreeAt, IsWellPlaced, held_before};
 ghost use Rattle.requirement_table.specs.Table.{instance_in, releases_in, width_in, worst_in};
@@ -108,13 +108,13 @@ pub fn going_on()
 /// planned in that cycle, and leads to the state at the next one.
 pub fn states()
     ensures planned { (plan : Planning) (n : ℕ)
-        → set_of most_slots (planned_in plan (plan.from + n) (contains_slot (pending_at plan n))) ≡ mask_at plan n }
+        → set_of most_slots (planned_in plan (plan.from + n) (has_bit (pending_at plan n))) ≡ mask_at plan n }
     ensures left { (plan : Planning) (n : ℕ)
-        → set_of most_slots (left_after plan (plan.from + n) (contains_slot (pending_at plan n))) ≡ pending_at plan (n + 1) }
+        → set_of most_slots (left_after plan (plan.from + n) (has_bit (pending_at plan n))) ≡ pending_at plan (n + 1) }
     ensures missed { (plan : Planning) (n slot : ℕ) → slot < most_slots
-        → is_missed_in plan (plan.from + n) (contains_slot (pending_at plan n)) slot ≡ is_missed_at plan n slot }
+        → is_missed_in plan (plan.from + n) (has_bit (pending_at plan n)) slot ≡ is_missed_at plan n slot }
     ensures miss { (plan : Planning) (n slot release : ℕ)
-        → IsMissIn plan (plan.from + n) (contains_slot (pending_at plan n)) slot release
+        → IsMissIn plan (plan.from + n) (has_bit (pending_at plan n)) slot release
         → IsMissAt plan n slot release }
 {}
 
@@ -141,14 +141,14 @@ pub fn planned_slots()
     ensures pending { (plan : Planning) (c : ℕ) (before : ℕ → Bool) (slot : ℕ) → planned_in plan c before slot ≡ true
         → pending_in plan.placed c before slot ≡ true }
     ensures sendable { (plan : Planning) (c pending slot : ℕ) → IsWellPlaced plan.placed → IsValid plan.placed c pending
-        → planned_in plan c (contains_slot pending) slot ≡ true → IsSome (instance_in plan.placed slot c) }
+        → planned_in plan c (has_bit pending) slot ≡ true → IsSome (instance_in plan.placed slot c) }
 {}
 
 /// From a valid state a planning without a miss goes on in valid states.
 pub fn valid_states()
     ensures next { (plan : Planning) (c pending : ℕ) → IsWellPlaced plan.placed → IsValid plan.placed c pending
-        → HasNoMissIn plan c (contains_slot pending)
-        → IsValid plan.placed (c + 1) (set_of most_slots (left_after plan c (contains_slot pending))) }
+        → HasNoMissIn plan c (has_bit pending)
+        → IsValid plan.placed (c + 1) (set_of most_slots (left_after plan c (has_bit pending))) }
     ensures along { (plan : Planning) (n : ℕ) → IsWellPlaced plan.placed → IsValid plan.placed plan.from plan.pending
         → HasNoMiss plan n → IsValid plan.placed (plan.from + n) (pending_at plan n) }
 {}
@@ -157,10 +157,10 @@ pub fn valid_states()
 /// them in time.
 pub fn keeping()
     ensures held { (plan : Planning) (n slot : ℕ)
-        → held_before plan.placed (flags_of plan) plan.from (contains_slot plan.pending) n slot
+        → held_before plan.placed (flags_of plan) plan.from (has_bit plan.pending) n slot
         ≡ pending_before plan n slot }
     ensures good { (plan : Planning) (n m : ℕ) → HasNoMiss plan n → m < n
-        → IsGoodCycle plan.placed (flags_of plan) plan.from (contains_slot plan.pending) m }
+        → IsGoodCycle plan.placed (flags_of plan) plan.from (has_bit plan.pending) m }
 {}
 
 /// As long as no instance is missed, from a valid state on: a slot is pending in the n-th cycle exactly where one of its
@@ -170,11 +170,11 @@ pub fn pending_slots()
     ensures before { (plan : Planning) (n : ℕ) → IsWellPlaced plan.placed
         → IsValid plan.placed plan.from plan.pending → HasNoMiss plan n
         → (slot : ℕ) → (pending_before plan n slot ≡ true)
-        ↔ HasWaitingBefore plan.placed (flags_of plan) plan.from (contains_slot plan.pending) (plan.from + n) slot }
+        ↔ HasWaitingBefore plan.placed (flags_of plan) plan.from (has_bit plan.pending) (plan.from + n) slot }
     ensures within { (plan : Planning) (n : ℕ) → IsWellPlaced plan.placed
         → IsValid plan.placed plan.from plan.pending → HasNoMiss plan n
         → (slot : ℕ) → (pending_in plan.placed (plan.from + n) (pending_before plan n) slot ≡ true)
-        ↔ HasWaiting plan.placed (flags_of plan) plan.from (contains_slot plan.pending) (plan.from + n) slot }
+        ↔ HasWaiting plan.placed (flags_of plan) plan.from (has_bit plan.pending) (plan.from + n) slot }
 {
     waiting_slots();
 }

@@ -5,7 +5,7 @@ ghost use Rattle.std.specs.Prelude.{sum_by, take, All, IsTrue, IfOk, IfErr, IfSo
 ghost use Rattle.planner_policies.specs.declared.Fill.TheVariants.{Prefix, Skip};
 ghost use Rattle.std.specs.List.{list_any};
 ghost use Rattle.profile.specs.Limits.{cycles_end};
-ghost use Rattle.requirement_table.specs.Slots.{contains_slot, set_of, most_slots};
+ghost use Rattle.bit_sets.specs.Sets.{has_bit, set_of, most_slots};
 ghost use Rattle.requirement_table.specs.Table.{IsInRange, width_in};
 ghost use Rattle.planner_policies.specs.Due.{IsAllFitting, IsLeastMissed, IsLineTaken, IsLongestFit, IsPlanned, IsSetOf};
 ghost use Rattle.planner_policies.specs.Due.{IsWholeLine, is_held_in, left_of, lesser_miss, taken_of, with_missed};
@@ -60,16 +60,16 @@ pub fn plan_cycle(ranked: &Ranked, w: u32, state: &PlanState) -> Result<(Mask, P
     requires cycle { state.now.cycle < cycles_end }
     requires valid { IsValid ranked.now.placed state.now.cycle state.now.pending }
     ensures planned { let plan = planning_of ranked.now w state.now.cycle state.now.pending in
-        IfOk result (λ r. r.0 ≡ set_of most_slots (planned_in plan state.now.cycle (contains_slot state.now.pending))) }
+        IfOk result (λ r. r.0 ≡ set_of most_slots (planned_in plan state.now.cycle (has_bit state.now.pending))) }
     ensures next_cycle { IfOk result (λ r. r.1.cycle ≡ state.now.cycle + 1) }
     ensures left { let plan = planning_of ranked.now w state.now.cycle state.now.pending in
         IfOk result
-        (λ r. r.1.pending ≡ set_of most_slots (left_after plan state.now.cycle (contains_slot state.now.pending))) }
+        (λ r. r.1.pending ≡ set_of most_slots (left_after plan state.now.cycle (has_bit state.now.pending))) }
     ensures next_valid { IfOk result (λ r. IsValid ranked.now.placed r.1.cycle r.1.pending) }
     ensures none_missed { let plan = planning_of ranked.now w state.now.cycle state.now.pending in
-        IfOk result (λ _. HasNoMissIn plan state.now.cycle (contains_slot state.now.pending)) }
+        IfOk result (λ _. HasNoMissIn plan state.now.cycle (has_bit state.now.pending)) }
     ensures missed { let plan = planning_of ranked.now w state.now.cycle state.now.pending in
-        IfErr result (λ miss. IsMissIn plan state.now.cycle (contains_slot state.now.pending) miss.slot miss.release) }
+        IfErr result (λ miss. IsMissIn plan state.now.cycle (has_bit state.now.pending) miss.slot miss.release) }
     ensures missed_cycle { IfErr result (λ miss. miss.cycle ≡ state.now.cycle) }
 {
     let planned = plan_with_width(ranked, w, state)?;
@@ -99,20 +99,20 @@ pub fn plan_with_width(ranked: &Ranked, w: u32, state: &PlanState) -> Result<Pla
     requires cycle { state.now.cycle < cycles_end }
     requires valid { IsValid ranked.now.placed state.now.cycle state.now.pending }
     ensures planned { let plan = planning_of ranked.now w state.now.cycle state.now.pending in
-        IfOk result (λ r. r.mask ≡ set_of most_slots (planned_in plan state.now.cycle (contains_slot state.now.pending))) }
+        IfOk result (λ r. r.mask ≡ set_of most_slots (planned_in plan state.now.cycle (has_bit state.now.pending))) }
     ensures width { let plan = planning_of ranked.now w state.now.cycle state.now.pending in
         IfOk result (λ r. r.width ≡ width_in plan.placed state.now.cycle
-        (planned_in plan state.now.cycle (contains_slot state.now.pending))) }
+        (planned_in plan state.now.cycle (has_bit state.now.pending))) }
     ensures fits { IfOk result (λ r. r.width ≤ w) }
     ensures next_cycle { IfOk result (λ r. r.next.cycle ≡ state.now.cycle + 1) }
     ensures left { let plan = planning_of ranked.now w state.now.cycle state.now.pending in
         IfOk result
-        (λ r. r.next.pending ≡ set_of most_slots (left_after plan state.now.cycle (contains_slot state.now.pending))) }
+        (λ r. r.next.pending ≡ set_of most_slots (left_after plan state.now.cycle (has_bit state.now.pending))) }
     ensures next_valid { IfOk result (λ r. IsValid ranked.now.placed r.next.cycle r.next.pending) }
     ensures none_missed { let plan = planning_of ranked.now w state.now.cycle state.now.pending in
-        IfOk result (λ _. HasNoMissIn plan state.now.cycle (contains_slot state.now.pending)) }
+        IfOk result (λ _. HasNoMissIn plan state.now.cycle (has_bit state.now.pending)) }
     ensures missed { let plan = planning_of ranked.now w state.now.cycle state.now.pending in
-        IfErr result (λ miss. IsMissIn plan state.now.cycle (contains_slot state.now.pending) miss.slot miss.release) }
+        IfErr result (λ miss. IsMissIn plan state.now.cycle (has_bit state.now.pending) miss.slot miss.release) }
     ensures missed_cycle { IfErr result (λ miss. miss.cycle ≡ state.now.cycle) }
 {
     ranked.placed();
@@ -125,10 +125,10 @@ fn plan_pending(ranked: &Ranked, w: u32, state: &PlanState) -> Result<Planned, M
     requires cycle { state.now.cycle < cycles_end }
     requires valid { IsValid ranked.now.placed state.now.cycle state.now.pending }
     ensures planned { let plan = planning_of ranked.now w state.now.cycle state.now.pending in IfOk result
-        (λ r. IsPlanned plan state.now.cycle (contains_slot state.now.pending) r.mask r.width r.next.pending) }
+        (λ r. IsPlanned plan state.now.cycle (has_bit state.now.pending) r.mask r.width r.next.pending) }
     ensures next_cycle { IfOk result (λ r. r.next.cycle ≡ state.now.cycle + 1) }
     ensures missed { let plan = planning_of ranked.now w state.now.cycle state.now.pending in
-        IfErr result (λ miss. IsMissIn plan state.now.cycle (contains_slot state.now.pending) miss.slot miss.release) }
+        IfErr result (λ miss. IsMissIn plan state.now.cycle (has_bit state.now.pending) miss.slot miss.release) }
     ensures missed_cycle { IfErr result (λ miss. miss.cycle ≡ state.now.cycle) }
 {
     if let Some(all) = all_fitting(ranked, w, state) {
@@ -155,10 +155,10 @@ fn plan_rows<const ROOM: usize>(ranked: &Ranked, w: u32, state: &PlanState) -> R
     requires most { ROOM ≤ most_slots }
     requires room { ROOM < most_slots → length ranked.now.placed ≤ ROOM }
     ensures planned { let plan = planning_of ranked.now w state.now.cycle state.now.pending in IfOk result
-        (λ r. IsPlanned plan state.now.cycle (contains_slot state.now.pending) r.mask r.width r.next.pending) }
+        (λ r. IsPlanned plan state.now.cycle (has_bit state.now.pending) r.mask r.width r.next.pending) }
     ensures next_cycle { IfOk result (λ r. r.next.cycle ≡ state.now.cycle + 1) }
     ensures missed { let plan = planning_of ranked.now w state.now.cycle state.now.pending in
-        IfErr result (λ miss. IsMissIn plan state.now.cycle (contains_slot state.now.pending) miss.slot miss.release) }
+        IfErr result (λ miss. IsMissIn plan state.now.cycle (has_bit state.now.pending) miss.slot miss.release) }
     ensures missed_cycle { IfErr result (λ miss. miss.cycle ≡ state.now.cycle) }
 {
     let line = line_of::<ROOM>(ranked, w, state);
@@ -173,7 +173,7 @@ pub fn cycle_mask(ranked: &Ranked, w: u32, state: &PlanState) -> Mask
     requires cycle { state.now.cycle < cycles_end }
     requires valid { IsValid ranked.now.placed state.now.cycle state.now.pending }
     ensures planned { let plan = planning_of ranked.now w state.now.cycle state.now.pending in
-        result ≡ set_of most_slots (planned_in plan state.now.cycle (contains_slot state.now.pending)) }
+        result ≡ set_of most_slots (planned_in plan state.now.cycle (has_bit state.now.pending)) }
 {
     if ranked.rows().len() <= FEW {
         mask_of_rows::<FEW>(ranked, w, state)
@@ -189,7 +189,7 @@ fn mask_of_rows<const ROOM: usize>(ranked: &Ranked, w: u32, state: &PlanState) -
     requires most { ROOM ≤ most_slots }
     requires room { ROOM < most_slots → length ranked.now.placed ≤ ROOM }
     ensures planned { let plan = planning_of ranked.now w state.now.cycle state.now.pending in
-        result ≡ set_of most_slots (planned_in plan state.now.cycle (contains_slot state.now.pending)) }
+        result ≡ set_of most_slots (planned_in plan state.now.cycle (has_bit state.now.pending)) }
 {
     let line = line_of::<ROOM>(ranked, w, state);
     plan_of_line(line.as_slice(), ranked.fill(), w).mask
@@ -212,7 +212,7 @@ fn all_fitting(ranked: &Ranked, w: u32, state: &PlanState) -> Option<Taken>
     requires valid { IsValid ranked.now.placed state.now.cycle state.now.pending }
     ensures fitting { let plan = planning_of ranked.now w state.now.cycle state.now.pending in
         IfSome result
-        (λ all. IsAllFitting plan state.now.cycle (contains_slot state.now.pending) all.mask all.width) }
+        (λ all. IsAllFitting plan state.now.cycle (has_bit state.now.pending) all.mask all.width) }
 {
     let rows = ranked.rows();
     let mut mask = Mask::empty();
@@ -239,7 +239,7 @@ fn line_of<const ROOM: usize>(ranked: &Ranked, w: u32, state: &PlanState) -> Lin
     requires valid { IsValid ranked.now.placed state.now.cycle state.now.pending }
     requires room { ROOM < most_slots → length ranked.now.placed ≤ ROOM }
     ensures line { IsWholeLine (planning_of ranked.now w state.now.cycle state.now.pending) state.now.cycle
-        (contains_slot state.now.pending) result }
+        (has_bit state.now.pending) result }
 {
     let rows = ranked.rows();
     let mut line = Line::<ROOM>::new();
@@ -368,7 +368,7 @@ fn front_of(line: &[Due], w: u32) -> Front
     ensures longest { IsLongestFit w line.now result.count }
     ensures width { result.width ≡ sum_by (λ due. due.cost) (take result.count line.now) }
     ensures slots { (slot : ℕ)
-        → contains_slot result.mask slot ≡ list_any (λ due. nat_eq due.slot slot) (take result.count line.now) }
+        → has_bit result.mask slot ≡ list_any (λ due. nat_eq due.slot slot) (take result.count line.now) }
     ensures below { result.mask < 2 ^ most_slots }
 {
     let mut width = 0;
@@ -453,7 +453,7 @@ fn with_missed(least: Option<Miss>, due: &Due, cycle: u64) -> Option<Miss>
 /// The slots of instances.
 fn slots_of(line: &[Due]) -> Mask
     requires known { All (λ due. due.slot < most_slots) line.now }
-    ensures slots { (slot : ℕ) → contains_slot result slot ≡ list_any (λ due. nat_eq due.slot slot) line.now }
+    ensures slots { (slot : ℕ) → has_bit result slot ≡ list_any (λ due. nat_eq due.slot slot) line.now }
     ensures below { result < 2 ^ most_slots }
 {
     let mut slots = Mask::empty();

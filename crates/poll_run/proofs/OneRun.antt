@@ -8,7 +8,7 @@ use Rattle.can_frame.specs.declared.data_frame.TimedFrame.{TimedFrame}
 use Rattle.cycle_layout.specs.Layout.{CycleLayout}
 use Rattle.requirement_table.specs.Instance.{Instance, bytes_of, release_of}
 use Rattle.requirement_table.specs.Opening.{Opening}
-use Rattle.requirement_table.specs.Slots.{most_slots}
+use Rattle.bit_sets.specs.Sets.{most_slots}
 use Rattle.bus_line.specs.Trace.{IsLeastOffered, IsTrace, Offers, started_before}
 use Rattle.node_model.specs.Offered.{OffersSlot, bytes_sent}
 use Rattle.cycle_engine.specs.Offered.{IsCanTrace, offered}

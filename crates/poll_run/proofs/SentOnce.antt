@@ -9,9 +9,10 @@ use Rattle.requirement_table.specs.declared.entries.Placed.{Placed}
 use Rattle.requirement_table.specs.Flags.{HasWaiting, IsGoodCycle, waits}
 use Rattle.requirement_table.specs.Instance.{Instance, MaySend, release_of}
 use Rattle.requirement_table.specs.Opening.{Opening}
-use Rattle.requirement_table.specs.Slots.{contains_slot, most_slots}
+use Rattle.bit_sets.specs.Sets.{has_bit, most_slots}
 use Rattle.requirement_table.specs.Table.{IsWellPlaced, instance_in}
-use Rattle.requirement_table.proofs.Shared.{contains_slot-none, contains_slot-set_of, found-in, found-of}
+use Rattle.requirement_table.proofs.Shared.{found-in, found-of}
+use Rattle.bit_sets.proofs.Shared.{has_bit-none, has_bit-set_of}
 use Rattle.change_protocol.specs.Applied.{without_end}
 use Rattle.planner_policies.specs.Plan.{HasNoMiss, NeverMisses, Planning, flags_of, mask_at, planned_at}
 use Rattle.admission_rules.specs.declared.Rules.{Rules}
@@ -48,7 +49,7 @@ pub record OnceLaws : Type 0 where
   pub instances : (rules : Rules) (history : List Event) → IsLegal rules history
       → All (λ o. (slot : ℕ) → option_map without_end (instance_in o.placed slot o.cycle) ≡ option_map without_end (instance_in (placed_of history) slot o.cycle))
       (openings_of history)
-  pub good : (plan : Planning) (n m : ℕ) → HasNoMiss plan n → m < n → IsGoodCycle plan.placed (flags_of plan) plan.from (contains_slot plan.pending) m
+  pub good : (plan : Planning) (n m : ℕ) → HasNoMiss plan n → m < n → IsGoodCycle plan.placed (flags_of plan) plan.from (has_bit plan.pending) m
   pub within : (placed : List Placed) (flags : ℕ → ℕ → Bool) (from n : ℕ) (held : ℕ → Bool) → IsWellPlaced placed
       → ((slot : ℕ) → held slot ≡ true → IsSomeAnd (instance_in placed slot from) (λ i. release_of i.placed i.number < from))
       → ((m : ℕ) → m < n → IsGoodCycle placed flags from held m)
@@ -71,18 +72,18 @@ module _ (laws : OnceLaws) (rules : Rules) (history : List Event) (legal : IsLeg
   well : IsWellPlaced placed
   well = laws.well_placed rules history legal
 
-  mask-flags : (c slot : ℕ) → slot < most_slots → contains_slot (mask_at plan c) slot ≡ flags c slot
+  mask-flags : (c slot : ℕ) → slot < most_slots → has_bit (mask_at plan c) slot ≡ flags c slot
   mask-flags c slot known =
       let same : c ≡ c - 0 = omega arith in
-      contains_slot-set_of most_slots (planned_at plan c) slot
+      has_bit-set_of most_slots (planned_at plan c) slot
       ∙ ap (λ (b : Bool). b && planned_at plan c slot) (lt-ltb slot most_slots known)
       ∙ ap (λ (n : ℕ). planned_at plan n slot) same
 
-  good : (n m : ℕ) → m < n → IsGoodCycle placed flags 0 (contains_slot 0) m
+  good : (n m : ℕ) → m < n → IsGoodCycle placed flags 0 (has_bit 0) m
   good n m before = laws.good plan n m (λ c slot _ known. laws.in_time rules history legal c slot known) before
 
-  none-held : (slot : ℕ) → contains_slot 0 slot ≡ true → IsSomeAnd (instance_in placed slot 0) (λ i. release_of i.placed i.number < 0)
-  none-held slot held = absurd (false≢true (sym (contains_slot-none slot) ∙ held))
+  none-held : (slot : ℕ) → has_bit 0 slot ≡ true → IsSomeAnd (instance_in placed slot 0) (λ i. release_of i.placed i.number < 0)
+  none-held slot held = absurd (false≢true (sym (has_bit-none slot) ∙ held))
 
   -- where a slot is flagged, it was not flagged before since the release of its instance
   unsent-before : (slot cycle : ℕ) (i : Instance) → slot < most_slots → flags cycle slot ≡ true → instance_in placed slot cycle ≡ Some i
@@ -90,8 +91,8 @@ module _ (laws : OnceLaws) (rules : Rules) (history : List Event) (legal : IsLeg
   unsent-before slot cycle i known flagged is earlier after before =
       let start : 0 + cycle ≡ cycle = zero-add cycle in
       let waiting_now = (good (cycle + 1) cycle (omega arith)).holding slot known (subst (λ (c : ℕ). flags c slot ≡ true) (sym start) flagged) in
-      let has : HasWaiting placed flags 0 (contains_slot 0) (0 + cycle) slot =
-      (laws.within placed flags 0 cycle (contains_slot 0) well none-held (λ m less. good cycle m less) slot).0 waiting_now in
+      let has : HasWaiting placed flags 0 (has_bit 0) (0 + cycle) slot =
+      (laws.within placed flags 0 cycle (has_bit 0) well none-held (λ m less. good cycle m less) slot).0 waiting_now in
       let waits_in = has.waiting in
       let instance : Instance = record { placed = has.entry; number = has.number } in
       let found : instance_in placed slot cycle ≡ Some instance =
@@ -129,7 +130,7 @@ module _ (laws : OnceLaws) (rules : Rules) (history : List Event) (legal : IsLeg
           found = found;
           released = released;
           flagged = λ known. subst (λ (c : ℕ). flags c slot ≡ true) is.in_cycle
-              (sym (mask-flags o.cycle slot known) ∙ ap (λ (m : ℕ). contains_slot m slot) (sym mask) ∙ is.flagged);
+              (sym (mask-flags o.cycle slot known) ∙ ap (λ (m : ℕ). has_bit m slot) (sym mask) ∙ is.flagged);
           took = is.took;
         }
 

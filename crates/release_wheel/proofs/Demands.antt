@@ -8,9 +8,10 @@ use Rattle.std.proofs.lemmas.List.Folds.{Any-from_list_any}
 use Rattle.std.proofs.lemmas.List.Sums.{get_or-le-sum_by, sum_by-cons, sum_by_more}
 use Rattle.requirement_table.specs.declared.entries.Placed.{Placed}
 use Rattle.requirement_table.specs.Instance.{Exists, IsReleasedIn, MaySend, release_of, released_by, worst, worst_of}
-use Rattle.requirement_table.specs.Slots.{contains_slot, most_slots, set_of, sum_where}
+use Rattle.bit_sets.specs.Sets.{has_bit, most_slots, set_of, sum_where}
 use Rattle.requirement_table.specs.Table.{IsInRange, IsWellPlaced, instance_in, is_last_in, releases_in, width_in, worst_in}
-use Rattle.requirement_table.proofs.Shared.{IsReleasedIn-from_released_by, contains_slot-none, found-of, set_of-contains_slot, set_of-same}
+use Rattle.requirement_table.proofs.Shared.{IsReleasedIn-from_released_by, found-of}
+use Rattle.bit_sets.proofs.Shared.{has_bit-none, set_of-has_bit, set_of-same, sum_where-most}
 use Rattle.planner_policies.specs.Plan.{HasNoMissIn, IsValid, Planning, Ranking, left_after, pending_in, planned_in, planning_of}
 use Rattle.planner_policies.proofs.Shared.{taken-all}
 use Rattle.release_wheel.specs.Demand.{cost_in, demand_in}
@@ -77,14 +78,6 @@ sum-less (suc n) p f g each =
     part true x y less = less refl
     part false x y less = omega arith
 
-sum-nothing : (n : ℕ) (p : ℕ → Bool) → sum_where n p (λ _. 0) ≤ 0
-unfolding sum_where
-sum-nothing zero p = omega arith
-sum-nothing (suc n) p =
-    let rest = sum-nothing n p in
-    let here = at-most (p n) 0 0 (omega arith) in
-    omega arith
-
 -- What slots cost
 
 -- what the entries of a slot release in a cycle
@@ -98,7 +91,7 @@ share-cons p ps c slot =
 
 -- the shares of the slots are no more than all that is released
 shares-all : (placed : List Placed) (c : ℕ) (flagged : ℕ → Bool) → sum_where most_slots flagged (λ slot. share placed c slot) ≤ demand_in placed c
-shares-all [] c flagged = sum-nothing most_slots flagged
+shares-all [] c flagged = let none = sum_where-most most_slots 0 flagged (λ _. 0) (λ slot below. omega arith) in omega arith
 shares-all (p ∷ ps) c flagged =
     let one = sum-one most_slots p.entry.slot (cost_in p c) flagged in
     let both = sum-parts most_slots flagged (λ slot. share (p ∷ ps) c slot) (λ slot. for_slot p.entry.slot (cost_in p c) slot) (λ slot. share ps c slot)
@@ -135,13 +128,13 @@ released-share placed c slot well test =
     (get_or-le-sum_by (λ (p : Placed). for_slot p.entry.slot (cost_in p c) slot) placed i q any.2)
 
 -- where nothing is pending before a cycle, what is pending in it is what is released in it
-none-before : (pending slot : ℕ) → pending ≡ 0 → contains_slot pending slot ≡ false
-none-before pending slot none = ap (λ mask. contains_slot mask slot) none ∙ contains_slot-none slot
+none-before : (pending slot : ℕ) → pending ≡ 0 → has_bit pending slot ≡ false
+none-before pending slot none = ap (λ mask. has_bit mask slot) none ∙ has_bit-none slot
 
 width-released : (placed : List Placed) (c pending : ℕ) → IsWellPlaced placed → pending ≡ 0
-    → width_in placed c (pending_in placed c (contains_slot pending)) ≤ demand_in placed c
+    → width_in placed c (pending_in placed c (has_bit pending)) ≤ demand_in placed c
 width-released placed c pending well none =
-    let flagged : ℕ → Bool = pending_in placed c (contains_slot pending) in
+    let flagged : ℕ → Bool = pending_in placed c (has_bit pending) in
     let less = sum-less most_slots flagged (worst_in placed c) (λ slot. share placed c slot)
     (λ slot is. released-share placed c slot well (sym (ap (λ b. b || releases_in placed c slot) (none-before pending slot none)) ∙ is)) in
     let all = shares-all placed c flagged in
@@ -149,22 +142,22 @@ width-released placed c pending well none =
 
 -- all of it is planned, and nothing is left
 module _ (plan : Planning) (c pending : ℕ) (well : IsWellPlaced plan.placed) (none : pending ≡ 0) (fits : demand_in plan.placed c ≤ plan.window) where
-  none-left : (slot : ℕ) → slot < most_slots → left_after plan c (contains_slot pending) slot ≡ false
-  none-left slot known = pick (pending_in plan.placed c (contains_slot pending) slot) refl
+  none-left : (slot : ℕ) → slot < most_slots → left_after plan c (has_bit pending) slot ≡ false
+  none-left slot known = pick (pending_in plan.placed c (has_bit pending) slot) refl
     where
-      pick : (b : Bool) → pending_in plan.placed c (contains_slot pending) slot ≡ b → (b && not (planned_in plan c (contains_slot pending) slot)) ≡ false
+      pick : (b : Bool) → pending_in plan.placed c (has_bit pending) slot ≡ b → (b && not (planned_in plan c (has_bit pending) slot)) ≡ false
       pick false is = refl
       pick true is =
           let all = width-released plan.placed c pending well none in
-          ap not (taken-all plan.policy plan.window plan.placed c (pending_in plan.placed c (contains_slot pending)) plan.fill slot known (omega (arith, all, fits)) is)
+          ap not (taken-all plan.policy plan.window plan.placed c (pending_in plan.placed c (has_bit pending)) plan.fill slot known (omega (arith, all, fits)) is)
 
-  none-missed : HasNoMissIn plan c (contains_slot pending)
+  none-missed : HasNoMissIn plan c (has_bit pending)
   none-missed slot known = ap (λ b. b && is_last_in plan.placed c slot) (none-left slot known)
 
-  left-none : set_of most_slots (left_after plan c (contains_slot pending)) ≡ 0
+  left-none : set_of most_slots (left_after plan c (has_bit pending)) ≡ 0
   left-none =
-      set_of-same most_slots (left_after plan c (contains_slot pending)) (contains_slot 0) (λ slot known. none-left slot known ∙ sym (contains_slot-none slot))
-      ∙ sym (set_of-contains_slot most_slots 0 (omega arith))
+      set_of-same most_slots (left_after plan c (has_bit pending)) (has_bit 0) (λ slot known. none-left slot known ∙ sym (has_bit-none slot))
+      ∙ sym (set_of-has_bit most_slots 0 (omega arith))
 
 pub leaves-none : (ranking : Ranking) (window c pending : ℕ) → IsWellPlaced ranking.placed → pending ≡ 0 → demand_in ranking.placed c ≤ window
     → LeavesSame (planning_of ranking window c pending)

@@ -7,8 +7,6 @@ mod RowDues
 mod RowFilling
 mod RowLines
 mod RowPicking
-mod RowSets
 mod RowSteps
 mod RowSums
 mod RowTaking
-mod RowWords

@@ -3,15 +3,16 @@
 use Rattle.std.proofs.Common.{◌≡◌, ℕ, zero, suc, ◌+◌, ◌-◌, ◌<◌, ◌≤◌, Bool, true, false, nat_lt, if◌then◌else◌, Option, None, Some, List, refl, sym, ap, ◌∙◌, subst, Result, Ok, Err, IfOk, IfErr, arith}
 use Rattle.std.proofs.lemmas.Bool.{lt-ltb, ltb-true}
 use Rattle.requirement_table.specs.declared.entries.Placed.{Placed}
-use Rattle.requirement_table.specs.Slots.{contains_slot, most_slots, set_of}
+use Rattle.bit_sets.specs.Sets.{has_bit, most_slots, set_of}
 use Rattle.requirement_table.specs.Table.{IsWellPlaced, instance_in, near_of, releases_in, width_in, worst_in}
-use Rattle.requirement_table.proofs.Shared.{instance_in-near_of, releases_in-near_of, set_of-same, sum_where-same}
+use Rattle.requirement_table.proofs.Shared.{instance_in-near_of, releases_in-near_of}
+use Rattle.bit_sets.proofs.Shared.{set_of-same, sum_where-same, sum_where-costs}
 use Rattle.planner_policies.specs.declared.Fill.{Fill}
 use Rattle.planner_policies.specs.declared.Policy.{Policy}
 use Rattle.planner_policies.specs.declared.state.Miss.{Miss}
 use Rattle.planner_policies.specs.Due.{IsPlanned}
 use Rattle.planner_policies.specs.Plan.{HasNoMissIn, IsMissIn, IsValid, Planning, Ranking, is_missed_in, left_after, planned_in, planning_of}
-use Rattle.planner_policies.proofs.Shared.{AreAlike, alike-from_same, left-alike, left-valid, missed-alike, planned-alike, sum_where-costs}
+use Rattle.planner_policies.proofs.Shared.{AreAlike, alike-from_same, left-alike, left-valid, missed-alike, planned-alike}
 use Rattle.release_wheel.specs.declared.near.Near.{Near}
 use Rattle.release_wheel.specs.declared.planner.CyclePlan.{CyclePlan}
 use Rattle.release_wheel.specs.declared.wheel.Wheel.{Wheel}
@@ -49,7 +50,7 @@ module _ (all : Ranking) (placed : List Placed) (window c slots : ℕ)
   part = record plan { placed = placed }
 
   abbrev before : ℕ → Bool
-  before = contains_slot slots
+  before = has_bit slots
 
   alike : AreAlike all.policy all.placed placed c c
   alike = alike-from_same all.policy all.placed placed c c refl (λ slot known. instances slot) (λ slot known. releases slot)
@@ -75,7 +76,7 @@ module _ (all : Ranking) (placed : List Placed) (window c slots : ℕ)
   same-width : width_in placed c (planned_in part c before) ≡ width_in all.placed c (planned_in plan c before)
   same-width =
       sum_where-same most_slots (planned_in part c before) (planned_in plan c before) (worst_in placed c) planned-slot
-      ∙ sum_where-costs most_slots (planned_in plan c before) (worst_in placed c) (worst_in all.placed c) alike.cost
+      ∙ sum_where-costs most_slots (planned_in plan c before) (worst_in placed c) (worst_in all.placed c) (λ s below _. alike.cost s below)
 
   planned-here : (mask width next : ℕ) → IsPlanned part c before mask width next → IsPlanned plan c before mask width next
   planned-here mask width next planned = record {
@@ -112,16 +113,16 @@ module _ (all some : Ranking) (window c slots : ℕ) (alike : IsAlike all some c
       let with_fill : Fill → Ranking = λ fill. record { placed = some.placed; policy = all.policy; fill = fill } in
       ap with_policy alike.policy ∙ ap with_fill alike.fill
 
-  pub planned-all : (mask width next : ℕ) → IsPlanned (planning_of some window c slots) c (contains_slot slots) mask width next
-      → IsPlanned (planning_of all window c slots) c (contains_slot slots) mask width next
+  pub planned-all : (mask width next : ℕ) → IsPlanned (planning_of some window c slots) c (has_bit slots) mask width next
+      → IsPlanned (planning_of all window c slots) c (has_bit slots) mask width next
   planned-all mask width next planned =
-      let P : Ranking → Type 0 = λ r. IsPlanned (planning_of r window c slots) c (contains_slot slots) mask width next in
+      let P : Ranking → Type 0 = λ r. IsPlanned (planning_of r window c slots) c (has_bit slots) mask width next in
       planned-here all some.placed window c slots alike.instances alike.releases mask width next (subst P same planned)
 
-  pub missed-all : (slot release : ℕ) → IsMissIn (planning_of some window c slots) c (contains_slot slots) slot release
-      → IsMissIn (planning_of all window c slots) c (contains_slot slots) slot release
+  pub missed-all : (slot release : ℕ) → IsMissIn (planning_of some window c slots) c (has_bit slots) slot release
+      → IsMissIn (planning_of all window c slots) c (has_bit slots) slot release
   missed-all slot release miss =
-      let P : Ranking → Type 0 = λ r. IsMissIn (planning_of r window c slots) c (contains_slot slots) slot release in
+      let P : Ranking → Type 0 = λ r. IsMissIn (planning_of r window c slots) c (has_bit slots) slot release in
       missed-here all some.placed window c slots alike.instances alike.releases slot release (subst P same miss)
 
   pub passed-all : IsPassed (planning_of some window c slots) → IsPassed (planning_of all window c slots)
@@ -182,37 +183,37 @@ module _ (all some : Ranking) (near : Option Near) (window : ℕ) (old mid new :
   alike-here : IsAlike all some mid.cycle
   alike-here = subst (λ q. IsAlike all q mid.cycle) (sym is) (alike-at all near mid well rows mid.cycle (omega arith) (λ before. before))
 
-  planned-old : (mask width next : ℕ) → IsPlanned (planning_of some window mid.cycle mid.dues.waiting.slots) mid.cycle (contains_slot mid.dues.waiting.slots) mask width next
-      → IsPlanned (planning_of all window old.cycle old.dues.waiting.slots) old.cycle (contains_slot old.dues.waiting.slots) mask width next
+  planned-old : (mask width next : ℕ) → IsPlanned (planning_of some window mid.cycle mid.dues.waiting.slots) mid.cycle (has_bit mid.dues.waiting.slots) mask width next
+      → IsPlanned (planning_of all window old.cycle old.dues.waiting.slots) old.cycle (has_bit old.dues.waiting.slots) mask width next
   planned-old mask width next planned =
-      let P : ℕ → Type 0 = λ c. IsPlanned (planning_of all window c mid.dues.waiting.slots) c (contains_slot mid.dues.waiting.slots) mask width next in
-      let Q : ℕ → Type 0 = λ s. IsPlanned (planning_of all window old.cycle s) old.cycle (contains_slot s) mask width next in
+      let P : ℕ → Type 0 = λ c. IsPlanned (planning_of all window c mid.dues.waiting.slots) c (has_bit mid.dues.waiting.slots) mask width next in
+      let Q : ℕ → Type 0 = λ s. IsPlanned (planning_of all window old.cycle s) old.cycle (has_bit s) mask width next in
       subst Q slots (subst P cycle (planned-all all some window mid.cycle mid.dues.waiting.slots alike-here mask width next planned))
 
-  missed-old : (slot release : ℕ) → IsMissIn (planning_of some window mid.cycle mid.dues.waiting.slots) mid.cycle (contains_slot mid.dues.waiting.slots) slot release
-      → IsMissIn (planning_of all window old.cycle old.dues.waiting.slots) old.cycle (contains_slot old.dues.waiting.slots) slot release
+  missed-old : (slot release : ℕ) → IsMissIn (planning_of some window mid.cycle mid.dues.waiting.slots) mid.cycle (has_bit mid.dues.waiting.slots) slot release
+      → IsMissIn (planning_of all window old.cycle old.dues.waiting.slots) old.cycle (has_bit old.dues.waiting.slots) slot release
   missed-old slot release miss =
-      let P : ℕ → Type 0 = λ c. IsMissIn (planning_of all window c mid.dues.waiting.slots) c (contains_slot mid.dues.waiting.slots) slot release in
-      let Q : ℕ → Type 0 = λ s. IsMissIn (planning_of all window old.cycle s) old.cycle (contains_slot s) slot release in
+      let P : ℕ → Type 0 = λ c. IsMissIn (planning_of all window c mid.dues.waiting.slots) c (has_bit mid.dues.waiting.slots) slot release in
+      let Q : ℕ → Type 0 = λ s. IsMissIn (planning_of all window old.cycle s) old.cycle (has_bit s) slot release in
       subst Q slots (subst P cycle (missed-all all some window mid.cycle mid.dues.waiting.slots alike-here slot release miss))
 
-  pub stepped-planned : IfOk r (λ p. IsPlanned (planning_of some window mid.cycle mid.dues.waiting.slots) mid.cycle (contains_slot mid.dues.waiting.slots) p.mask p.width new.dues.waiting.slots)
-      → IfOk r (λ p. IsPlanned (planning_of all window old.cycle old.dues.waiting.slots) old.cycle (contains_slot old.dues.waiting.slots) p.mask p.width new.dues.waiting.slots)
+  pub stepped-planned : IfOk r (λ p. IsPlanned (planning_of some window mid.cycle mid.dues.waiting.slots) mid.cycle (has_bit mid.dues.waiting.slots) p.mask p.width new.dues.waiting.slots)
+      → IfOk r (λ p. IsPlanned (planning_of all window old.cycle old.dues.waiting.slots) old.cycle (has_bit old.dues.waiting.slots) p.mask p.width new.dues.waiting.slots)
   stepped-planned = pick r
     where
       pick : (r' : Result CyclePlan Miss)
-          → IfOk r' (λ p. IsPlanned (planning_of some window mid.cycle mid.dues.waiting.slots) mid.cycle (contains_slot mid.dues.waiting.slots) p.mask p.width new.dues.waiting.slots)
-          → IfOk r' (λ p. IsPlanned (planning_of all window old.cycle old.dues.waiting.slots) old.cycle (contains_slot old.dues.waiting.slots) p.mask p.width new.dues.waiting.slots)
+          → IfOk r' (λ p. IsPlanned (planning_of some window mid.cycle mid.dues.waiting.slots) mid.cycle (has_bit mid.dues.waiting.slots) p.mask p.width new.dues.waiting.slots)
+          → IfOk r' (λ p. IsPlanned (planning_of all window old.cycle old.dues.waiting.slots) old.cycle (has_bit old.dues.waiting.slots) p.mask p.width new.dues.waiting.slots)
       pick (Ok p) planned = planned-old p.mask p.width new.dues.waiting.slots planned
       pick (Err miss) planned = planned
 
-  pub stepped-missed : IfErr r (λ miss. IsMissIn (planning_of some window mid.cycle mid.dues.waiting.slots) mid.cycle (contains_slot mid.dues.waiting.slots) miss.slot miss.release)
-      → IfErr r (λ miss. IsMissIn (planning_of all window old.cycle old.dues.waiting.slots) old.cycle (contains_slot old.dues.waiting.slots) miss.slot miss.release)
+  pub stepped-missed : IfErr r (λ miss. IsMissIn (planning_of some window mid.cycle mid.dues.waiting.slots) mid.cycle (has_bit mid.dues.waiting.slots) miss.slot miss.release)
+      → IfErr r (λ miss. IsMissIn (planning_of all window old.cycle old.dues.waiting.slots) old.cycle (has_bit old.dues.waiting.slots) miss.slot miss.release)
   stepped-missed = pick r
     where
       pick : (r' : Result CyclePlan Miss)
-          → IfErr r' (λ miss. IsMissIn (planning_of some window mid.cycle mid.dues.waiting.slots) mid.cycle (contains_slot mid.dues.waiting.slots) miss.slot miss.release)
-          → IfErr r' (λ miss. IsMissIn (planning_of all window old.cycle old.dues.waiting.slots) old.cycle (contains_slot old.dues.waiting.slots) miss.slot miss.release)
+          → IfErr r' (λ miss. IsMissIn (planning_of some window mid.cycle mid.dues.waiting.slots) mid.cycle (has_bit mid.dues.waiting.slots) miss.slot miss.release)
+          → IfErr r' (λ miss. IsMissIn (planning_of all window old.cycle old.dues.waiting.slots) old.cycle (has_bit old.dues.waiting.slots) miss.slot miss.release)
       pick (Ok p) missed = missed
       pick (Err miss) missed = missed-old miss.slot miss.release missed
 
@@ -223,13 +224,13 @@ module _ (all : Ranking) (near : Option Near) (window : ℕ) (mid new : Wheel) (
   onward-after (Err miss) next same = omega arith
 
   pub valid-after : (r : Result CyclePlan Miss)
-      → IfOk r (λ p. IsPlanned (planning_of all window mid.cycle mid.dues.waiting.slots) mid.cycle (contains_slot mid.dues.waiting.slots) p.mask p.width new.dues.waiting.slots)
+      → IfOk r (λ p. IsPlanned (planning_of all window mid.cycle mid.dues.waiting.slots) mid.cycle (has_bit mid.dues.waiting.slots) p.mask p.width new.dues.waiting.slots)
       → IfOk r (λ _. new.cycle ≡ mid.cycle + 1) → IfErr r (λ _. new.cycle ≡ mid.cycle) → IfErr r (λ _. new.dues.waiting.slots ≡ mid.dues.waiting.slots)
       → IsValid all.placed new.cycle new.dues.waiting.slots
   valid-after (Ok p) planned next same_cycle same_slots =
       let left = left-valid (planning_of all window mid.cycle mid.dues.waiting.slots) mid.cycle mid.dues.waiting.slots well valid planned.none_missed in
       subst (λ s. IsValid all.placed new.cycle s) (sym planned.left)
-      (subst (λ c. IsValid all.placed c (set_of most_slots (left_after (planning_of all window mid.cycle mid.dues.waiting.slots) mid.cycle (contains_slot mid.dues.waiting.slots)))) (sym next) left)
+      (subst (λ c. IsValid all.placed c (set_of most_slots (left_after (planning_of all window mid.cycle mid.dues.waiting.slots) mid.cycle (has_bit mid.dues.waiting.slots)))) (sym next) left)
   valid-after (Err miss) planned next same_cycle same_slots =
       subst (λ s. IsValid all.placed new.cycle s) (sym same_slots) (subst (λ c. IsValid all.placed c mid.dues.waiting.slots) (sym same_cycle) valid)
 

@@ -1,55 +1,56 @@
 -- Releases that are made row by row.
 use Rattle.std.proofs.Common.{◌≡◌, ◌≢◌, ℕ, ◌+◌, ◌-◌, ◌%◌, ◌^◌, ◌<◌, ◌≤◌, ◌&&◌, ◌||◌, not, Bool, true, false, nat_eq, min, None, List, get_or, length, refl, sym, ap, subst, ◌∙◌, arith}
+use Rattle.std.proofs.Math.Bool.{and-false, and-true, or-false}
 use Rattle.std.proofs.lemmas.Bool.{and_parts, both_ways, eq-eqb, eqb-true}
 use Rattle.std.proofs.lemmas.List.{get_or-set_other, get_or-set_same}
 use Rattle.std.proofs.Math.ListN.{length-set}
 use Rattle.std.proofs.Math.Nat.{mod-lt}
 use Rattle.requirement_table.specs.declared.entries.Placed.{Placed}
 use Rattle.requirement_table.specs.Instance.{Exists, exists, release_of}
-use Rattle.requirement_table.specs.Slots.{contains_slot}
+use Rattle.bit_sets.specs.Sets.{has_bit}
 use Rattle.requirement_table.specs.Table.{IsInRange}
 use Rattle.requirement_table.proofs.Shared.{Exists-from_test, exists-true}
 use Rattle.release_wheel.specs.declared.dues.Dues.{Dues}
 use Rattle.release_wheel.specs.declared.rows.Rows.{Rows}
 use Rattle.release_wheel.specs.declared.wheel.Wheel.{Wheel}
-use Rattle.release_wheel.specs.Wheel.{HasRoom, IsAlways, IsNext, IsOnWheel, IsReleased, IsReleasing, IsRowBegun, IsRowReleased, IsSameBut, IsTurned, ReleasedAt, StandsAt, TurnedAt, has_row, is_found, is_there, no_entry}
+use Rattle.release_wheel.specs.Wheel.{HasRoom, IsAlways, IsNext, IsOnWheel, IsReleased, IsReleasing, IsRowBegun, IsRowReleased, IsSameBut, IsTurned, ReleasedAt, StandsAt, TurnedAt, is_found, is_there, no_entry}
 use Rattle.release_wheel.proofs.RowDues.{due-released, due-stay, first-release, next-after, not-held, stands-later}
-use Rattle.release_wheel.proofs.RowSets.{has-none}
-use Rattle.release_wheel.proofs.RowSteps.{and-off, and-on, by-row, on_wheel-other, or-none, other-row, released-other, there-is, there-not, turned-other}
+use Rattle.bit_sets.proofs.Shared.{has_bit-none}
+use Rattle.release_wheel.proofs.RowSteps.{by-row, on_wheel-other, other-row, released-other, there-is, there-not, turned-other}
 use Rattle.release_wheel.proofs.RowSums.{sum-with}
 
 -- a set without one row
 abbrev pub IsWithout : ℕ → ℕ → ℕ → Type 0
-IsWithout row rest less = (i : ℕ) → has_row less i ≡ (not (nat_eq row i) && has_row rest i)
+IsWithout row rest less = (i : ℕ) → has_bit less i ≡ (not (nat_eq row i) && has_bit rest i)
 
-rest-of : (row rest less : ℕ) → IsWithout row rest less → (i : ℕ) → has_row less i ≡ true → has_row rest i ≡ true
-rest-of row rest less made i in' = (and_parts (not (nat_eq row i)) (has_row rest i) (sym (made i) ∙ in')).1
+rest-of : (row rest less : ℕ) → IsWithout row rest less → (i : ℕ) → has_bit less i ≡ true → has_bit rest i ≡ true
+rest-of row rest less made i in' = (and_parts (not (nat_eq row i)) (has_bit rest i) (sym (made i) ∙ in')).1
 
-other-of : (row rest less : ℕ) → IsWithout row rest less → (i : ℕ) → has_row less i ≡ true → nat_eq row i ≡ false
-other-of row rest less made i in' = turn (nat_eq row i) (and_parts (not (nat_eq row i)) (has_row rest i) (sym (made i) ∙ in')).0
+other-of : (row rest less : ℕ) → IsWithout row rest less → (i : ℕ) → has_bit less i ≡ true → nat_eq row i ≡ false
+other-of row rest less made i in' = turn (nat_eq row i) (and_parts (not (nat_eq row i)) (has_bit rest i) (sym (made i) ∙ in')).0
   where
     turn : (b : Bool) → not b ≡ true → b ≡ false
     turn true wrong = absurd (cc)
     turn false is = refl
 
-out-of : (row rest less : ℕ) → IsWithout row rest less → (i : ℕ) → has_row less i ≡ false → nat_eq row i ≡ false → has_row rest i ≡ false
-out-of row rest less made i out apart = ap (λ b. not b && has_row rest i) (sym apart) ∙ sym (made i) ∙ out
+out-of : (row rest less : ℕ) → IsWithout row rest less → (i : ℕ) → has_bit less i ≡ false → nat_eq row i ≡ false → has_bit rest i ≡ false
+out-of row rest less made i out apart = ap (λ b. not b && has_bit rest i) (sym apart) ∙ sym (made i) ∙ out
 
 -- a row without a release in the cycle
 pub stay-at : (rows : Rows) (dues : Dues) (before : ℕ → Bool) (c row : ℕ) → IsInRange (get_or rows.entries.items row no_entry)
     → TurnedAt rows dues before c row
-    → (has_row dues.always.rows row ≡ false → Exists (get_or rows.entries.items row no_entry) (get_or rows.nexts.items row 0) → get_or rows.nexts.items row 0 ≢ c)
+    → (has_bit dues.always.rows row ≡ false → Exists (get_or rows.entries.items row no_entry) (get_or rows.nexts.items row 0) → get_or rows.nexts.items row 0 ≢ c)
     → ReleasedAt rows dues before c row
 stay-at rows dues before c row range turned apart =
     let p = get_or rows.entries.items row no_entry in
     let next = get_or rows.nexts.items row 0 in (
-      stands-later c p (has_row dues.always.rows row) next (is_found rows next row) turned.0 apart,
-      due-stay before c p (has_row dues.waiting.rows row) (has_row dues.always.rows row) next (get_or rows.lasts.items row 0) dues.soonest
+      stands-later c p (has_bit dues.always.rows row) next (is_found rows next row) turned.0 apart,
+      due-stay before c p (has_bit dues.waiting.rows row) (has_bit dues.always.rows row) next (get_or rows.lasts.items row 0) dues.soonest
           (is_found rows next row) range turned.0 turned.1 apart,
     )
 
 module _ (before : ℕ → Bool) (c rest less row : ℕ) (rows : Rows) (dues : Dues) (g : IsReleasing before c rest rows dues)
-    (stands' : has_row rest row ≡ true) (made : IsWithout row rest less) (within : row < length rows.entries.items) where
+    (stands' : has_bit rest row ≡ true) (made : IsWithout row rest less) (within : row < length rows.entries.items) where
   -- the row is looked at, and the others are as they were
   step : (new : Rows) (more : Dues) → length new.entries.items ≡ length rows.entries.items → IsSameBut row rows new dues more
       → HasRoom (length new.entries.items) new more → ReleasedAt new more before c row → IsReleasing before c less new more
@@ -91,7 +92,7 @@ module _ (before : ℕ → Bool) (c rest less row : ℕ) (rows : Rows) (dues : D
     here-less : c % 64 < 64
     here-less = mod-lt c (omega arith)
 
-    on : IsOnWheel (length rows.entries.items) row (c % 64) (get_or rows.nexts.items row 0) P (has_row dues.always.rows row)
+    on : IsOnWheel (length rows.entries.items) row (c % 64) (get_or rows.nexts.items row 0) P (has_bit dues.always.rows row)
     on = g.room.on_wheel (c % 64) row here-less (g.place row stands')
 
     next : IsNext P c (get_or rows.nexts.items row 0)
@@ -103,26 +104,26 @@ module _ (before : ℕ → Bool) (c rest less row : ℕ) (rows : Rows) (dues : D
     exists-now : Exists P c
     exists-now = let E : ℕ → Type 0 = λ r. Exists P r in subst E now on.coming
 
-    not-waiting : has_row dues.waiting.rows row ≡ false
+    not-waiting : has_bit dues.waiting.rows row ≡ false
     not-waiting =
         (g.later row within stands').1.waits_is
         ∙ ap (λ b. before P.entry.slot && b) (not-held P c next.number range is-release exists-now)
-        ∙ and-off (before P.entry.slot)
+        ∙ and-false (before P.entry.slot)
 
     -- at no other place does the row stand
-    gone : (k : ℕ) → k < 64 → (has_row (get_or rows.places.items k 0) row && not (is_there (c % 64) row k row)) ≡ false
-    gone k below = pick (has_row (get_or rows.places.items k 0) row) refl
+    gone : (k : ℕ) → k < 64 → (has_bit (get_or rows.places.items k 0) row && not (is_there (c % 64) row k row)) ≡ false
+    gone k below = pick (has_bit (get_or rows.places.items k 0) row) refl
       where
-        pick : (b : Bool) → has_row (get_or rows.places.items k 0) row ≡ b → (b && not (is_there (c % 64) row k row)) ≡ false
+        pick : (b : Bool) → has_bit (get_or rows.places.items k 0) row ≡ b → (b && not (is_there (c % 64) row k row)) ≡ false
         pick false is = refl
         pick true is =
             let only : c % 64 ≡ k = ap (λ n. n % 64) (sym now) ∙ (g.room.on_wheel k row below is).at in
             ap not (ap (λ j. is_there (c % 64) row j row) (sym only) ∙ there-is (c % 64) row)
 
     off-other : (k i : ℕ) → nat_eq row i ≡ false
-        → (has_row (get_or rows.places.items k 0) i && not (is_there (c % 64) row k i)) ≡ has_row (get_or rows.places.items k 0) i
+        → (has_bit (get_or rows.places.items k 0) i && not (is_there (c % 64) row k i)) ≡ has_bit (get_or rows.places.items k 0) i
     off-other k i other =
-        ap (λ b. has_row (get_or rows.places.items k 0) i && not b) (there-not (c % 64) row k i other) ∙ and-on (has_row (get_or rows.places.items k 0) i)
+        ap (λ b. has_bit (get_or rows.places.items k 0) i && not b) (there-not (c % 64) row k i other) ∙ and-true (has_bit (get_or rows.places.items k 0) i)
 
     -- its first release, where it has an instance in each cycle from then on
     module _ (new : Rows) (more : Dues) (begun : IsRowBegun P row c rows new dues more) (period : P.entry.period ≡ 1) (live : P.end ≡ None) where
@@ -141,8 +142,8 @@ module _ (before : ℕ → Bool) (c rest less row : ℕ) (rows : Rows) (dues : D
       soonest-begun : more.soonest ≡ dues.soonest
       soonest-begun = ap (λ d. d.soonest) begun.others
 
-      always-here : has_row more.always.rows row ≡ true
-      always-here = begun.added.rows row ∙ ap (λ b. b || has_row dues.always.rows row) (eq-eqb row row refl)
+      always-here : has_bit more.always.rows row ≡ true
+      always-here = begun.added.rows row ∙ ap (λ b. b || has_bit dues.always.rows row) (eq-eqb row row refl)
 
       but-begun : IsSameBut row rows new dues more
       but-begun = record {
@@ -150,8 +151,8 @@ module _ (before : ℕ → Bool) (c rest less row : ℕ) (rows : Rows) (dues : D
         next = λ i other. ap (λ xs. get_or xs i 0) nexts-begun;
         last = λ i other. ap (λ xs. get_or xs i 0) lasts-begun;
         place = λ k i below other. begun.places k i below ∙ off-other k i other;
-        waiting = λ i other. ap (λ s. has_row s.rows i) waiting-begun;
-        always = λ i other. begun.added.rows i ∙ ap (λ b. b || has_row dues.always.rows i) other;
+        waiting = λ i other. ap (λ s. has_bit s.rows i) waiting-begun;
+        always = λ i other. begun.added.rows i ∙ ap (λ b. b || has_bit dues.always.rows i) other;
         sooner = let same = soonest-begun in omega arith;
       }
 
@@ -171,9 +172,9 @@ module _ (before : ℕ → Bool) (c rest less row : ℕ) (rows : Rows) (dues : D
             waiting = rw (entries-begun, waiting-begun) g.room.waiting;
             always = rw entries-begun (sum-with rows.entries.items (length rows.entries.items) row dues.always more.always within on.off begun.added g.room.always);
             on_wheel = λ k i below in'.
-                by-row (λ j. has_row (get_or new.places.items k 0) j ≡ true
-                → IsOnWheel (length new.entries.items) j k (get_or new.nexts.items j 0) (get_or new.entries.items j no_entry) (has_row more.always.rows j)) row i
-                (λ here. absurd (both_ways (has_row (get_or new.places.items k 0) row) (begun.places k row below ∙ gone k below) here))
+                by-row (λ j. has_bit (get_or new.places.items k 0) j ≡ true
+                → IsOnWheel (length new.entries.items) j k (get_or new.nexts.items j 0) (get_or new.entries.items j no_entry) (has_bit more.always.rows j)) row i
+                (λ here. absurd (both_ways (has_bit (get_or new.places.items k 0) row) (begun.places k row below ∙ gone k below) here))
                 (λ other there. on_wheel-other row rows new dues more but-begun i other (length rows.entries.items) (length new.entries.items) k (omega arith)
                 (g.room.on_wheel k i below (sym (but-begun.place k i below other) ∙ there))) in';
           }
@@ -187,7 +188,7 @@ module _ (before : ℕ → Bool) (c rest less row : ℕ) (rows : Rows) (dues : D
               always_is = λ _. always;
             }),
             rw (ap (λ xs. get_or xs row no_entry) entries-begun, waiting-begun, always-here, ap (λ xs. get_or xs row 0) lasts-begun, soonest-begun)
-                (due-stay before c P (has_row dues.waiting.rows row) true 0 (get_or rows.lasts.items row 0) dues.soonest false range
+                (due-stay before c P (has_bit dues.waiting.rows row) true 0 (get_or rows.lasts.items row 0) dues.soonest false range
                 (record { next_is = λ wrong. absurd (cc); on = λ wrong. absurd (cc); always_is = λ _. is-always }) (g.later row within stands').1
                 (λ wrong. absurd (cc))),
           )
@@ -203,11 +204,11 @@ module _ (before : ℕ → Bool) (c rest less row : ℕ) (rows : Rows) (dues : D
       ending : ℕ
       ending = c + P.entry.deadline - 1
 
-      waiting-other : (i : ℕ) → nat_eq row i ≡ false → has_row more.waiting.rows i ≡ has_row dues.waiting.rows i
-      waiting-other i other = done.added.rows i ∙ ap (λ b. b || has_row dues.waiting.rows i) other
+      waiting-other : (i : ℕ) → nat_eq row i ≡ false → has_bit more.waiting.rows i ≡ has_bit dues.waiting.rows i
+      waiting-other i other = done.added.rows i ∙ ap (λ b. b || has_bit dues.waiting.rows i) other
 
-      waiting-here : has_row more.waiting.rows row ≡ true
-      waiting-here = done.added.rows row ∙ ap (λ b. b || has_row dues.waiting.rows row) (eq-eqb row row refl)
+      waiting-here : has_bit more.waiting.rows row ≡ true
+      waiting-here = done.added.rows row ∙ ap (λ b. b || has_bit dues.waiting.rows row) (eq-eqb row row refl)
 
       always-same : more.always ≡ dues.always
       always-same = ap (λ d. d.always) done.others
@@ -216,16 +217,16 @@ module _ (before : ℕ → Bool) (c rest less row : ℕ) (rows : Rows) (dues : D
       unfolding ending
       soonest-is = ap (λ d. d.soonest) done.others
 
-      moved-other : (k i : ℕ) → k < 64 → nat_eq row i ≡ false → has_row (get_or new.places.items k 0) i ≡ has_row (get_or rows.places.items k 0) i
+      moved-other : (k i : ℕ) → k < 64 → nat_eq row i ≡ false → has_bit (get_or new.places.items k 0) i ≡ has_bit (get_or rows.places.items k 0) i
       unfolding coming
       moved-other k i below other =
           done.moved.places k i below
           ∙ ap (λ b. b || (exists P coming && is_there (coming % 64) row k i)) (off-other k i other)
-          ∙ ap (λ b. has_row (get_or rows.places.items k 0) i || (exists P coming && b)) (there-not (coming % 64) row k i other)
-          ∙ ap (λ b. has_row (get_or rows.places.items k 0) i || b) (and-off (exists P coming))
-          ∙ or-none (has_row (get_or rows.places.items k 0) i)
+          ∙ ap (λ b. has_bit (get_or rows.places.items k 0) i || (exists P coming && b)) (there-not (coming % 64) row k i other)
+          ∙ ap (λ b. has_bit (get_or rows.places.items k 0) i || b) (and-false (exists P coming))
+          ∙ or-false (has_bit (get_or rows.places.items k 0) i)
 
-      moved-here : (k : ℕ) → k < 64 → has_row (get_or new.places.items k 0) row ≡ (exists P coming && is_there (coming % 64) row k row)
+      moved-here : (k : ℕ) → k < 64 → has_bit (get_or new.places.items k 0) row ≡ (exists P coming && is_there (coming % 64) row k row)
       unfolding coming
       moved-here k below =
           done.moved.places k row below ∙ ap (λ b. b || (exists P coming && is_there (coming % 64) row k row)) (gone k below)
@@ -250,7 +251,7 @@ module _ (before : ℕ → Bool) (c rest less row : ℕ) (rows : Rows) (dues : D
         last = λ i other. ap (λ xs. get_or xs i 0) done.moved.lasts ∙ get_or-set_other rows.lasts.items row i ending 0 (other-row row i other);
         place = moved-other;
         waiting = waiting-other;
-        always = λ i other. ap (λ s. has_row s.rows i) always-same;
+        always = λ i other. ap (λ s. has_bit s.rows i) always-same;
         sooner = let same = soonest-is in omega arith;
       }
 
@@ -258,8 +259,8 @@ module _ (before : ℕ → Bool) (c rest less row : ℕ) (rows : Rows) (dues : D
       entry-here = ap (λ xs. get_or xs row no_entry) done.moved.entries
 
       -- where the row stands at a place, its next release comes there
-      on-here : (k : ℕ) → k < 64 → has_row (get_or new.places.items k 0) row ≡ true
-          → IsOnWheel (length new.entries.items) row k (get_or new.nexts.items row 0) (get_or new.entries.items row no_entry) (has_row more.always.rows row)
+      on-here : (k : ℕ) → k < 64 → has_bit (get_or new.places.items k 0) row ≡ true
+          → IsOnWheel (length new.entries.items) row k (get_or new.nexts.items row 0) (get_or new.entries.items row no_entry) (has_bit more.always.rows row)
       on-here k below in' =
           let parts = and_parts (exists P coming) (is_there (coming % 64) row k row) (sym (moved-here k below) ∙ in') in
           let there = and_parts (nat_eq (coming % 64) k) (nat_eq row row) parts.1 in
@@ -285,8 +286,8 @@ module _ (before : ℕ → Bool) (c rest less row : ℕ) (rows : Rows) (dues : D
                 (sum-with rows.entries.items (length rows.entries.items) row dues.waiting more.waiting within not-waiting done.added g.room.waiting);
             always = rw (done.moved.entries, always-same) g.room.always;
             on_wheel = λ k i below in'.
-                by-row (λ j. has_row (get_or new.places.items k 0) j ≡ true
-                → IsOnWheel (length new.entries.items) j k (get_or new.nexts.items j 0) (get_or new.entries.items j no_entry) (has_row more.always.rows j)) row i
+                by-row (λ j. has_bit (get_or new.places.items k 0) j ≡ true
+                → IsOnWheel (length new.entries.items) j k (get_or new.nexts.items j 0) (get_or new.entries.items j no_entry) (has_bit more.always.rows j)) row i
                 (on-here k below)
                 (λ other there. on_wheel-other row rows new dues more but-released i other (length rows.entries.items) (length new.entries.items) k (omega arith)
                 (g.room.on_wheel k i below (sym (moved-other k i below other) ∙ there))) in';
@@ -300,7 +301,7 @@ module _ (before : ℕ → Bool) (c rest less row : ℕ) (rows : Rows) (dues : D
           on = λ _ exists-then.
               moved-here (coming % 64) (mod-lt coming (omega arith))
               ∙ ap (λ b. b && is_there (coming % 64) row (coming % 64) row) (exists-true P coming exists-then) ∙ there-is (coming % 64) row;
-          always_is = λ wrong. absurd (both_ways (has_row dues.always.rows row) on.off wrong);
+          always_is = λ wrong. absurd (both_ways (has_bit dues.always.rows row) on.off wrong);
         }),
         rw (entry-here, waiting-here, always-same, on.off, last-here, soonest-is)
             (due-released before c P next.number (min dues.soonest ending) range is-release exists-now (omega arith)),
@@ -310,31 +311,31 @@ module _ (before : ℕ → Bool) (c rest less row : ℕ) (rows : Rows) (dues : D
       release = step new more (ap length done.moved.entries) but-released room-released here-released
 
 -- before a row is looked at, where no other row has a release
-pub releasing-from : (rest : ℕ) (w : Wheel) → IsTurned w → ((row : ℕ) → has_row rest row ≡ true → is_found w.rows w.cycle row ≡ true)
-    → ((row : ℕ) → row < length w.rows.entries.items → has_row rest row ≡ false → has_row w.dues.always.rows row ≡ false
+pub releasing-from : (rest : ℕ) (w : Wheel) → IsTurned w → ((row : ℕ) → has_bit rest row ≡ true → is_found w.rows w.cycle row ≡ true)
+    → ((row : ℕ) → row < length w.rows.entries.items → has_bit rest row ≡ false → has_bit w.dues.always.rows row ≡ false
     → Exists (get_or w.rows.entries.items row no_entry) (get_or w.rows.nexts.items row 0) → get_or w.rows.nexts.items row 0 ≢ w.cycle)
-    → IsReleasing (contains_slot w.dues.waiting.slots) w.cycle rest w.rows w.dues
+    → IsReleasing (has_bit w.dues.waiting.slots) w.cycle rest w.rows w.dues
 releasing-from rest w t place apart = record {
   room = t.room;
   place = place;
   later = λ row below _. t.each row below;
-  made = λ row below out. stay-at w.rows w.dues (contains_slot w.dues.waiting.slots) w.cycle row (t.room.in_range row below) (t.each row below) (apart row below out);
+  made = λ row below out. stay-at w.rows w.dues (has_bit w.dues.waiting.slots) w.cycle row (t.room.in_range row below) (t.each row below) (apart row below out);
 }
 
 pub releasing-start : (rest : ℕ) (w : Wheel) → IsTurned w → rest ≡ get_or w.rows.places.items (w.cycle % 64) 0
-    → IsReleasing (contains_slot w.dues.waiting.slots) w.cycle rest w.rows w.dues
+    → IsReleasing (has_bit w.dues.waiting.slots) w.cycle rest w.rows w.dues
 releasing-start rest w t is =
-    releasing-from rest w t (λ row in'. ap (λ m. has_row m row) (sym is) ∙ in')
-    (λ row below out off exists same. both_ways (has_row rest row) out
-    (ap (λ m. has_row m row) is ∙ ap (λ n. is_found w.rows n row) (sym same) ∙ (t.each row below).0.on off exists))
+    releasing-from rest w t (λ row in'. ap (λ m. has_bit m row) (sym is) ∙ in')
+    (λ row below out off exists same. both_ways (has_bit rest row) out
+    (ap (λ m. has_bit m row) is ∙ ap (λ n. is_found w.rows n row) (sym same) ∙ (t.each row below).0.on off exists))
 
 -- when all rows are looked at
 pub releasing-end : (before : ℕ → Bool) (rest : ℕ) (w : Wheel) → IsReleasing before w.cycle rest w.rows w.dues → rest ≡ 0 → IsReleased before w
 releasing-end before rest w g none = record {
   room = g.room;
-  each = λ row below. g.made row below (ap (λ m. has_row m row) none ∙ has-none row);
+  each = λ row below. g.made row below (ap (λ m. has_bit m row) none ∙ has_bit-none row);
 }
 
-pub row-within : (before : ℕ → Bool) (c rest row : ℕ) (rows : Rows) (dues : Dues) → IsReleasing before c rest rows dues → has_row rest row ≡ true
+pub row-within : (before : ℕ → Bool) (c rest row : ℕ) (rows : Rows) (dues : Dues) → IsReleasing before c rest rows dues → has_bit rest row ≡ true
     → row < length rows.entries.items
 row-within before c rest row rows dues g in' = (g.room.on_wheel (c % 64) row (mod-lt c (omega arith)) (g.place row in')).within

@@ -8,9 +8,10 @@ use Rattle.std.proofs.lemmas.List.Folds.{list_any-from_Any}
 use Rattle.std.proofs.lemmas.Option.{same_Some}
 use Rattle.requirement_table.specs.declared.entries.Placed.{Placed}
 use Rattle.requirement_table.specs.Instance.{Exists, Instance, MaySend, deadline_of, instance_of, release_of}
-use Rattle.requirement_table.specs.Slots.{contains_slot, most_slots, sum_where}
+use Rattle.bit_sets.specs.Sets.{has_bit, most_slots}
 use Rattle.requirement_table.specs.Table.{IsInRange, IsWellPlaced, instance_in, is_last_in}
-use Rattle.requirement_table.proofs.Shared.{MaySend-from_instance, contains_slot-none, instance_of-sent, set_of-from_slots, sum_where-same}
+use Rattle.requirement_table.proofs.Shared.{MaySend-from_instance, instance_of-sent}
+use Rattle.bit_sets.proofs.Shared.{has_bit-none, set_of-from_slots, sum_where-or}
 use Rattle.planner_policies.specs.declared.Policy.{Policy}
 use Rattle.planner_policies.specs.declared.Policy.TheVariants.{Edf}
 use Rattle.planner_policies.specs.declared.due.Due.{Due}
@@ -22,13 +23,12 @@ use Rattle.release_wheel.specs.declared.dues.Sum.{Sum}
 use Rattle.release_wheel.specs.declared.rows.Rows.{Rows}
 use Rattle.release_wheel.specs.declared.wheel.Wheel.{Wheel}
 use Rattle.release_wheel.specs.Taking.{AreDistinct, AreDue, AreOfRows, IsLineOfRows, IsTook, goes_by, last_of}
-use Rattle.release_wheel.specs.Wheel.{AreInTime, HasRoom, IsBelow, IsPart, IsPlannedOn, IsQuiet, IsReady, IsReleased, IsSlotsOf, IsSumOf, IsTurned, StandsAt, any_below, cost_at, cost_below, due_of_row, has_row, is_found, no_entry, slot_at}
+use Rattle.release_wheel.specs.Wheel.{AreInTime, HasRoom, IsBelow, IsPart, IsPlannedOn, IsQuiet, IsReady, IsReleased, IsSlotsOf, IsSumOf, IsTurned, StandsAt, any_below, cost_at, cost_below, due_of_row, is_found, no_entry, slot_at}
 use Rattle.planner_policies.proofs.Shared.{all-planned, planned-set, planned-width, split-of, IsSplit, has_slot, instance-with, last-is, slots-contain, same-test, held-parts, due_in-of, fresh, sends-test, sends_of, stands-in, whole_line-of, cost_of}
 use Rattle.release_wheel.proofs.Releasing.{releasing-end, releasing-from}
 use Rattle.release_wheel.proofs.RowDues.{held-is}
 use Rattle.release_wheel.proofs.RowLines.{AreDues, IsLineTo, IsOneOf, by-last, by-rank, line-to, line_of-rows, same-due}
-use Rattle.release_wheel.proofs.RowSets.{has-none}
-use Rattle.release_wheel.proofs.RowSums.{any-found, any-same, any-none, cost-both, one-below, sum-or}
+use Rattle.release_wheel.proofs.RowSums.{any-found, any-same, any-none, cost-both, one-below}
 use Rattle.release_wheel.proofs.RowTaking.{cost-none}
 
 -- two rows with an instance of one slot in a cycle are one
@@ -113,8 +113,8 @@ any-and-not (suc n) p r s slot b at =
         last false = refl
     step false false y b false at = refl
 
-no-row : (set' row : ℕ) → set' ≡ 0 → has_row set' row ≡ false
-no-row set' row none = ap (λ m. has_row m row) none ∙ has-none row
+no-row : (set' row : ℕ) → set' ≡ 0 → has_bit set' row ≡ false
+no-row set' row none = ap (λ m. has_bit m row) none ∙ has_bit-none row
 
 -- other rows wait
 room-on : (n : ℕ) (rows : Rows) (dues : Dues) (waiting : Sum) (soonest : ℕ) → HasRoom n rows dues → IsSumOf rows.entries.items n waiting
@@ -133,18 +133,18 @@ room-on n rows dues waiting soonest room sum = record {
 
 -- a wheel where nothing waits
 pub nothing-waits : (rows : Rows) (dues : Dues) (waiting : Sum) (soonest c quiet : ℕ) (policy : Policy) (turns : Bool) → HasRoom (length rows.entries.items) rows dues
-    → waiting.rows ≡ 0 → ((slot : ℕ) → contains_slot waiting.slots slot ≡ false) → waiting.cost ≡ 0
+    → waiting.rows ≡ 0 → ((slot : ℕ) → has_bit waiting.slots slot ≡ false) → waiting.cost ≡ 0
     → ((row : ℕ) → row < length rows.entries.items → StandsAt rows dues c row)
     → (c < quiet → (dues.always.rows ≡ 0) × ((row : ℕ) → row < length rows.entries.items
     → Exists (get_or rows.entries.items row no_entry) (get_or rows.nexts.items row 0) → quiet ≤ get_or rows.nexts.items row 0))
     → IsTurned (record { policy = policy; turns = turns; quiet = quiet; cycle = c; rows = rows; dues = record dues { waiting = waiting; soonest = soonest } })
 nothing-waits rows dues waiting soonest c quiet policy turns room none slots cost stands later = record {
   room = room-on (length rows.entries.items) rows dues waiting soonest room (record {
-    below = λ row in'. absurd (both_ways (has_row waiting.rows row) (no-row waiting.rows row none) in');
+    below = λ row in'. absurd (both_ways (has_bit waiting.rows row) (no-row waiting.rows row none) in');
     slots = λ slot.
         slots slot
         ∙ sym (any-none (length rows.entries.items))
-        ∙ any-same (length rows.entries.items) (λ _. false) (λ row. has_row waiting.rows row && nat_eq (slot_at rows.entries.items row) slot)
+        ∙ any-same (length rows.entries.items) (λ _. false) (λ row. has_bit waiting.rows row && nat_eq (slot_at rows.entries.items row) slot)
         (λ row below. ap (λ b. b && nat_eq (slot_at rows.entries.items row) slot) (sym (no-row waiting.rows row none)));
     cost = cost ∙ sym (ap (cost_below rows.entries.items (length rows.entries.items)) none ∙ cost-none rows.entries.items (length rows.entries.items));
   });
@@ -153,18 +153,18 @@ nothing-waits rows dues waiting soonest c quiet policy turns room none slots cos
     record {
       waits_is = no-row waiting.rows row none
           ∙ ap (λ b. b && is_held_in c (get_or rows.entries.items row no_entry)) (sym (slots (slot_at rows.entries.items row)));
-      last_is = λ in'. absurd (both_ways (has_row waiting.rows row) (no-row waiting.rows row none) in');
-      soonest_is = λ in'. absurd (both_ways (has_row waiting.rows row) (no-row waiting.rows row none) in');
+      last_is = λ in'. absurd (both_ways (has_bit waiting.rows row) (no-row waiting.rows row none) in');
+      soonest_is = λ in'. absurd (both_ways (has_bit waiting.rows row) (no-row waiting.rows row none) in');
     },
   );
   quiet_is = λ less. record { none_waiting = none; none_always = (later less).0; none_coming = (later less).1 };
 }
 
 -- a wheel that has nothing to release in its cycle, when nothing is released
-pub quiet-released : (w : Wheel) → IsTurned w → w.cycle < w.quiet → IsReleased (contains_slot w.dues.waiting.slots) w
+pub quiet-released : (w : Wheel) → IsTurned w → w.cycle < w.quiet → IsReleased (has_bit w.dues.waiting.slots) w
 quiet-released w t less =
-    releasing-end (contains_slot w.dues.waiting.slots) 0 w
-    (releasing-from 0 w t (λ row in'. absurd (both_ways (has_row 0 row) (has-none row) in'))
+    releasing-end (has_bit w.dues.waiting.slots) 0 w
+    (releasing-from 0 w t (λ row in'. absurd (both_ways (has_bit 0 row) (has_bit-none row) in'))
     (λ row below _ off exists same. let later = (t.quiet_is less).none_coming row below exists in omega arith))
     refl
 
@@ -175,7 +175,7 @@ pub turned-all : (before : ℕ → Bool) (w : Wheel) (waiting : Sum) (quiet soon
     → IsTurned (record w { cycle = w.cycle + 1; quiet = quiet; dues = record w.dues { waiting = waiting; soonest = soonest } })
 turned-all before w waiting quiet soonest released none never empty =
     nothing-waits w.rows w.dues waiting soonest (w.cycle + 1) quiet w.policy w.turns released.room (ap (λ s. s.rows) none)
-    (λ slot. ap (λ s. contains_slot s.slots slot) none ∙ contains_slot-none slot) (ap (λ s. s.cost) none) (λ row within. (released.each row within).0)
+    (λ slot. ap (λ s. has_bit s.slots slot) none ∙ has_bit-none slot) (ap (λ s. s.cost) none) (λ row within. (released.each row within).0)
     (λ later. (
       never later,
       λ row within exists.
@@ -198,19 +198,19 @@ turned-quiet w slots t less none =
     let quiet = t.quiet_is less in
     let cost = ap (cost_below w.rows.entries.items (length w.rows.entries.items)) quiet.none_waiting ∙ cost-none w.rows.entries.items (length w.rows.entries.items) in
     nothing-waits w.rows w.dues (record w.dues.waiting { slots = slots }) w.dues.soonest (w.cycle + 1) w.quiet w.policy w.turns t.room quiet.none_waiting
-    (λ slot. ap (λ m. contains_slot m slot) none ∙ contains_slot-none slot) (t.room.waiting.cost ∙ cost)
+    (λ slot. ap (λ m. has_bit m slot) none ∙ has_bit-none slot) (t.room.waiting.cost ∙ cost)
     (λ row below. ((quiet-released w t less).each row below).0) (λ later. (quiet.none_always, quiet.none_coming))
 
 -- nothing is pending in it
 pub quiet-slots : (w : Wheel) (slot : ℕ) → IsTurned w → w.cycle < w.quiet
-    → (contains_slot w.dues.waiting.slots slot || contains_slot w.dues.always.slots slot) ≡ false
+    → (has_bit w.dues.waiting.slots slot || has_bit w.dues.always.slots slot) ≡ false
 quiet-slots w slot t less =
     let n = length w.rows.entries.items in
     let quiet = t.quiet_is less in
-    let none : (set' : ℕ) → set' ≡ 0 → any_below n (λ row. has_row set' row && nat_eq (slot_at w.rows.entries.items row) slot) ≡ false
-    = λ set' empty. any-same n (λ row. has_row set' row && nat_eq (slot_at w.rows.entries.items row) slot) (λ _. false)
+    let none : (set' : ℕ) → set' ≡ 0 → any_below n (λ row. has_bit set' row && nat_eq (slot_at w.rows.entries.items row) slot) ≡ false
+    = λ set' empty. any-same n (λ row. has_bit set' row && nat_eq (slot_at w.rows.entries.items row) slot) (λ _. false)
     (λ row below. ap (λ b. b && nat_eq (slot_at w.rows.entries.items row) slot) (no-row set' row empty)) ∙ any-none n in
-    ap (λ b. b || contains_slot w.dues.always.slots slot) (t.room.waiting.slots slot ∙ none w.dues.waiting.rows quiet.none_waiting)
+    ap (λ b. b || has_bit w.dues.always.slots slot) (t.room.waiting.slots slot ∙ none w.dues.waiting.rows quiet.none_waiting)
     ∙ t.room.always.slots slot ∙ none w.dues.always.rows quiet.none_always
 
 pub quiet-cost : (w : Wheel) → IsTurned w → w.cycle < w.quiet → w.dues.waiting.cost + w.dues.always.cost ≡ 0
@@ -234,13 +234,13 @@ module _ (ranking : Ranking) (pending window : ℕ) (w : Wheel) (ready : IsReady
   plan = planning_of ranking window w.cycle pending
 
   abbrev test : ℕ → Bool
-  test row = has_row w.dues.waiting.rows row || has_row w.dues.always.rows row
+  test row = has_bit w.dues.waiting.rows row || has_bit w.dues.always.rows row
 
   abbrev dues : ℕ → Due
   dues row = due_of_row ranking.policy (get_or w.rows.entries.items row no_entry) (last_of w row)
 
   abbrev before : ℕ → Bool
-  before = contains_slot pending
+  before = has_bit pending
 
   due-of : (row : ℕ) → row < N → IsDueOf ranking.policy before w.cycle (get_or w.rows.entries.items row no_entry) (if test row then Some (dues row) else None)
   due-of row within = (ready.released.each row within).1.due ranking.policy
@@ -251,9 +251,9 @@ module _ (ranking : Ranking) (pending window : ℕ) (w : Wheel) (ready : IsReady
   test-within : (row : ℕ) → test row ≡ true → row < N
   test-within row in' =
       ⊎_elim
-      (λ (one : has_row w.dues.waiting.rows row ≡ true). ready.released.room.waiting.below row one)
-      (λ (other : has_row w.dues.always.rows row ≡ true). ready.released.room.always.below row other)
-      (or_cases (has_row w.dues.waiting.rows row) (has_row w.dues.always.rows row) in')
+      (λ (one : has_bit w.dues.waiting.rows row ≡ true). ready.released.room.waiting.below row one)
+      (λ (other : has_bit w.dues.always.rows row ≡ true). ready.released.room.always.below row other)
+      (or_cases (has_bit w.dues.waiting.rows row) (has_bit w.dues.always.rows row) in')
 
   -- what a row of the set has to send
   pending-of : (row : ℕ) → test row ≡ true → IsPending ranking.policy before w.cycle (get_or w.rows.entries.items row no_entry) (dues row)
@@ -269,20 +269,20 @@ module _ (ranking : Ranking) (pending window : ℕ) (w : Wheel) (ready : IsReady
       let is = pending-of row in' in
       sends-test w.cycle (slot_at E row) (get_or w.rows.entries.items row no_entry) is.number (range-of row (test-within row in')) refl is.sends
 
-  pub distinct : (due : ℕ) → ((row : ℕ) → has_row due row ≡ test row) → AreDistinct E due
+  pub distinct : (due : ℕ) → ((row : ℕ) → has_bit due row ≡ test row) → AreDistinct E due
   distinct due rows one other in_one in_other same =
       let first = sym (rows one) ∙ in_one in
       let second = sym (rows other) ∙ in_other in
       one-row ranking.placed E w.cycle (slot_at E other) one other ready.well ready.of_ranking.same (test-within one first) (test-within other second)
       (ap (λ s. sends_of w.cycle s (get_or w.rows.entries.items one no_entry)) (sym same) ∙ sends-in one first) (sends-in other second)
 
-  pub below : (due : ℕ) → ((row : ℕ) → has_row due row ≡ test row) → IsBelow N due
+  pub below : (due : ℕ) → ((row : ℕ) → has_bit due row ≡ test row) → IsBelow N due
   below due rows row in' = test-within row (sym (rows row) ∙ in')
 
-  apart : (row : ℕ) → has_row w.dues.waiting.rows row ≡ true → has_row w.dues.always.rows row ≡ false
+  apart : (row : ℕ) → has_bit w.dues.waiting.rows row ≡ true → has_bit w.dues.always.rows row ≡ false
   apart row in' = (ready.released.each row (ready.released.room.waiting.below row in')).1.apart in'
 
-  pub cost-of : (due : ℕ) → ((row : ℕ) → has_row due row ≡ test row) → w.dues.waiting.cost + w.dues.always.cost ≡ cost_below E N due
+  pub cost-of : (due : ℕ) → ((row : ℕ) → has_bit due row ≡ test row) → w.dues.waiting.cost + w.dues.always.cost ≡ cost_below E N due
   cost-of due rows =
       let one = ready.released.room.waiting.cost in
       let other = ready.released.room.always.cost in
@@ -290,11 +290,11 @@ module _ (ranking : Ranking) (pending window : ℕ) (w : Wheel) (ready : IsReady
       omega arith
 
   -- the slots that have an instance pending
-  pub slots-of : (slot : ℕ) → (contains_slot w.dues.waiting.slots slot || contains_slot w.dues.always.slots slot) ≡ any_below N (λ row. test row && nat_eq (slot_at E row) slot)
+  pub slots-of : (slot : ℕ) → (has_bit w.dues.waiting.slots slot || has_bit w.dues.always.slots slot) ≡ any_below N (λ row. test row && nat_eq (slot_at E row) slot)
   slots-of slot =
-      ap (λ b. b || contains_slot w.dues.always.slots slot) (ready.released.room.waiting.slots slot)
-      ∙ ap (λ b. any_below N (λ row. has_row w.dues.waiting.rows row && nat_eq (slot_at E row) slot) || b) (ready.released.room.always.slots slot)
-      ∙ any-or N (has_row w.dues.waiting.rows) (has_row w.dues.always.rows) (λ row. nat_eq (slot_at E row) slot)
+      ap (λ b. b || has_bit w.dues.always.slots slot) (ready.released.room.waiting.slots slot)
+      ∙ ap (λ b. any_below N (λ row. has_bit w.dues.waiting.rows row && nat_eq (slot_at E row) slot) || b) (ready.released.room.always.slots slot)
+      ∙ any-or N (has_bit w.dues.waiting.rows) (has_bit w.dues.always.rows) (λ row. nat_eq (slot_at E row) slot)
 
   -- all of it, in key order
   all-of : IsLineTo plan w.cycle before E test dues ready.well ready.of_ranking.same are N
@@ -305,12 +305,12 @@ module _ (ranking : Ranking) (pending window : ℕ) (w : Wheel) (ready : IsReady
       whole_line-of plan w.cycle pending E all-of.line ready.well ready.of_ranking.same ready.valid
       (rw (take_all N E (omega arith)) at all-of.found)
 
-  all-fitting : (mask : ℕ) → mask < 2 ^ most_slots → ((slot : ℕ) → contains_slot mask slot ≡ (contains_slot w.dues.waiting.slots slot || contains_slot w.dues.always.slots slot))
+  all-fitting : (mask : ℕ) → mask < 2 ^ most_slots → ((slot : ℕ) → has_bit mask slot ≡ (has_bit w.dues.waiting.slots slot || has_bit w.dues.always.slots slot))
       → w.dues.waiting.cost + w.dues.always.cost ≤ window → IsAllFitting plan w.cycle before mask (w.dues.waiting.cost + w.dues.always.cost)
   all-fitting mask small made fits =
       let one = ready.released.room.waiting.cost in
       let other = ready.released.room.always.cost in
-      let both = sum-or N (has_row w.dues.waiting.rows) (has_row w.dues.always.rows) (cost_at E) apart in
+      let both = sum_where-or N (has_bit w.dues.waiting.rows) (has_bit w.dues.always.rows) (cost_at E) apart in
       let cost = all-of.cost in
       record {
         line = all-of.line;
@@ -321,7 +321,7 @@ module _ (ranking : Ranking) (pending window : ℕ) (w : Wheel) (ready : IsReady
       }
 
   -- where all fits
-  pub planned-all : (mask : ℕ) → mask < 2 ^ most_slots → ((slot : ℕ) → contains_slot mask slot ≡ (contains_slot w.dues.waiting.slots slot || contains_slot w.dues.always.slots slot))
+  pub planned-all : (mask : ℕ) → mask < 2 ^ most_slots → ((slot : ℕ) → has_bit mask slot ≡ (has_bit w.dues.waiting.slots slot || has_bit w.dues.always.slots slot))
       → w.dues.waiting.cost + w.dues.always.cost ≤ window → (next : ℕ) → next ≡ 0 → IsPlanned plan w.cycle before mask (w.dues.waiting.cost + w.dues.always.cost) next
   planned-all mask small made fits next none =
       all-planned plan w.cycle before mask (w.dues.waiting.cost + w.dues.always.cost) next (all-fitting mask small made fits) none
@@ -339,11 +339,11 @@ module _ (ranking : Ranking) (pending window : ℕ) (w : Wheel) (ready : IsReady
 
   -- what is taken of a line of all that is pending, and what is left of the rows
   module _ (line : List Due) (whole : IsWholeLine plan w.cycle before line) (due left mask width next : ℕ)
-      (rows : (row : ℕ) → has_row due row ≡ test row)
-      (left_is : (row : ℕ) → has_row left row ≡ (has_row due row && not (contains_slot mask (slot_at w.rows.entries.items row))))
+      (rows : (row : ℕ) → has_bit due row ≡ test row)
+      (left_is : (row : ℕ) → has_bit left row ≡ (has_bit due row && not (has_bit mask (slot_at w.rows.entries.items row))))
       (mask_of : IsSetOf mask (taken_of ranking.fill window line)) (width_of : width ≡ cost_of (taken_of ranking.fill window line))
       (fits : width ≤ window) (small : next < 2 ^ most_slots)
-      (made : (slot : ℕ) → contains_slot next slot ≡ ((contains_slot w.dues.waiting.slots slot || contains_slot w.dues.always.slots slot) && not (contains_slot mask slot)))
+      (made : (slot : ℕ) → has_bit next slot ≡ ((has_bit w.dues.waiting.slots slot || has_bit w.dues.always.slots slot) && not (has_bit mask slot)))
     where
       split : IsSplit plan w.cycle before (taken_of ranking.fill window line) (left_of ranking.fill window line)
       split = split-of plan w.cycle before line ranking.fill refl whole
@@ -351,24 +351,24 @@ module _ (ranking : Ranking) (pending window : ℕ) (w : Wheel) (ready : IsReady
       slots-left : IsSlotsOf E N left next
       slots-left slot =
           made slot
-          ∙ ap (λ b. b && not (contains_slot mask slot)) (slots-of slot)
-          ∙ sym (any-and-not N test (λ row. contains_slot mask (slot_at E row)) slot (slot_at E) (contains_slot mask slot)
-          (λ row same. ap (contains_slot mask) (eqb-true (slot_at E row) slot same)))
-          ∙ any-same N (λ row. (test row && not (contains_slot mask (slot_at E row))) && nat_eq (slot_at E row) slot)
-          (λ row. has_row left row && nat_eq (slot_at E row) slot)
-          (λ row below. ap (λ b. b && nat_eq (slot_at E row) slot) (sym (left_is row ∙ ap (λ b. b && not (contains_slot mask (slot_at E row))) (rows row))))
+          ∙ ap (λ b. b && not (has_bit mask slot)) (slots-of slot)
+          ∙ sym (any-and-not N test (λ row. has_bit mask (slot_at E row)) slot (slot_at E) (has_bit mask slot)
+          (λ row same. ap (has_bit mask) (eqb-true (slot_at E row) slot same)))
+          ∙ any-same N (λ row. (test row && not (has_bit mask (slot_at E row))) && nat_eq (slot_at E row) slot)
+          (λ row. has_bit left row && nat_eq (slot_at E row) slot)
+          (λ row below. ap (λ b. b && nat_eq (slot_at E row) slot) (sym (left_is row ∙ ap (λ b. b && not (has_bit mask (slot_at E row))) (rows row))))
 
-      left-test : (row : ℕ) → has_row left row ≡ true → test row ≡ true
+      left-test : (row : ℕ) → has_bit left row ≡ true → test row ≡ true
       left-test row in' =
-          sym (rows row) ∙ (and_parts (has_row due row) (not (contains_slot mask (slot_at E row))) (sym (left_is row) ∙ in')).0
+          sym (rows row) ∙ (and_parts (has_bit due row) (not (has_bit mask (slot_at E row))) (sym (left_is row) ∙ in')).0
 
-      left-within : (row : ℕ) → has_row left row ≡ true → row < N
+      left-within : (row : ℕ) → has_bit left row ≡ true → row < N
       left-within row in' = test-within row (left-test row in')
 
-      pending-left : (slot : ℕ) → slot < most_slots → contains_slot next slot ≡ left_after plan w.cycle before slot
+      pending-left : (slot : ℕ) → slot < most_slots → has_bit next slot ≡ left_after plan w.cycle before slot
       pending-left slot known =
           made slot
-          ∙ ap (λ b. b && not (contains_slot mask slot)) (slots-of slot ∙ sym (all-of.slots slot) ∙ whole-pending all-of.line slot known whole-of)
+          ∙ ap (λ b. b && not (has_bit mask slot)) (slots-of slot ∙ sym (all-of.slots slot) ∙ whole-pending all-of.line slot known whole-of)
           ∙ ap (λ b. pending_in plan.placed w.cycle before slot && not b) (mask_of.slots slot ∙ split.planned slot known)
 
       -- none that is left is in its last cycle
@@ -381,10 +381,10 @@ module _ (ranking : Ranking) (pending window : ℕ) (w : Wheel) (ready : IsReady
             earlier : release_of (get_or w.rows.entries.items row no_entry) number < w.cycle + 1
             last : get_or w.rows.lasts.items row 0 + 1 ≡ deadline_of (get_or w.rows.entries.items row no_entry) number
 
-          last-of-left : (row : ℕ) → has_row left row ≡ true → last_of w row ≡ get_or w.rows.lasts.items row 0
+          last-of-left : (row : ℕ) → has_bit left row ≡ true → last_of w row ≡ get_or w.rows.lasts.items row 0
           last-of-left row in' = ap (λ b. if b then w.cycle else get_or w.rows.lasts.items row 0) (time.not_always row in')
 
-          held-on : (row : ℕ) → has_row left row ≡ true → IsHeldOn row
+          held-on : (row : ℕ) → has_bit left row ≡ true → IsHeldOn row
           held-on row in' =
               let is = pending-of row (left-test row in') in
               let sends = is.sends in
@@ -403,9 +403,9 @@ module _ (ranking : Ranking) (pending window : ℕ) (w : Wheel) (ready : IsReady
           none-missed-now slot known =
               false_from_ne_true (is_missed_in plan w.cycle before slot) (λ missed.
               let parts = and_parts (left_after plan w.cycle before slot) (is_last_in plan.placed w.cycle slot) missed in
-              let one = one-below N (λ row. has_row left row && nat_eq (slot_at E row) slot) (sym (slots-left slot) ∙ pending-left slot known ∙ parts.0) in
+              let one = one-below N (λ row. has_bit left row && nat_eq (slot_at E row) slot) (sym (slots-left slot) ∙ pending-left slot known ∙ parts.0) in
               let row = one.row in
-              let both = and_parts (has_row left row) (nat_eq (slot_at E row) slot) one.passes in
+              let both = and_parts (has_bit left row) (nat_eq (slot_at E row) slot) one.passes in
               let in' = due_in-of plan w.cycle before (get_or w.rows.entries.items row no_entry) (dues row) ready.well
               (stands-in ranking.placed E row no_entry ready.of_ranking.same one.within) (pending-of row (left-test row both.0)) in
               let later = time.later row both.0 in
@@ -424,22 +424,22 @@ module _ (ranking : Ranking) (pending window : ℕ) (w : Wheel) (ready : IsReady
             none_missed = none-missed-now;
           }
 
-          waits-on : (row : ℕ) → row < N → (b : Bool) → has_row left row ≡ b
-              → b ≡ (contains_slot next (slot_at E row) && is_held_in (w.cycle + 1) (get_or w.rows.entries.items row no_entry))
+          waits-on : (row : ℕ) → row < N → (b : Bool) → has_bit left row ≡ b
+              → b ≡ (has_bit next (slot_at E row) && is_held_in (w.cycle + 1) (get_or w.rows.entries.items row no_entry))
           waits-on row within true is =
               let held = held-on row is in
               let p = get_or w.rows.entries.items row no_entry in
-              sym (and_from (contains_slot next (slot_at E row)) (is_held_in (w.cycle + 1) p)
+              sym (and_from (has_bit next (slot_at E row)) (is_held_in (w.cycle + 1) p)
               (slots-left (slot_at E row)
-              ∙ any-found N row (λ other. has_row left other && nat_eq (slot_at E other) (slot_at E row)) within
-              (and_from (has_row left row) (nat_eq (slot_at E row) (slot_at E row)) is (eq-eqb (slot_at E row) (slot_at E row) refl)))
+              ∙ any-found N row (λ other. has_bit left other && nat_eq (slot_at E other) (slot_at E row)) within
+              (and_from (has_bit left row) (nat_eq (slot_at E row) (slot_at E row)) is (eq-eqb (slot_at E row) (slot_at E row) refl)))
               (held-is p (w.cycle + 1) held.number (range-of row within) held.sends ∙ lt-ltb (release_of p held.number) (w.cycle + 1) held.earlier))
           waits-on row within false is =
               let p = get_or w.rows.entries.items row no_entry in
-              sym (false_from_ne_true (contains_slot next (slot_at E row) && is_held_in (w.cycle + 1) p) (λ both.
-              let parts = and_parts (contains_slot next (slot_at E row)) (is_held_in (w.cycle + 1) p) both in
-              let one = one-below N (λ other. has_row left other && nat_eq (slot_at E other) (slot_at E row)) (sym (slots-left (slot_at E row)) ∙ parts.0) in
-              let in' = and_parts (has_row left one.row) (nat_eq (slot_at E one.row) (slot_at E row)) one.passes in
+              sym (false_from_ne_true (has_bit next (slot_at E row) && is_held_in (w.cycle + 1) p) (λ both.
+              let parts = and_parts (has_bit next (slot_at E row)) (is_held_in (w.cycle + 1) p) both in
+              let one = one-below N (λ other. has_bit left other && nat_eq (slot_at E other) (slot_at E row)) (sym (slots-left (slot_at E row)) ∙ parts.0) in
+              let in' = and_parts (has_bit left one.row) (nat_eq (slot_at E one.row) (slot_at E row)) one.passes in
               let own = held-parts (instance_of p (w.cycle + 1)) p (w.cycle + 1) parts.1 in
               let other = held-on one.row in'.0 in
               let same : row ≡ one.row
@@ -447,9 +447,9 @@ module _ (ranking : Ranking) (pending window : ℕ) (w : Wheel) (ready : IsReady
               (sends-test (w.cycle + 1) (slot_at E row) p own.0 (range-of row within) refl (MaySend-from_instance p own.0 (w.cycle + 1) own.1))
               (sends-test (w.cycle + 1) (slot_at E row) (get_or w.rows.entries.items one.row no_entry) other.number (range-of one.row one.within)
               (eqb-true (slot_at E one.row) (slot_at E row) in'.1) other.sends) in
-              both_ways (has_row left row) is (ap (has_row left) same ∙ in'.0)))
+              both_ways (has_bit left row) is (ap (has_bit left) same ∙ in'.0)))
 
-          last-on : (row : ℕ) → row < N → has_row left row ≡ true → (k : ℕ) → MaySend (get_or w.rows.entries.items row no_entry) k (w.cycle + 1)
+          last-on : (row : ℕ) → row < N → has_bit left row ≡ true → (k : ℕ) → MaySend (get_or w.rows.entries.items row no_entry) k (w.cycle + 1)
               → get_or w.rows.lasts.items row 0 + 1 ≡ deadline_of (get_or w.rows.entries.items row no_entry) k
           last-on row within in' k sends =
               let p = get_or w.rows.entries.items row no_entry in
@@ -474,7 +474,7 @@ module _ (ranking : Ranking) (pending window : ℕ) (w : Wheel) (ready : IsReady
                 (record { below = left-within; slots = slots-left; cost = cost_is });
             each = λ row within. (
               (ready.released.each row within).0,
-              record { waits_is = waits-on row within (has_row left row) refl; last_is = last-on row within; soonest_is = time.soonest_is row },
+              record { waits_is = waits-on row within (has_bit left row) refl; last_is = last-on row within; soonest_is = time.soonest_is row },
             );
             quiet_is = λ wrong. absurd (omega arith);
           }
@@ -502,9 +502,9 @@ module _ (ranking : Ranking) (pending window : ℕ) (w : Wheel) (ready : IsReady
       }
 
   -- all that is pending, in key order, is a line of the rows
-  whole-line : (due : ℕ) → ((row : ℕ) → has_row due row ≡ test row) → IsLineOfRows dues (has_row due) all-of.line
+  whole-line : (due : ℕ) → ((row : ℕ) → has_bit due row ≡ test row) → IsLineOfRows dues (has_bit due) all-of.line
   whole-line due rows =
-      line_of-rows dues (has_row due) all-of.line
+      line_of-rows dues (has_bit due) all-of.line
       (λ one other in_one in_other same. distinct due rows one other in_one in_other same)
       (λ k d within.
       let one = row-of (get_or all-of.line k d) (whole-of.each k d within) in
@@ -518,7 +518,7 @@ module _ (ranking : Ranking) (pending window : ℕ) (w : Wheel) (ready : IsReady
   -- what is taken of the rows in an order that is key order
   part-of : (goes : ℕ → ℕ → Bool)
       → ((one other : ℕ) → one < length w.rows.entries.items → other < length w.rows.entries.items → goes one other ≡ true → is_due_by (dues one) (dues other) ≡ true)
-      → (due left mask width : ℕ) → ((row : ℕ) → has_row due row ≡ test row)
+      → (due left mask width : ℕ) → ((row : ℕ) → has_bit due row ≡ test row)
       → IsTook ranking.fill window goes w.rows.entries.items due left mask width → IsPart plan before w left mask width
   part-of goes ordered due left mask width rows took =
       let of : AreOfRows E goes dues = record { slot = λ row. refl; cost = λ row. refl; ordered = ordered } in
@@ -534,13 +534,13 @@ module _ (ranking : Ranking) (pending window : ℕ) (w : Wheel) (ready : IsReady
         cost = let all = cost-of due rows in let parts = took.cost in omega arith;
       }
 
-  pub part-by-row : (due left mask width : ℕ) → ((row : ℕ) → has_row due row ≡ test row)
+  pub part-by-row : (due left mask width : ℕ) → ((row : ℕ) → has_bit due row ≡ test row)
       → IsTook ranking.fill window nat_le w.rows.entries.items due left mask width → w.policy ≢ Edf → IsPart plan before w left mask width
   part-by-row due left mask width rows took order =
       let order_of : ranking.policy ≢ Edf = λ same. order (ready.of_ranking.policy ∙ same) in
       part-of nat_le (by-rank ranking.policy E (last_of w) order_of ready.of_ranking.order) due left mask width rows took
 
-  pub part-by-last : (due left mask width : ℕ) → ((row : ℕ) → has_row due row ≡ test row)
+  pub part-by-last : (due left mask width : ℕ) → ((row : ℕ) → has_bit due row ≡ test row)
       → IsTook ranking.fill window (goes_by (last_of w)) w.rows.entries.items due left mask width → w.policy ≡ Edf → IsPart plan before w left mask width
   part-by-last due left mask width rows took order =
       let policy : Edf ≡ ranking.policy = sym order ∙ ready.of_ranking.policy in
@@ -550,15 +550,15 @@ module _ (ranking : Ranking) (pending window : ℕ) (w : Wheel) (ready : IsReady
       part-of (goes_by (last_of w)) (subst Q policy (by-last E (last_of w) (subst P (sym policy) ready.of_ranking.order))) due left mask width rows took
 
   -- none of the rows is over
-  pub are-due : (due : ℕ) → ((row : ℕ) → has_row due row ≡ test row) → AreDue w due
+  pub are-due : (due : ℕ) → ((row : ℕ) → has_bit due row ≡ test row) → AreDue w due
   are-due due rows = record {
     known = λ row in'. sym (rows row) ∙ in';
-    in_time = λ row in'. in-time row in' (pending-of row (or_left (has_row w.dues.waiting.rows row) (has_row w.dues.always.rows row) in'));
+    in_time = λ row in'. in-time row in' (pending-of row (or_left (has_bit w.dues.waiting.rows row) (has_bit w.dues.always.rows row) in'));
     apart = apart;
     soonest_is = λ row in'. (ready.released.each row (ready.released.room.waiting.below row in')).1.soonest_is in';
   }
     where
-      in-time : (row : ℕ) → has_row w.dues.waiting.rows row ≡ true → IsPending ranking.policy before w.cycle (get_or w.rows.entries.items row no_entry) (dues row)
+      in-time : (row : ℕ) → has_bit w.dues.waiting.rows row ≡ true → IsPending ranking.policy before w.cycle (get_or w.rows.entries.items row no_entry) (dues row)
           → w.cycle ≤ get_or w.rows.lasts.items row 0
       in-time row in' is =
           let own : last_of w row ≡ get_or w.rows.lasts.items row 0 = ap (λ b. if b then w.cycle else get_or w.rows.lasts.items row 0) (apart row in') in

@@ -1,5 +1,6 @@
 -- Rows that are filled in, one after the other.
 use Rattle.std.proofs.Common.{◌≡◌, ◌≢◌, ℕ, suc, ◌+◌, ◌%◌, ◌<◌, ◌≤◌, ◌&&◌, ◌||◌, not, Bool, true, false, nat_eq, min, List, Contains, IsPermutation, get_or, length, refl, sym, ap, subst, ◌∙◌, ⊎_elim, arith}
+use Rattle.std.proofs.Math.Bool.{and-false, or-false}
 use Rattle.std.proofs.lemmas.Bool.{and_from, and_parts, both_ways, eq-eqb, eqb-false, eqb-true, lt-ltb, or_cases, or_right}
 use Rattle.std.proofs.lemmas.List.{get_or-set_other, get_or-set_same, take_all}
 use Rattle.std.proofs.lemmas.List.Elements.{All-contains, All-contains_itself}
@@ -8,7 +9,7 @@ use Rattle.std.proofs.Math.ListN.{length-set}
 use Rattle.std.proofs.lemmas.Nat.{mod_below}
 use Rattle.requirement_table.specs.declared.entries.Placed.{Placed}
 use Rattle.requirement_table.specs.Instance.{Exists, exists, release_of}
-use Rattle.requirement_table.specs.Slots.{contains_slot}
+use Rattle.bit_sets.specs.Sets.{has_bit}
 use Rattle.requirement_table.specs.Table.{IsInRange, IsWellPlaced}
 use Rattle.requirement_table.proofs.Shared.{Exists-from_test, exists-true, found-in}
 use Rattle.planner_policies.specs.Due.{is_held_in}
@@ -17,10 +18,10 @@ use Rattle.planner_policies.specs.Ranked.{AreRanked}
 use Rattle.planner_policies.proofs.Shared.{same-test, same-read, take-same}
 use Rattle.release_wheel.specs.declared.dues.Dues.{Dues}
 use Rattle.release_wheel.specs.declared.rows.Rows.{Rows}
-use Rattle.release_wheel.specs.Wheel.{AreFilled, HasRoom, IsFilledTo, IsOnWheel, IsRowSet, IsSameBut, IsSlotsOf, IsSumOf, TurnedAt, any_below, has_row, is_there, no_entry, slot_at}
+use Rattle.release_wheel.specs.Wheel.{AreFilled, HasRoom, IsFilledTo, IsOnWheel, IsRowSet, IsSameBut, IsSlotsOf, IsSumOf, TurnedAt, any_below, is_there, no_entry, slot_at}
 use Rattle.release_wheel.proofs.RowDues.{held-is}
-use Rattle.release_wheel.proofs.RowSets.{has-none}
-use Rattle.release_wheel.proofs.RowSteps.{and-off, by-row, on_wheel-other, or-none, other-row, there-is, there-not, turned-other}
+use Rattle.bit_sets.proofs.Shared.{has_bit-none}
+use Rattle.release_wheel.proofs.RowSteps.{by-row, on_wheel-other, other-row, there-is, there-not, turned-other}
 use Rattle.release_wheel.proofs.RowSums.{added-here, added-other, any-found, one-below, sum-next}
 
 module _ (list : List Placed) (n c pending : ℕ) (rows new : Rows) (dues more : Dues) (p : Placed) (f : IsFilledTo list n c pending rows dues)
@@ -37,10 +38,10 @@ module _ (list : List Placed) (n c pending : ℕ) (rows new : Rows) (dues more :
   last-here : get_or new.lasts.items n 0 ≡ s.last
   last-here = let size = f.room.lasts in ap (λ xs. get_or xs n 0) s.down.lasts ∙ get_or-set_same rows.lasts.items n s.last 0 (omega arith)
 
-  always-here : has_row more.always.rows n ≡ s.begun
+  always-here : has_bit more.always.rows n ≡ s.begun
   always-here = added-here rows.entries.items new.entries.items n p s.begun dues.always more.always f.room.always s.always entry-here entry-other
 
-  waiting-here : has_row more.waiting.rows n ≡ s.waits
+  waiting-here : has_bit more.waiting.rows n ≡ s.waits
   waiting-here = added-here rows.entries.items new.entries.items n p s.waits dues.waiting more.waiting f.room.waiting s.waiting entry-here entry-other
 
   sooner : (a b c : ℕ) → c ≡ min a b → c ≤ a
@@ -53,20 +54,20 @@ module _ (list : List Placed) (n c pending : ℕ) (rows new : Rows) (dues more :
     last = λ i other. ap (λ xs. get_or xs i 0) s.down.lasts ∙ get_or-set_other rows.lasts.items n i s.last 0 (other-row n i other);
     place = λ k i below other.
         s.down.places k i below
-        ∙ ap (λ b. has_row (get_or rows.places.items k 0) i || ((not s.begun && exists p s.next) && b)) (there-not (s.next % 64) n k i other)
-        ∙ ap (λ b. has_row (get_or rows.places.items k 0) i || b) (and-off (not s.begun && exists p s.next))
-        ∙ or-none (has_row (get_or rows.places.items k 0) i);
+        ∙ ap (λ b. has_bit (get_or rows.places.items k 0) i || ((not s.begun && exists p s.next) && b)) (there-not (s.next % 64) n k i other)
+        ∙ ap (λ b. has_bit (get_or rows.places.items k 0) i || b) (and-false (not s.begun && exists p s.next))
+        ∙ or-false (has_bit (get_or rows.places.items k 0) i);
     waiting = added-other rows.entries.items new.entries.items n p s.waits dues.waiting more.waiting f.room.waiting s.waiting entry-here entry-other;
     always = added-other rows.entries.items new.entries.items n p s.begun dues.always more.always f.room.always s.always entry-here entry-other;
     sooner = sooner dues.soonest s.last more.soonest s.soonest;
   }
 
   -- the row that was filled in stands where its next release comes
-  on-here : (k : ℕ) → k < 64 → has_row (get_or new.places.items k 0) n ≡ true
-      → IsOnWheel (suc n) n k (get_or new.nexts.items n 0) (get_or new.entries.items n no_entry) (has_row more.always.rows n)
+  on-here : (k : ℕ) → k < 64 → has_bit (get_or new.places.items k 0) n ≡ true
+      → IsOnWheel (suc n) n k (get_or new.nexts.items n 0) (get_or new.entries.items n no_entry) (has_bit more.always.rows n)
   on-here k below in' =
       ⊎_elim
-      (λ (old : has_row (get_or rows.places.items k 0) n ≡ true). absurd (let less = (f.room.on_wheel k n below old).within in omega arith))
+      (λ (old : has_bit (get_or rows.places.items k 0) n ≡ true). absurd (let less = (f.room.on_wheel k n below old).within in omega arith))
       (λ (here : ((not s.begun && exists p s.next) && is_there (s.next % 64) n k n) ≡ true).
       let parts = and_parts (not s.begun && exists p s.next) (is_there (s.next % 64) n k n) here in
       let comes = and_parts (not s.begun) (exists p s.next) parts.0 in
@@ -76,7 +77,7 @@ module _ (list : List Placed) (n c pending : ℕ) (rows new : Rows) (dues more :
         coming = Exists-from_test p s.next comes.1;
         off = turn s.begun comes.0;
       }))
-      (or_cases (has_row (get_or rows.places.items k 0) n) ((not s.begun && exists p s.next) && is_there (s.next % 64) n k n) (sym (s.down.places k n below) ∙ in'))
+      (or_cases (has_bit (get_or rows.places.items k 0) n) ((not s.begun && exists p s.next) && is_there (s.next % 64) n k n) (sym (s.down.places k n below) ∙ in'))
     where
       turn : (b : Bool) → not b ≡ true → b ≡ false
       turn true wrong = absurd (cc)
@@ -102,14 +103,14 @@ module _ (list : List Placed) (n c pending : ℕ) (rows new : Rows) (dues more :
         waiting = sum-next rows.entries.items new.entries.items n p s.waits dues.waiting more.waiting f.room.waiting s.waiting entry-here entry-other;
         always = sum-next rows.entries.items new.entries.items n p s.begun dues.always more.always f.room.always s.always entry-here entry-other;
         on_wheel = λ k i below in'.
-            by-row (λ j. has_row (get_or new.places.items k 0) j ≡ true
-            → IsOnWheel (suc n) j k (get_or new.nexts.items j 0) (get_or new.entries.items j no_entry) (has_row more.always.rows j)) n i
+            by-row (λ j. has_bit (get_or new.places.items k 0) j ≡ true
+            → IsOnWheel (suc n) j k (get_or new.nexts.items j 0) (get_or new.entries.items j no_entry) (has_bit more.always.rows j)) n i
             (on-here k below)
             (λ other there. on_wheel-other n rows new dues more but-set i other n (suc n) k (omega arith)
             (f.room.on_wheel k i below (sym (but-set.place k i below other) ∙ there))) in';
       }
 
-  here-set : TurnedAt new more (contains_slot pending) c n
+  here-set : TurnedAt new more (has_bit pending) c n
   here-set = (
     rw (entry-here, always-here, next-here) (record {
       next_is = λ _. s.next_is;
@@ -117,7 +118,7 @@ module _ (list : List Placed) (n c pending : ℕ) (rows new : Rows) (dues more :
           let small : s.next % 64 < 64 = mod_below s.next 64 (omega arith) in
           let comes : (not s.begun && exists p s.next) ≡ true = rw off (exists-true p s.next exists-then) in
           s.down.places (s.next % 64) n small
-          ∙ or_right (has_row (get_or rows.places.items (s.next % 64) 0) n) ((not s.begun && exists p s.next) && is_there (s.next % 64) n (s.next % 64) n)
+          ∙ or_right (has_bit (get_or rows.places.items (s.next % 64) 0) n) ((not s.begun && exists p s.next) && is_there (s.next % 64) n (s.next % 64) n)
           (and_from (not s.begun && exists p s.next) (is_there (s.next % 64) n (s.next % 64) n) comes (there-is (s.next % 64) n));
       always_is = s.begun_is;
     }),
@@ -134,8 +135,8 @@ module _ (list : List Placed) (n c pending : ℕ) (rows new : Rows) (dues more :
     size = ap length s.down.entries ∙ length-set rows.entries.items n p ∙ f.size;
     same = λ i below. by-row (λ j. j < suc n → get_or new.entries.items j no_entry ≡ get_or list j no_entry) n i (λ _. entry-here ∙ is)
         (λ other less. entry-other i other ∙ f.same i (less-of i less other)) below;
-    each = λ i below. by-row (λ j. j < suc n → TurnedAt new more (contains_slot pending) c j) n i (λ _. here-set)
-        (λ other less. turned-other n rows new dues more but-set i other (contains_slot pending) c (f.each i (less-of i less other))) below;
+    each = λ i below. by-row (λ j. j < suc n → TurnedAt new more (has_bit pending) c j) n i (λ _. here-set)
+        (λ other less. turned-other n rows new dues more but-set i other (has_bit pending) c (f.each i (less-of i less other))) below;
   }
 
 -- before a row is filled in
@@ -153,8 +154,8 @@ filled-start list c pending rows dues few entries nexts lasts places empty waiti
     in_range = λ row below. absurd (omega arith);
     waiting = waiting;
     always = always;
-    on_wheel = λ place row less in'. absurd (both_ways (has_row (get_or rows.places.items place 0) row)
-        (ap (λ m. has_row m row) (empty place less) ∙ has-none row) in');
+    on_wheel = λ place row less in'. absurd (both_ways (has_bit (get_or rows.places.items place 0) row)
+        (ap (λ m. has_bit m row) (empty place less) ∙ has_bit-none row) in');
   };
   size = entries;
   same = λ row below. absurd (omega arith);
@@ -173,8 +174,8 @@ module _ (ranking : Ranking) (list : List Placed) (c pending : ℕ) (rows : Rows
       ∙ take_all (length list) list (omega arith)
 
   -- a slot that is pending has a row that waits
-  slot-waits : (slot : ℕ) → contains_slot pending slot ≡ true
-      → any_below (length rows.entries.items) (λ row. has_row dues.waiting.rows row && nat_eq (slot_at rows.entries.items row) slot) ≡ true
+  slot-waits : (slot : ℕ) → has_bit pending slot ≡ true
+      → any_below (length rows.entries.items) (λ row. has_bit dues.waiting.rows row && nat_eq (slot_at rows.entries.items row) slot) ≡ true
   slot-waits slot in' =
       let held = valid slot in' in
       let i = held.instance in
@@ -188,11 +189,11 @@ module _ (ranking : Ranking) (list : List Placed) (c pending : ℕ) (rows : Rows
       let held_is : is_held_in c (get_or rows.entries.items row no_entry) ≡ true
       = ap (is_held_in c) value ∙ held-is i.placed c i.number found.in_range found.sends
       ∙ lt-ltb (release_of i.placed i.number) c held.before in
-      any-found (length rows.entries.items) row (λ j. has_row dues.waiting.rows j && nat_eq (slot_at rows.entries.items j) slot) (omega arith)
-      (and_from (has_row dues.waiting.rows row) (nat_eq (slot_at rows.entries.items row) slot)
+      any-found (length rows.entries.items) row (λ j. has_bit dues.waiting.rows j && nat_eq (slot_at rows.entries.items j) slot) (omega arith)
+      (and_from (has_bit dues.waiting.rows row) (nat_eq (slot_at rows.entries.items row) slot)
       (waits.waits_is
-      ∙ and_from (contains_slot pending (slot_at rows.entries.items row)) (is_held_in c (get_or rows.entries.items row no_entry))
-      (ap (contains_slot pending) slot_is ∙ in') held_is)
+      ∙ and_from (has_bit pending (slot_at rows.entries.items row)) (is_held_in c (get_or rows.entries.items row no_entry))
+      (ap (has_bit pending) slot_is ∙ in') held_is)
       (eq-eqb (slot_at rows.entries.items row) slot slot_is))
     where
       All-permutation-contains : (p : Placed) → Contains ranking.placed p → Contains list p
@@ -202,16 +203,16 @@ module _ (ranking : Ranking) (list : List Placed) (c pending : ℕ) (rows : Rows
 
   slots-filled : IsSlotsOf rows.entries.items (length rows.entries.items) dues.waiting.rows pending
   slots-filled slot =
-      same-test (contains_slot pending slot) (any_below (length rows.entries.items) (λ row. has_row dues.waiting.rows row && nat_eq (slot_at rows.entries.items row) slot))
+      same-test (has_bit pending slot) (any_below (length rows.entries.items) (λ row. has_bit dues.waiting.rows row && nat_eq (slot_at rows.entries.items row) slot))
       (slot-waits slot)
       (λ any.
-      let one = one-below (length rows.entries.items) (λ row. has_row dues.waiting.rows row && nat_eq (slot_at rows.entries.items row) slot) any in
-      let parts = and_parts (has_row dues.waiting.rows one.row) (nat_eq (slot_at rows.entries.items one.row) slot) one.passes in
+      let one = one-below (length rows.entries.items) (λ row. has_bit dues.waiting.rows row && nat_eq (slot_at rows.entries.items row) slot) any in
+      let parts = and_parts (has_bit dues.waiting.rows one.row) (nat_eq (slot_at rows.entries.items one.row) slot) one.passes in
       let size = f.size in
       let within = one.within in
       let waits = (f.each one.row (omega arith)).1 in
-      ap (contains_slot pending) (sym (eqb-true (slot_at rows.entries.items one.row) slot parts.1))
-      ∙ (and_parts (contains_slot pending (slot_at rows.entries.items one.row)) (is_held_in c (get_or rows.entries.items one.row no_entry))
+      ap (has_bit pending) (sym (eqb-true (slot_at rows.entries.items one.row) slot parts.1))
+      ∙ (and_parts (has_bit pending (slot_at rows.entries.items one.row)) (is_held_in c (get_or rows.entries.items one.row no_entry))
       (sym waits.waits_is ∙ parts.0)).0)
 
   pub filled-whole : AreRanked ranking.policy list

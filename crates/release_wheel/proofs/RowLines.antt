@@ -1,5 +1,6 @@
 -- The instances of rows of a set, as a line.
 use Rattle.std.proofs.Common.{◌≡◌, ◌≢◌, ℕ, zero, suc, ◌+◌, ◌<◌, ◌≤◌, ◌&&◌, ◌||◌, not, Bool, true, false, nat_eq, nat_le, nat_lt, if◌then◌else◌, Some, None, List, [], ◌∷◌, All, AllPairs, IsPermutation, get_or, length, take, refl, sym, ap, subst, ◌∙◌, ⊎_elim, arith}
+use Rattle.std.proofs.Math.Bool.{or-false}
 use Rattle.std.specs.List.{list_any}
 use Rattle.std.proofs.lemmas.Bool.{and_from, and_parts, both_ways, cases_eq, cases_lt, eq-eqb, eqb-true, false_from_ne_true, leb-true, lt-ltb, ne_eqb, or_cases}
 use Rattle.std.proofs.lemmas.Bool.Decides.{nat_tests}
@@ -7,7 +8,7 @@ use Rattle.std.proofs.lemmas.List.Elements.{All-head, All-tail}
 use Rattle.std.proofs.lemmas.List.Folds.{Any-from_list_any}
 use Rattle.requirement_table.specs.declared.entries.Placed.{Placed}
 use Rattle.requirement_table.specs.Instance.{Instance}
-use Rattle.requirement_table.specs.Slots.{sum_where}
+use Rattle.bit_sets.specs.Sets.{sum_where}
 use Rattle.requirement_table.specs.Table.{IsWellPlaced}
 use Rattle.planner_policies.specs.declared.Policy.{Policy}
 use Rattle.planner_policies.specs.declared.Policy.TheVariants.{Rm, Dm, Edf}
@@ -88,14 +89,10 @@ module _ (plan : Planning) (c : ℕ) (before : ℕ → Bool) (entries : List Pla
         line = so_far.line;
         found = rw next at (line_of-none plan c before entries n no_entry so_far.line well within stands so_far.found none);
         slots = λ slot. so_far.slots slot
-            ∙ sym (or-none (any_below n (λ row. test row && nat_eq (slot_at entries row) slot)))
+            ∙ sym (or-false (any_below n (λ row. test row && nat_eq (slot_at entries row) slot)))
             ∙ ap (λ b. any_below n (λ row. test row && nat_eq (slot_at entries row) slot) || (b && nat_eq (slot_at entries n) slot)) (sym is);
         cost = rw is (omega arith);
       }
-    where
-      or-none : (a : Bool) → (a || false) ≡ a
-      or-none true = refl
-      or-none false = refl
 
   pub line-to : (n : ℕ) → n ≤ length entries → IsLineTo n
   line-to zero within = line-start

@@ -5,9 +5,10 @@ use Rattle.std.proofs.lemmas.Bool.Decides.{nat_tests}
 use Rattle.planner_policies.specs.Plan.{by_number}
 use Rattle.release_wheel.specs.declared.wheel.Wheel.{Wheel}
 use Rattle.release_wheel.specs.Taking.{AreDue, IsFirstRow, IsSoonest, goes_by, last_of}
-use Rattle.release_wheel.specs.Wheel.{HasRoom, IsBelow, has_row}
+use Rattle.release_wheel.specs.Wheel.{HasRoom, IsBelow}
+use Rattle.bit_sets.specs.Sets.{has_bit}
 use Rattle.release_wheel.proofs.RowLines.{by-parts, by-place}
-use Rattle.release_wheel.proofs.RowSets.{from-first, has-none, not-first}
+use Rattle.bit_sets.proofs.Shared.{from-first, has_bit-none, not-first}
 
 by-less : (a b i j : ℕ) → a < b → by_number a b (nat_le i j) ≡ true
 by-less a b i j less = grind (arith, nat_tests)
@@ -16,21 +17,21 @@ by-le : (a b i j : ℕ) → a ≤ b → i ≤ j → by_number a b (nat_le i j) �
 by-le a b i j less from = grind (arith, nat_tests)
 
 -- before a row is looked at
-pub looking-start : (lasts : List ℕ) (rows row : ℕ) → has_row rows row ≡ true → ((i : ℕ) → i < row → has_row rows i ≡ false)
+pub looking-start : (lasts : List ℕ) (rows row : ℕ) → has_bit rows row ≡ true → ((i : ℕ) → i < row → has_bit rows i ≡ false)
     → IsSoonest lasts rows rows row (get_or lasts row 0)
 looking-start lasts rows row stands none = record {
   stands = stands;
   last_is = refl;
   rest_in = λ i in'. in';
   before = λ i in'. from-first rows row i none in';
-  first = λ i in' out. absurd (both_ways (has_row rows i) out in');
+  first = λ i in' out. absurd (both_ways (has_bit rows i) out in');
 }
 
 -- one more is looked at
-module _ (lasts : List ℕ) (rows rest less row last next : ℕ) (s : IsSoonest lasts rows rest row last) (stands : has_row rest next ≡ true)
-    (none : (i : ℕ) → i < next → has_row rest i ≡ false) (made : (i : ℕ) → has_row less i ≡ (not (nat_eq next i) && has_row rest i)) where
-  less-in : (i : ℕ) → has_row less i ≡ true → has_row rest i ≡ true
-  less-in i in' = (and_parts (not (nat_eq next i)) (has_row rest i) (sym (made i) ∙ in')).1
+module _ (lasts : List ℕ) (rows rest less row last next : ℕ) (s : IsSoonest lasts rows rest row last) (stands : has_bit rest next ≡ true)
+    (none : (i : ℕ) → i < next → has_bit rest i ≡ false) (made : (i : ℕ) → has_bit less i ≡ (not (nat_eq next i) && has_bit rest i)) where
+  less-in : (i : ℕ) → has_bit less i ≡ true → has_bit rest i ≡ true
+  less-in i in' = (and_parts (not (nat_eq next i)) (has_bit rest i) (sym (made i) ∙ in')).1
 
   -- it is over sooner
   pub looking-sooner : get_or lasts next 0 < last → IsSoonest lasts rows less next (get_or lasts next 0)
@@ -66,24 +67,24 @@ module _ (lasts : List ℕ) (rows rest less row last next : ℕ) (s : IsSoonest 
 
 -- when all are looked at
 pub looking-end : (lasts : List ℕ) (rows rest row last : ℕ) → IsSoonest lasts rows rest row last → rest ≡ 0
-    → IsFirstRow (goes_by (λ row. get_or lasts row 0)) (has_row rows) row
+    → IsFirstRow (goes_by (λ row. get_or lasts row 0)) (has_bit rows) row
 looking-end lasts rows rest row last s none = record {
   stands = s.stands;
   first = λ other in'.
       ap (λ n. by_number n (get_or lasts other 0) (nat_le row other)) (sym s.last_is)
-      ∙ s.first other in' (ap (λ m. has_row m other) none ∙ has-none other);
+      ∙ s.first other in' (ap (λ m. has_bit m other) none ∙ has_bit-none other);
 }
 
 -- rows that are due are rows of the wheel
 pub due-below : (w : Wheel) (due : ℕ) → HasRoom (length w.rows.entries.items) w.rows w.dues → AreDue w due → IsBelow (length w.rows.entries.items) due
 due-below w due room are row in' =
     ⊎_elim
-    (λ (one : has_row w.dues.waiting.rows row ≡ true). room.waiting.below row one)
-    (λ (other : has_row w.dues.always.rows row ≡ true). room.always.below row other)
-    (or_cases (has_row w.dues.waiting.rows row) (has_row w.dues.always.rows row) (are.known row in'))
+    (λ (one : has_bit w.dues.waiting.rows row ≡ true). room.waiting.below row one)
+    (λ (other : has_bit w.dues.always.rows row ≡ true). room.always.below row other)
+    (or_cases (has_bit w.dues.waiting.rows row) (has_bit w.dues.always.rows row) (are.known row in'))
 
 -- and so are some of them
-pub due-less : (w : Wheel) (due rest : ℕ) → AreDue w due → ((row : ℕ) → has_row rest row ≡ true → has_row due row ≡ true) → AreDue w rest
+pub due-less : (w : Wheel) (due rest : ℕ) → AreDue w due → ((row : ℕ) → has_bit rest row ≡ true → has_bit due row ≡ true) → AreDue w rest
 due-less w due rest are rest_in = record {
   known = λ row in'. are.known row (rest_in row in');
   in_time = are.in_time;
@@ -92,26 +93,26 @@ due-less w due rest are rest_in = record {
 }
 
 -- among rows with an instance in each cycle and rows that wait
-module _ (w : Wheel) (rest always : ℕ) (due : AreDue w rest) (always_is : (i : ℕ) → has_row always i ≡ (has_row rest i && has_row w.dues.always.rows i)) where
+module _ (w : Wheel) (rest always : ℕ) (due : AreDue w rest) (always_is : (i : ℕ) → has_bit always i ≡ (has_bit rest i && has_bit w.dues.always.rows i)) where
   abbrev lasts : ℕ → ℕ
   lasts i = get_or w.rows.lasts.items i 0
 
-  last-in : (i : ℕ) → has_row w.dues.always.rows i ≡ true → last_of w i ≡ w.cycle
+  last-in : (i : ℕ) → has_bit w.dues.always.rows i ≡ true → last_of w i ≡ w.cycle
   last-in i on = ap (λ b. if b then w.cycle else get_or w.rows.lasts.items i 0) on
 
-  last-out : (i : ℕ) → has_row w.dues.always.rows i ≡ false → last_of w i ≡ get_or w.rows.lasts.items i 0
+  last-out : (i : ℕ) → has_bit w.dues.always.rows i ≡ false → last_of w i ≡ get_or w.rows.lasts.items i 0
   last-out i off = ap (λ b. if b then w.cycle else get_or w.rows.lasts.items i 0) off
 
-  waits : (i : ℕ) → has_row rest i ≡ true → has_row w.dues.always.rows i ≡ false → has_row w.dues.waiting.rows i ≡ true
+  waits : (i : ℕ) → has_bit rest i ≡ true → has_bit w.dues.always.rows i ≡ false → has_bit w.dues.waiting.rows i ≡ true
   waits i in' off =
       ⊎_elim
-      (λ (one : has_row w.dues.waiting.rows i ≡ true). one)
-      (λ (other : has_row w.dues.always.rows i ≡ true). absurd (both_ways (has_row w.dues.always.rows i) off other))
-      (or_cases (has_row w.dues.waiting.rows i) (has_row w.dues.always.rows i) (due.known i in'))
+      (λ (one : has_bit w.dues.waiting.rows i ≡ true). one)
+      (λ (other : has_bit w.dues.always.rows i ≡ true). absurd (both_ways (has_bit w.dues.always.rows i) off other))
+      (or_cases (has_bit w.dues.waiting.rows i) (has_bit w.dues.always.rows i) (due.known i in'))
 
   -- all wait
-  pub only-waiting : (row : ℕ) → always ≡ 0 → IsFirstRow (goes_by (λ row. get_or w.rows.lasts.items row 0)) (has_row rest) row
-      → IsFirstRow (goes_by (last_of w)) (has_row rest) row
+  pub only-waiting : (row : ℕ) → always ≡ 0 → IsFirstRow (goes_by (λ row. get_or w.rows.lasts.items row 0)) (has_bit rest) row
+      → IsFirstRow (goes_by (last_of w)) (has_bit rest) row
   only-waiting row none first = record {
     stands = first.stands;
     first = λ other in'.
@@ -124,28 +125,28 @@ module _ (w : Wheel) (rest always : ℕ) (due : AreDue w rest) (always_is : (i :
       out true b is none = none
       out false b is none = absurd (cc)
 
-      off : (i : ℕ) → has_row rest i ≡ true → has_row w.dues.always.rows i ≡ false
-      off i in' = out (has_row rest i) (has_row w.dues.always.rows i) in' (sym (always_is i) ∙ ap (λ m. has_row m i) none ∙ has-none i)
+      off : (i : ℕ) → has_bit rest i ≡ true → has_bit w.dues.always.rows i ≡ false
+      off i in' = out (has_bit rest i) (has_bit w.dues.always.rows i) in' (sym (always_is i) ∙ ap (λ m. has_bit m i) none ∙ has_bit-none i)
 
   -- the first of those with an instance in each cycle
-  module _ (own : ℕ) (stands : has_row always own ≡ true) (none : (i : ℕ) → i < own → has_row always i ≡ false) where
-    parts : has_row rest own ≡ true × has_row w.dues.always.rows own ≡ true
-    parts = and_parts (has_row rest own) (has_row w.dues.always.rows own) (sym (always_is own) ∙ stands)
+  module _ (own : ℕ) (stands : has_bit always own ≡ true) (none : (i : ℕ) → i < own → has_bit always i ≡ false) where
+    parts : has_bit rest own ≡ true × has_bit w.dues.always.rows own ≡ true
+    parts = and_parts (has_bit rest own) (has_bit w.dues.always.rows own) (sym (always_is own) ∙ stands)
 
-    from-own : (i : ℕ) → has_row rest i ≡ true → has_row w.dues.always.rows i ≡ true → own ≤ i
-    from-own i in' on = from-first always own i none (always_is i ∙ and_from (has_row rest i) (has_row w.dues.always.rows i) in' on)
+    from-own : (i : ℕ) → has_bit rest i ≡ true → has_bit w.dues.always.rows i ≡ true → own ≤ i
+    from-own i in' on = from-first always own i none (always_is i ∙ and_from (has_bit rest i) (has_bit w.dues.always.rows i) in' on)
 
     -- it goes first where all that wait are later, or as late and behind it
-    pub own-first : ((i : ℕ) → has_row rest i ≡ true → has_row w.dues.waiting.rows i ≡ true → (w.cycle < get_or w.rows.lasts.items i 0) ⊎ (own ≤ i))
-        → IsFirstRow (goes_by (last_of w)) (has_row rest) own
+    pub own-first : ((i : ℕ) → has_bit rest i ≡ true → has_bit w.dues.waiting.rows i ≡ true → (w.cycle < get_or w.rows.lasts.items i 0) ⊎ (own ≤ i))
+        → IsFirstRow (goes_by (last_of w)) (has_bit rest) own
     own-first later = record {
       stands = parts.0;
       first = λ other in'.
           ⊎_elim
-          (λ (on : has_row w.dues.always.rows other ≡ true).
+          (λ (on : has_bit w.dues.always.rows other ≡ true).
           by-le (last_of w own) (last_of w other) own other
           (let one = last-in own parts.1 in let same = last-in other on in omega arith) (from-own other in' on))
-          (λ (off : has_row w.dues.always.rows other ≡ false).
+          (λ (off : has_bit w.dues.always.rows other ≡ false).
           let wait = waits other in' off in
           let one = last-in own parts.1 in
           let same = last-out other off in
@@ -154,25 +155,25 @@ module _ (w : Wheel) (rest always : ℕ) (due : AreDue w rest) (always_is : (i :
           (λ (less : w.cycle < get_or w.rows.lasts.items other 0). by-less (last_of w own) (last_of w other) own other (omega arith))
           (λ (behind : own ≤ other). by-le (last_of w own) (last_of w other) own other (omega arith) behind)
           (later other in' wait))
-          (cases_Bool (has_row w.dues.always.rows other));
+          (cases_Bool (has_bit w.dues.always.rows other));
     }
 
     -- and that of those which wait
-    module _ (waiting row : ℕ) (waiting_is : (i : ℕ) → has_row waiting i ≡ (has_row rest i && has_row w.dues.waiting.rows i))
-        (first : IsFirstRow (goes_by (λ row. get_or w.rows.lasts.items row 0)) (has_row waiting) row) where
-      in-waiting : (i : ℕ) → has_row rest i ≡ true → has_row w.dues.waiting.rows i ≡ true → has_row waiting i ≡ true
-      in-waiting i in' wait = waiting_is i ∙ and_from (has_row rest i) (has_row w.dues.waiting.rows i) in' wait
+    module _ (waiting row : ℕ) (waiting_is : (i : ℕ) → has_bit waiting i ≡ (has_bit rest i && has_bit w.dues.waiting.rows i))
+        (first : IsFirstRow (goes_by (λ row. get_or w.rows.lasts.items row 0)) (has_bit waiting) row) where
+      in-waiting : (i : ℕ) → has_bit rest i ≡ true → has_bit w.dues.waiting.rows i ≡ true → has_bit waiting i ≡ true
+      in-waiting i in' wait = waiting_is i ∙ and_from (has_bit rest i) (has_bit w.dues.waiting.rows i) in' wait
 
-      row-parts : has_row rest row ≡ true × has_row w.dues.waiting.rows row ≡ true
-      row-parts = and_parts (has_row rest row) (has_row w.dues.waiting.rows row) (sym (waiting_is row) ∙ first.stands)
+      row-parts : has_bit rest row ≡ true × has_bit w.dues.waiting.rows row ≡ true
+      row-parts = and_parts (has_bit rest row) (has_bit w.dues.waiting.rows row) (sym (waiting_is row) ∙ first.stands)
 
-      row-after : (i : ℕ) → has_row rest i ≡ true → has_row w.dues.waiting.rows i ≡ true → get_or w.rows.lasts.items row 0 ≤ get_or w.rows.lasts.items i 0
+      row-after : (i : ℕ) → has_bit rest i ≡ true → has_bit w.dues.waiting.rows i ≡ true → get_or w.rows.lasts.items row 0 ≤ get_or w.rows.lasts.items i 0
       row-after i in' wait = by-parts (lasts row) (lasts i) row i (first.first i (in-waiting i in' wait))
 
-      pub own-sooner : w.cycle < get_or w.rows.lasts.items row 0 → IsFirstRow (goes_by (last_of w)) (has_row rest) own
+      pub own-sooner : w.cycle < get_or w.rows.lasts.items row 0 → IsFirstRow (goes_by (last_of w)) (has_bit rest) own
       own-sooner sooner = own-first (λ i in' wait. let after = row-after i in' wait in inl (omega arith))
 
-      pub own-before : get_or w.rows.lasts.items row 0 ≤ w.cycle → own < row → IsFirstRow (goes_by (last_of w)) (has_row rest) own
+      pub own-before : get_or w.rows.lasts.items row 0 ≤ w.cycle → own < row → IsFirstRow (goes_by (last_of w)) (has_bit rest) own
       own-before last before = own-first (λ i in' wait.
           ⊎_elim
           (λ (less : w.cycle < get_or w.rows.lasts.items i 0). inl less)
@@ -182,19 +183,19 @@ module _ (w : Wheel) (rest always : ℕ) (due : AreDue w rest) (always_is : (i :
           inr (omega arith))
           (cases_lt w.cycle (get_or w.rows.lasts.items i 0)))
 
-      pub row-first : get_or w.rows.lasts.items row 0 ≤ w.cycle → row ≤ own → IsFirstRow (goes_by (last_of w)) (has_row rest) row
+      pub row-first : get_or w.rows.lasts.items row 0 ≤ w.cycle → row ≤ own → IsFirstRow (goes_by (last_of w)) (has_bit rest) row
       row-first last before = record {
         stands = row-parts.0;
         first = λ other in'.
             let here = last-out row (due.apart row row-parts.1) in
             ⊎_elim
-            (λ (on : has_row w.dues.always.rows other ≡ true).
+            (λ (on : has_bit w.dues.always.rows other ≡ true).
             let from = from-own other in' on in
             let there = last-in other on in
             by-le (last_of w row) (last_of w other) row other (omega arith) (omega arith))
-            (λ (off : has_row w.dues.always.rows other ≡ false).
+            (λ (off : has_bit w.dues.always.rows other ≡ false).
             ap (λ n. by_number n (last_of w other) (nat_le row other)) here
             ∙ ap (λ n. by_number (lasts row) n (nat_le row other)) (last-out other off)
             ∙ first.first other (in-waiting other in' (waits other in' off)))
-            (cases_Bool (has_row w.dues.always.rows other));
+            (cases_Bool (has_bit w.dues.always.rows other));
       }

@@ -1,11 +1,13 @@
 -- Rows of which one changes.
 use Rattle.std.proofs.Common.{◌≡◌, ◌≢◌, ℕ, ◌+◌, ◌%◌, ◌<◌, ◌≤◌, ◌&&◌, ◌||◌, not, Bool, true, false, nat_eq, get_or, length, refl, sym, ap, subst, ⊎_elim, arith}
+use Rattle.std.proofs.Math.Bool.{and-false}
 use Rattle.std.proofs.lemmas.Bool.{cases_Bool, eq-eqb, eqb-false, eqb-true}
 use Rattle.std.proofs.Math.Nat.{mod-lt}
 use Rattle.requirement_table.specs.declared.entries.Placed.{Placed}
 use Rattle.release_wheel.specs.declared.dues.Dues.{Dues}
 use Rattle.release_wheel.specs.declared.rows.Rows.{Rows}
-use Rattle.release_wheel.specs.Wheel.{IsOnWheel, IsSameBut, ReleasedAt, StandsAt, TurnedAt, has_row, is_there, no_entry}
+use Rattle.release_wheel.specs.Wheel.{IsOnWheel, IsSameBut, ReleasedAt, StandsAt, TurnedAt, is_there, no_entry}
+use Rattle.bit_sets.specs.Sets.{has_bit}
 
 -- what is asked of the row itself and of the others
 pub by-row : (P : ℕ → Type 0) (row i : ℕ) → P row → (nat_eq row i ≡ false → P i) → P i
@@ -18,20 +20,8 @@ by-row P row i here others =
 pub other-row : (row i : ℕ) → nat_eq row i ≡ false → i ≢ row
 other-row row i other = let differ = eqb-false row i other in λ same. differ (sym same)
 
-pub and-off : (b : Bool) → (b && false) ≡ false
-and-off true = refl
-and-off false = refl
-
-pub and-on : (b : Bool) → (b && true) ≡ b
-and-on true = refl
-and-on false = refl
-
-pub or-none : (b : Bool) → (b || false) ≡ b
-or-none true = refl
-or-none false = refl
-
 pub there-not : (place row k i : ℕ) → nat_eq row i ≡ false → is_there place row k i ≡ false
-there-not place row k i apart = rw apart (and-off (nat_eq place k))
+there-not place row k i apart = rw apart (and-false (nat_eq place k))
 
 pub there-is : (place row : ℕ) → is_there place row place row ≡ true
 there-is place row = rw (eq-eqb place place refl, eq-eqb row row refl) refl
@@ -70,8 +60,8 @@ module _ (row : ℕ) (rows new : Rows) (dues more : Dues) (but : IsSameBut row r
   )
 
   pub on_wheel-other : (n m place : ℕ) → n ≤ m
-      → IsOnWheel n i place (get_or rows.nexts.items i 0) (get_or rows.entries.items i no_entry) (has_row dues.always.rows i)
-      → IsOnWheel m i place (get_or new.nexts.items i 0) (get_or new.entries.items i no_entry) (has_row more.always.rows i)
+      → IsOnWheel n i place (get_or rows.nexts.items i 0) (get_or rows.entries.items i no_entry) (has_bit dues.always.rows i)
+      → IsOnWheel m i place (get_or new.nexts.items i 0) (get_or new.entries.items i no_entry) (has_bit more.always.rows i)
   on_wheel-other n m place few was =
       rw (but.entry i other, but.always i other, but.next i other) (record {
         within = let within = was.within in omega arith;

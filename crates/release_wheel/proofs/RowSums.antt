@@ -1,32 +1,21 @@
 -- What the rows of a set cost together, which slots they have, and sums of rows.
 use Rattle.std.proofs.Common.{◌≡◌, ◌≢◌, ℕ, zero, suc, ◌+◌, ◌*◌, ◌^◌, ◌<◌, ◌≤◌, ◌&&◌, ◌||◌, Bool, true, false, nat_eq, if◌then◌else◌, List, get_or}
 use Rattle.std.proofs.Common.{length, refl, sym, ap, ◌∙◌, ⊎_elim, arith}
+use Rattle.std.proofs.Math.Bool.{and-false, and-true, or-false}
 use Rattle.std.proofs.lemmas.Bool.{and_parts, both_ways, cases_eq, eq-eqb, eqb-true, ne_eqb, or_cases}
 use Rattle.requirement_table.specs.declared.entries.Placed.{Placed}
 use Rattle.requirement_table.specs.Instance.{worst}
-use Rattle.requirement_table.specs.Slots.{contains_slot, sum_where}
+use Rattle.bit_sets.specs.Sets.{has_bit, sum_where}
 use Rattle.requirement_table.specs.Table.{IsInRange}
-use Rattle.requirement_table.proofs.Shared.{sum_where-same}
-use Rattle.planner_policies.proofs.Shared.{sum_where-costs, sum_where-with, turned-eq}
+use Rattle.bit_sets.proofs.Shared.{has_bit-none, sum_where-costs, sum_where-most, sum_where-or, sum_where-same, sum_where-with, turned-eq}
 use Rattle.release_wheel.specs.declared.dues.Dues.{Dues}
 use Rattle.release_wheel.specs.declared.dues.Sum.{Sum}
 use Rattle.release_wheel.specs.declared.rows.Rows.{Rows}
-use Rattle.release_wheel.specs.Wheel.{HasRoom, IsAdded, IsSumOf, any_below, cost_at, cost_below, has_row, no_entry, slot_at}
-use Rattle.release_wheel.proofs.RowSets.{has-none}
+use Rattle.release_wheel.specs.Wheel.{HasRoom, IsAdded, IsSumOf, any_below, cost_at, cost_below, no_entry, slot_at}
 
 pub cost-bound : (entries : List Placed) (n set : ℕ) → ((row : ℕ) → row < n → IsInRange (get_or entries row no_entry))
     → cost_below entries n set ≤ n * 135
-unfolding sum_where
-cost-bound entries zero set range = omega arith
-cost-bound entries (suc n) set range =
-    let rest = cost-bound entries n set (λ row below. range row (omega arith)) in
-    let last = (range n (omega arith)).entry.length in
-    let here = step (has_row set n) (cost_at entries n) (omega arith) in
-    omega arith
-  where
-    step : (b : Bool) (x : ℕ) → x ≤ 135 → (if b then x else 0) ≤ 135
-    step true x small = small
-    step false x small = omega arith
+cost-bound entries n set range = sum_where-most n 135 (has_bit set) (cost_at entries) (λ row below. let few = (range row below).entry.length in omega arith)
 
 -- what waits and what has an instance in each cycle cost little
 pub costs-small : (n : ℕ) (rows : Rows) (dues : Dues) → HasRoom n rows dues → (dues.waiting.cost ≤ 17280) × (dues.always.cost ≤ 17280)
@@ -40,12 +29,12 @@ costs-small n rows dues room =
     (omega arith, omega arith)
 
 -- one more row
-pub cost-with : (entries : List Placed) (n set more row : ℕ) → row < n → has_row set row ≡ false
-    → ((other : ℕ) → has_row more other ≡ (nat_eq row other || has_row set other))
+pub cost-with : (entries : List Placed) (n set more row : ℕ) → row < n → has_bit set row ≡ false
+    → ((other : ℕ) → has_bit more other ≡ (nat_eq row other || has_bit set other))
     → cost_below entries n more ≡ cost_below entries n set + cost_at entries row
 cost-with entries n set more row within none made =
-    let same = sum_where-same n (has_row more) (λ other. nat_eq row other || has_row set other) (cost_at entries) (λ other below. made other) in
-    let one = sum_where-with n row (has_row set) (cost_at entries) within none in
+    let same = sum_where-same n (has_bit more) (λ other. nat_eq row other || has_bit set other) (cost_at entries) (λ other below. made other) in
+    let one = sum_where-with n row (has_bit set) (cost_at entries) within none in
     omega arith
 
 pub any-same : (n : ℕ) (p q : ℕ → Bool) → ((i : ℕ) → i < n → p i ≡ q i) → any_below n p ≡ any_below n q
@@ -130,34 +119,30 @@ unfolding sum_where
 no-cost entries set = refl
 
 -- the sum of no rows
-pub sum-none : (entries : List Placed) (sum : Sum) → sum.rows ≡ 0 → ((slot : ℕ) → contains_slot sum.slots slot ≡ false) → sum.cost ≡ 0
+pub sum-none : (entries : List Placed) (sum : Sum) → sum.rows ≡ 0 → ((slot : ℕ) → has_bit sum.slots slot ≡ false) → sum.cost ≡ 0
     → IsSumOf entries 0 sum
 sum-none entries sum rows slots cost = record {
-  below = λ row in'. absurd (both_ways (has_row sum.rows row) (ap (λ m. has_row m row) rows ∙ has-none row) in');
-  slots = λ slot. slots slot ∙ none-below (λ row. has_row sum.rows row && nat_eq (slot_at entries row) slot);
+  below = λ row in'. absurd (both_ways (has_bit sum.rows row) (ap (λ m. has_bit m row) rows ∙ has_bit-none row) in');
+  slots = λ slot. slots slot ∙ none-below (λ row. has_bit sum.rows row && nat_eq (slot_at entries row) slot);
   cost = cost ∙ no-cost entries sum.rows;
 }
 
-or-off : (b : Bool) → (b || false) ≡ b
-or-off true = refl
-or-off false = refl
-
 -- a sum with one row more
-module _ (entries : List Placed) (n row : ℕ) (sum more : Sum) (within : row < n) (out : has_row sum.rows row ≡ false)
+module _ (entries : List Placed) (n row : ℕ) (sum more : Sum) (within : row < n) (out : has_bit sum.rows row ≡ false)
     (added : IsAdded (get_or entries row no_entry) row true sum more) (was : IsSumOf entries n sum) where
   pub sum-with : IsSumOf entries n more
   sum-with = record {
     below = λ i in'.
         ⊎_elim
         (λ (here : nat_eq row i ≡ true). let same = eqb-true row i here in omega arith)
-        (λ (other : has_row sum.rows i ≡ true). was.below i other)
-        (or_cases (nat_eq row i) (has_row sum.rows i) (sym (added.rows i) ∙ in'));
+        (λ (other : has_bit sum.rows i ≡ true). was.below i other)
+        (or_cases (nat_eq row i) (has_bit sum.rows i) (sym (added.rows i) ∙ in'));
     slots = λ slot.
         added.slots slot
-        ∙ ap (λ b. b || contains_slot sum.slots slot) (turned-eq slot (slot_at entries row))
+        ∙ ap (λ b. b || has_bit sum.slots slot) (turned-eq slot (slot_at entries row))
         ∙ ap (λ b. nat_eq (slot_at entries row) slot || b) (was.slots slot)
-        ∙ sym (any-with n row (has_row sum.rows) (λ i. nat_eq (slot_at entries i) slot) within)
-        ∙ any-same n (λ i. (nat_eq row i || has_row sum.rows i) && nat_eq (slot_at entries i) slot) (λ i. has_row more.rows i && nat_eq (slot_at entries i) slot)
+        ∙ sym (any-with n row (has_bit sum.rows) (λ i. nat_eq (slot_at entries i) slot) within)
+        ∙ any-same n (λ i. (nat_eq row i || has_bit sum.rows i) && nat_eq (slot_at entries i) slot) (λ i. has_bit more.rows i && nat_eq (slot_at entries i) slot)
         (λ i below. ap (λ b. b && nat_eq (slot_at entries i) slot) (sym (added.rows i)));
     cost = added.cost ∙ ap (λ c. c + cost_at entries row) was.cost ∙ sym (cost-with entries n sum.rows more.rows row within out added.rows);
   }
@@ -165,27 +150,19 @@ module _ (entries : List Placed) (n row : ℕ) (sum more : Sum) (within : row < 
 -- a sum of the rows before one, and then that one, where it is wanted
 module _ (old new : List Placed) (n : ℕ) (p : Placed) (flag : Bool) (sum more : Sum) (was : IsSumOf old n sum) (added : IsAdded p n flag sum more)
     (here : get_or new n no_entry ≡ p) (others : (i : ℕ) → nat_eq n i ≡ false → get_or new i no_entry ≡ get_or old i no_entry) where
-  last-out : has_row sum.rows n ≡ false
-  last-out = pick (has_row sum.rows n) refl
+  last-out : has_bit sum.rows n ≡ false
+  last-out = pick (has_bit sum.rows n) refl
     where
-      pick : (b : Bool) → has_row sum.rows n ≡ b → b ≡ false
+      pick : (b : Bool) → has_bit sum.rows n ≡ b → b ≡ false
       pick true in' = absurd (let less = was.below n in' in omega arith)
       pick false out = refl
 
-  pub added-other : (i : ℕ) → nat_eq n i ≡ false → has_row more.rows i ≡ has_row sum.rows i
-  added-other i other = added.rows i ∙ ap (λ b. (flag && b) || has_row sum.rows i) other ∙ ap (λ b. b || has_row sum.rows i) (and-off flag)
-    where
-      and-off : (b : Bool) → (b && false) ≡ false
-      and-off true = refl
-      and-off false = refl
+  pub added-other : (i : ℕ) → nat_eq n i ≡ false → has_bit more.rows i ≡ has_bit sum.rows i
+  added-other i other = added.rows i ∙ ap (λ b. (flag && b) || has_bit sum.rows i) other ∙ ap (λ b. b || has_bit sum.rows i) (and-false flag)
 
-  pub added-here : has_row more.rows n ≡ flag
+  pub added-here : has_bit more.rows n ≡ flag
   added-here =
-      added.rows n ∙ ap (λ b. (flag && b) || has_row sum.rows n) (eq-eqb n n refl) ∙ ap (λ b. (flag && true) || b) last-out ∙ or-off (flag && true) ∙ and-on flag
-    where
-      and-on : (b : Bool) → (b && true) ≡ b
-      and-on true = refl
-      and-on false = refl
+      added.rows n ∙ ap (λ b. (flag && b) || has_bit sum.rows n) (eq-eqb n n refl) ∙ ap (λ b. (flag && true) || b) last-out ∙ or-false (flag && true) ∙ and-true flag
 
   apart : (i : ℕ) → i < n → nat_eq n i ≡ false
   apart i less = ne_eqb n i (λ same. omega arith)
@@ -196,22 +173,22 @@ module _ (old new : List Placed) (n : ℕ) (p : Placed) (flag : Bool) (sum more 
     below = λ i in'.
         ⊎_elim
         (λ (one : (flag && nat_eq n i) ≡ true). let same = eqb-true n i (and_parts flag (nat_eq n i) one).1 in omega arith)
-        (λ (other : has_row sum.rows i ≡ true). let less = was.below i other in omega arith)
-        (or_cases (flag && nat_eq n i) (has_row sum.rows i) (sym (added.rows i) ∙ in'));
+        (λ (other : has_bit sum.rows i ≡ true). let less = was.below i other in omega arith)
+        (or_cases (flag && nat_eq n i) (has_bit sum.rows i) (sym (added.rows i) ∙ in'));
     slots = λ slot.
         added.slots slot
-        ∙ ap (λ b. (flag && b) || contains_slot sum.slots slot) (turned-eq slot p.entry.slot)
-        ∙ turn (flag && nat_eq p.entry.slot slot) (contains_slot sum.slots slot)
+        ∙ ap (λ b. (flag && b) || has_bit sum.slots slot) (turned-eq slot p.entry.slot)
+        ∙ turn (flag && nat_eq p.entry.slot slot) (has_bit sum.slots slot)
         ∙ ap (λ b. b || (flag && nat_eq p.entry.slot slot)) (was.slots slot
-        ∙ any-same n (λ i. has_row sum.rows i && nat_eq (slot_at old i) slot) (λ i. has_row more.rows i && nat_eq (slot_at new i) slot)
+        ∙ any-same n (λ i. has_bit sum.rows i && nat_eq (slot_at old i) slot) (λ i. has_bit more.rows i && nat_eq (slot_at new i) slot)
         (λ i less. ap (λ b. b && nat_eq (slot_at old i) slot) (sym (added-other i (apart i less)))
-        ∙ ap (λ q. has_row more.rows i && nat_eq q.entry.slot slot) (sym (others i (apart i less)))))
-        ∙ ap (λ b. any_below n (λ i. has_row more.rows i && nat_eq (slot_at new i) slot) || (b && nat_eq p.entry.slot slot)) (sym added-here)
-        ∙ ap (λ q. any_below n (λ i. has_row more.rows i && nat_eq (slot_at new i) slot) || (has_row more.rows n && nat_eq q.entry.slot slot)) (sym here);
+        ∙ ap (λ q. has_bit more.rows i && nat_eq q.entry.slot slot) (sym (others i (apart i less)))))
+        ∙ ap (λ b. any_below n (λ i. has_bit more.rows i && nat_eq (slot_at new i) slot) || (b && nat_eq p.entry.slot slot)) (sym added-here)
+        ∙ ap (λ q. any_below n (λ i. has_bit more.rows i && nat_eq (slot_at new i) slot) || (has_bit more.rows n && nat_eq q.entry.slot slot)) (sym here);
     cost =
-        let low = sum_where-same n (has_row more.rows) (has_row sum.rows) (cost_at new) (λ i less. added-other i (apart i less)) in
-        let costs = sum_where-costs n (has_row sum.rows) (cost_at new) (cost_at old) (λ i less. ap (λ q. worst q.entry.length) (others i (apart i less))) in
-        let last : (if has_row more.rows n then cost_at new n else 0) ≡ (if flag then worst p.entry.length else 0)
+        let low = sum_where-same n (has_bit more.rows) (has_bit sum.rows) (cost_at new) (λ i less. added-other i (apart i less)) in
+        let costs = sum_where-costs n (has_bit sum.rows) (cost_at new) (cost_at old) (λ i less _. ap (λ q. worst q.entry.length) (others i (apart i less))) in
+        let last : (if has_bit more.rows n then cost_at new n else 0) ≡ (if flag then worst p.entry.length else 0)
         = ap (λ b. if b then cost_at new n else 0) added-here ∙ ap (λ q. if flag then worst q.entry.length else 0) here in
         let first = was.cost in
         let one = added.cost in
@@ -224,23 +201,9 @@ module _ (old new : List Placed) (n : ℕ) (p : Placed) (flag : Bool) (sum more 
       turn false true = refl
       turn false false = refl
 
-pub sum-or : (n : ℕ) (p q : ℕ → Bool) (f : ℕ → ℕ) → ((i : ℕ) → p i ≡ true → q i ≡ false) → sum_where n p f + sum_where n q f ≡ sum_where n (λ i. p i || q i) f
-unfolding sum_where
-sum-or zero p q f apart = refl
-sum-or (suc n) p q f apart =
-    let rest = sum-or n p q f apart in
-    let here = step (p n) (q n) (f n) (apart n) in
-    omega arith
-  where
-    step : (a b : Bool) (x : ℕ) → (a ≡ true → b ≡ false) → (if a then x else 0) + (if b then x else 0) ≡ (if a || b then x else 0)
-    step true true x apart = absurd (let wrong = apart refl in cc)
-    step true false x apart = omega arith
-    step false true x apart = omega arith
-    step false false x apart = omega arith
-
 -- the rows of two sets that have none in common
-pub cost-both : (entries : List Placed) (n one other both : ℕ) → ((i : ℕ) → has_row one i ≡ true → has_row other i ≡ false)
-    → ((i : ℕ) → has_row both i ≡ (has_row one i || has_row other i)) → cost_below entries n both ≡ cost_below entries n one + cost_below entries n other
+pub cost-both : (entries : List Placed) (n one other both : ℕ) → ((i : ℕ) → has_bit one i ≡ true → has_bit other i ≡ false)
+    → ((i : ℕ) → has_bit both i ≡ (has_bit one i || has_bit other i)) → cost_below entries n both ≡ cost_below entries n one + cost_below entries n other
 cost-both entries n one other both apart made =
-    sum_where-same n (has_row both) (λ i. has_row one i || has_row other i) (cost_at entries) (λ i below. made i)
-    ∙ sym (sum-or n (has_row one) (has_row other) (cost_at entries) apart)
+    sum_where-same n (has_bit both) (λ i. has_bit one i || has_bit other i) (cost_at entries) (λ i below. made i)
+    ∙ sym (sum_where-or n (has_bit one) (has_bit other) (cost_at entries) apart)

@@ -1,24 +1,25 @@
 -- What a filling takes of the rows of a set, one after the other.
 use Rattle.std.proofs.Common.{◌≡◌, ◌≢◌, ℕ, ◌+◌, ◌-◌, ◌<◌, ◌≤◌, ◌^◌, ◌&&◌, ◌||◌, not, Bool, true, false, nat_eq, nat_le, if◌then◌else◌, List, [], ◌∷◌, length, refl, sym, ap, subst, ◌∙◌, ⊎_elim, arith}
+use Rattle.std.proofs.Math.Bool.{or-false}
 use Rattle.std.specs.List.{list_any}
 use Rattle.std.proofs.lemmas.Bool.{and_parts, both_ways, cases_Bool, eq-eqb, eqb-false, eqb-true, le-leb, lt-leb, ne_eqb}
 use Rattle.std.proofs.lemmas.Bool.Decides.{nat_tests}
 use Rattle.std.proofs.lemmas.List.Sums.{sum_by-cons}
 use Rattle.requirement_table.specs.declared.entries.Placed.{Placed}
-use Rattle.requirement_table.specs.Slots.{contains_slot, most_slots}
+use Rattle.bit_sets.specs.Sets.{has_bit, most_slots}
 use Rattle.planner_policies.specs.declared.Fill.{Fill}
 use Rattle.planner_policies.specs.declared.Fill.TheVariants.{Prefix, Skip}
 use Rattle.planner_policies.specs.declared.due.Due.{Due}
 use Rattle.planner_policies.specs.Due.{is_due_by, taken_of}
 use Rattle.planner_policies.specs.Plan.{by_number}
 use Rattle.release_wheel.specs.Taking.{AreDistinct, AreOfRows, IsFirstRow, IsLineOfRows, IsTaking, IsTook}
-use Rattle.release_wheel.specs.Wheel.{IsBelow, cost_at, cost_below, has_row, slot_at}
-use Rattle.planner_policies.proofs.Shared.{turned-eq, has_slot, sum_where-zero, cost_of}
-use Rattle.release_wheel.proofs.RowSets.{from-first, has-none}
+use Rattle.release_wheel.specs.Wheel.{IsBelow, cost_at, cost_below, slot_at}
+use Rattle.planner_policies.proofs.Shared.{has_slot, cost_of}
+use Rattle.bit_sets.proofs.Shared.{turned-eq, sum_where-none, from-first, has_bit-none}
 use Rattle.release_wheel.proofs.RowSums.{cost-with}
 
 pub cost-none : (entries : List Placed) (n : ℕ) → cost_below entries n 0 ≡ 0
-cost-none entries n = sum_where-zero n (has_row 0) (cost_at entries) (λ row below. has-none row)
+cost-none entries n = sum_where-none n (has_bit 0) (cost_at entries) (λ row below. has_bit-none row)
 
 -- instances that go before each other are of one slot
 same-last : (a b c a' b' c' : ℕ) → by_number a a' (by_number b b' (nat_le c c')) ≡ true → by_number a' a (by_number b' b (nat_le c' c)) ≡ true → c ≡ c'
@@ -39,12 +40,12 @@ line-same dues p q (due ∷ line) same is =
     )
 
 pub taking-start : (fill : Fill) (window : ℕ) (goes : ℕ → ℕ → Bool) (entries : List Placed) (due mask : ℕ)
-    → ((slot : ℕ) → contains_slot mask slot ≡ false) → IsTaking fill window goes entries due due 0 mask 0
+    → ((slot : ℕ) → has_bit mask slot ≡ false) → IsTaking fill window goes entries due due 0 mask 0
 taking-start fill window goes entries due mask empty = record {
   kept = λ i in'. rw (in', empty (slot_at entries i)) refl;
   rest_in = λ i in'. in';
-  left_in = λ i in'. absurd (both_ways (has_row 0 i) (has-none i) in');
-  apart = λ i in'. has-none i;
+  left_in = λ i in'. absurd (both_ways (has_bit 0 i) (has_bit-none i) in');
+  apart = λ i in'. has_bit-none i;
   fits = omega arith;
   cost = let none = cost-none entries (length entries) in omega arith;
   taken = λ dues line of is. let all : window - 0 ≡ window = omega arith in
@@ -69,7 +70,7 @@ taken-pass room due line wide = ap (λ b. if b then due ∷ taken_of Skip (room 
 
 module _ (fill : Fill) (window : ℕ) (goes : ℕ → ℕ → Bool) (entries : List Placed) (due rest left mask width row : ℕ)
     (t : IsTaking fill window goes entries due rest left mask width) (distinct : AreDistinct entries due) (below : IsBelow (length entries) due)
-    (first : IsFirstRow goes (has_row rest) row) where
+    (first : IsFirstRow goes (has_bit rest) row) where
   within : row < length entries
   within = below row (t.rest_in row first.stands)
 
@@ -77,10 +78,10 @@ module _ (fill : Fill) (window : ℕ) (goes : ℕ → ℕ → Bool) (entries : L
   record IsPicked (dues : ℕ → Due) (back : List Due) : Type 0 where
     tail : List Due
     is : back ≡ dues row ∷ tail
-    others : IsLineOfRows dues (λ i. not (nat_eq row i) && has_row rest i) tail
+    others : IsLineOfRows dues (λ i. not (nat_eq row i) && has_bit rest i) tail
 
-  picked : (dues : ℕ → Due) (back : List Due) → AreOfRows entries goes dues → IsLineOfRows dues (has_row rest) back → IsPicked dues back
-  picked dues [] of is = absurd (both_ways (has_row rest row) (is row) first.stands)
+  picked : (dues : ℕ → Due) (back : List Due) → AreOfRows entries goes dues → IsLineOfRows dues (has_bit rest) back → IsPicked dues back
+  picked dues [] of is = absurd (both_ways (has_bit rest row) (is row) first.stands)
   picked dues (d ∷ tail) of is =
       let other = is.0 in
       let in_one = t.rest_in other is.1.stands in
@@ -93,13 +94,13 @@ module _ (fill : Fill) (window : ℕ) (goes : ℕ → ℕ → Bool) (entries : L
       record {
         tail = tail;
         is = ap (λ x. x ∷ tail) (is.2 ∙ ap dues same);
-        others = line-same dues (λ i. not (nat_eq other i) && has_row rest i) (λ i. not (nat_eq row i) && has_row rest i) tail
-            (λ i. ap (λ k. not (nat_eq k i) && has_row rest i) same) is.3;
+        others = line-same dues (λ i. not (nat_eq other i) && has_bit rest i) (λ i. not (nat_eq row i) && has_bit rest i) tail
+            (λ i. ap (λ k. not (nat_eq k i) && has_bit rest i) same) is.3;
       }
 
   -- it does not fit, and nothing more is taken
   pub nothing-fits : fill ≡ Prefix → window - width < cost_at entries row → (dues : ℕ → Due) (back : List Due) → AreOfRows entries goes dues
-      → IsLineOfRows dues (has_row rest) back → taken_of fill (window - width) back ≡ []
+      → IsLineOfRows dues (has_bit rest) back → taken_of fill (window - width) back ≡ []
   nothing-fits stops wide dues back of is =
       let next = picked dues back of is in
       let cost = of.cost row in
@@ -108,28 +109,28 @@ module _ (fill : Fill) (window : ℕ) (goes : ℕ → ℕ → Bool) (entries : L
       ∙ taken-stop (window - width) (dues row) next.tail (omega arith)
 
   -- it is looked at
-  module _ (less : ℕ) (made : (i : ℕ) → has_row less i ≡ (not (nat_eq row i) && has_row rest i)) where
-    gone-here : has_row less row ≡ false
-    gone-here = made row ∙ ap (λ b. not b && has_row rest row) (eq-eqb row row refl)
+  module _ (less : ℕ) (made : (i : ℕ) → has_bit less i ≡ (not (nat_eq row i) && has_bit rest i)) where
+    gone-here : has_bit less row ≡ false
+    gone-here = made row ∙ ap (λ b. not b && has_bit rest row) (eq-eqb row row refl)
 
-    same-other : (i : ℕ) → nat_eq row i ≡ false → has_row less i ≡ has_row rest i
-    same-other i other = made i ∙ ap (λ b. not b && has_row rest i) other
+    same-other : (i : ℕ) → nat_eq row i ≡ false → has_bit less i ≡ has_bit rest i
+    same-other i other = made i ∙ ap (λ b. not b && has_bit rest i) other
 
-    rest-is : (i : ℕ) → has_row rest i ≡ (nat_eq row i || has_row less i)
+    rest-is : (i : ℕ) → has_bit rest i ≡ (nat_eq row i || has_bit less i)
     rest-is i =
         ⊎_elim
-        (λ (same : nat_eq row i ≡ true). ap (has_row rest) (sym (eqb-true row i same)) ∙ first.stands ∙ sym (ap (λ b. b || has_row less i) same))
-        (λ (other : nat_eq row i ≡ false). sym (same-other i other) ∙ sym (ap (λ b. b || has_row less i) other))
+        (λ (same : nat_eq row i ≡ true). ap (has_bit rest) (sym (eqb-true row i same)) ∙ first.stands ∙ sym (ap (λ b. b || has_bit less i) same))
+        (λ (other : nat_eq row i ≡ false). sym (same-other i other) ∙ sym (ap (λ b. b || has_bit less i) other))
         (cases_Bool (nat_eq row i))
 
-    less-in : (i : ℕ) → has_row less i ≡ true → has_row rest i ≡ true
-    less-in i in' = (and_parts (not (nat_eq row i)) (has_row rest i) (sym (made i) ∙ in')).1
+    less-in : (i : ℕ) → has_bit less i ≡ true → has_bit rest i ≡ true
+    less-in i in' = (and_parts (not (nat_eq row i)) (has_bit rest i) (sym (made i) ∙ in')).1
 
-    less-other : (i : ℕ) → has_row less i ≡ true → nat_eq row i ≡ false
+    less-other : (i : ℕ) → has_bit less i ≡ true → nat_eq row i ≡ false
     less-other i in' = pick (nat_eq row i) refl
       where
         pick : (b : Bool) → nat_eq row i ≡ b → b ≡ false
-        pick true same = absurd (both_ways (has_row less i) (made i ∙ ap (λ b. not b && has_row rest i) same) in')
+        pick true same = absurd (both_ways (has_bit less i) (made i ∙ ap (λ b. not b && has_bit rest i) same) in')
         pick false other = refl
 
     cost-parts : cost_below entries (length entries) rest ≡ cost_below entries (length entries) less + cost_at entries row
@@ -137,13 +138,13 @@ module _ (fill : Fill) (window : ℕ) (goes : ℕ → ℕ → Bool) (entries : L
 
     -- it fits, and is taken
     pub taking-take : (more : ℕ) → cost_at entries row ≤ window - width
-        → ((slot : ℕ) → contains_slot more slot ≡ (nat_eq slot (slot_at entries row) || contains_slot mask slot))
+        → ((slot : ℕ) → has_bit more slot ≡ (nat_eq slot (slot_at entries row) || has_bit mask slot))
         → IsTaking fill window goes entries due less left more (width + cost_at entries row)
     taking-take more small slots = record {
       kept = λ i in'.
           ⊎_elim
           (λ (same : nat_eq row i ≡ true).
-          let P : ℕ → Type 0 = λ j. (has_row less j || has_row left j) ≡ not (contains_slot more (slot_at entries j)) in
+          let P : ℕ → Type 0 = λ j. (has_bit less j || has_bit left j) ≡ not (has_bit more (slot_at entries j)) in
           subst P (eqb-true row i same) (rw (gone-here, t.apart row first.stands, slots (slot_at entries row), eq-eqb (slot_at entries row) (slot_at entries row) refl) refl))
           (λ (other : nat_eq row i ≡ false).
           let apart : slot_at entries i ≢ slot_at entries row
@@ -166,7 +167,7 @@ module _ (fill : Fill) (window : ℕ) (goes : ℕ → ℕ → Bool) (entries : L
           ∙ ap (λ r. d ∷ taken_of fill r next.tail) room in
           record {
             back = next.tail;
-            of_rest = line-same dues (λ i. not (nat_eq row i) && has_row rest i) (has_row less) next.tail (λ i. sym (made i)) next.others;
+            of_rest = line-same dues (λ i. not (nat_eq row i) && has_bit rest i) (has_bit less) next.tail (λ i. sym (made i)) next.others;
             width_is =
                 let was = so_far.width_is in
                 let sum = sum_by-cons (λ (due : Due). due.cost) d (taken_of fill (window - (width + cost_at entries row)) next.tail) in
@@ -175,9 +176,9 @@ module _ (fill : Fill) (window : ℕ) (goes : ℕ → ℕ → Bool) (entries : L
             slots_are = λ slot.
                 let later = list_any (has_slot slot) (taken_of fill (window - (width + cost_at entries row)) next.tail) in
                 ap (λ b. b || later)
-                (slots slot ∙ ap (λ b. b || contains_slot mask slot) (turned-eq slot (slot_at entries row) ∙ ap (λ s. nat_eq s slot) (sym (of.slot row))))
-                ∙ turned (nat_eq d.slot slot) (contains_slot mask slot) later
-                ∙ ap (λ xs. contains_slot mask slot || list_any (has_slot slot) xs) (sym taken)
+                (slots slot ∙ ap (λ b. b || has_bit mask slot) (turned-eq slot (slot_at entries row) ∙ ap (λ s. nat_eq s slot) (sym (of.slot row))))
+                ∙ turned (nat_eq d.slot slot) (has_bit mask slot) later
+                ∙ ap (λ xs. has_bit mask slot || list_any (has_slot slot) xs) (sym taken)
                 ∙ so_far.slots_are slot;
           };
     }
@@ -189,23 +190,23 @@ module _ (fill : Fill) (window : ℕ) (goes : ℕ → ℕ → Bool) (entries : L
 
     -- it does not fit, and is passed over
     pub taking-pass : (more : ℕ) → fill ≡ Skip → window - width < cost_at entries row
-        → ((i : ℕ) → has_row more i ≡ (nat_eq row i || has_row left i)) → IsTaking fill window goes entries due less more mask width
+        → ((i : ℕ) → has_bit more i ≡ (nat_eq row i || has_bit left i)) → IsTaking fill window goes entries due less more mask width
     taking-pass more skips wide rows = record {
       kept = λ i in'.
           ⊎_elim
           (λ (same : nat_eq row i ≡ true).
-          let P : ℕ → Type 0 = λ j. (has_row less j || has_row more j) ≡ not (contains_slot mask (slot_at entries j)) in
+          let P : ℕ → Type 0 = λ j. (has_bit less j || has_bit more j) ≡ not (has_bit mask (slot_at entries j)) in
           subst P (eqb-true row i same)
-          (rw (gone-here, rows row, eq-eqb row row refl) (sym (ap (λ b. b || has_row left row) first.stands) ∙ t.kept row (t.rest_in row first.stands))))
+          (rw (gone-here, rows row, eq-eqb row row refl) (sym (ap (λ b. b || has_bit left row) first.stands) ∙ t.kept row (t.rest_in row first.stands))))
           (λ (other : nat_eq row i ≡ false). rw (same-other i other, rows i, other) (t.kept i in'))
           (cases_Bool (nat_eq row i));
       rest_in = λ i in'. t.rest_in i (less-in i in');
       left_in = λ i in'.
           ⊎_elim
-          (λ (same : nat_eq row i ≡ true). ap (has_row due) (sym (eqb-true row i same)) ∙ t.rest_in row first.stands)
-          (λ (other : nat_eq row i ≡ false). t.left_in i (sym (ap (λ b. b || has_row left i) other) ∙ sym (rows i) ∙ in'))
+          (λ (same : nat_eq row i ≡ true). ap (has_bit due) (sym (eqb-true row i same)) ∙ t.rest_in row first.stands)
+          (λ (other : nat_eq row i ≡ false). t.left_in i (sym (ap (λ b. b || has_bit left i) other) ∙ sym (rows i) ∙ in'))
           (cases_Bool (nat_eq row i));
-      apart = λ i in'. rows i ∙ ap (λ b. b || has_row left i) (less-other i in') ∙ t.apart i (less-in i in');
+      apart = λ i in'. rows i ∙ ap (λ b. b || has_bit left i) (less-other i in') ∙ t.apart i (less-in i in');
       fits = t.fits;
       cost = let was = t.cost in let parts = cost-parts in
           let more_cost = cost-with entries (length entries) left more row within (t.apart row first.stands) rows in omega arith;
@@ -220,33 +221,33 @@ module _ (fill : Fill) (window : ℕ) (goes : ℕ → ℕ → Bool) (entries : L
           ∙ ap (λ f. taken_of f (window - width) next.tail) (sym skips) in
           record {
             back = next.tail;
-            of_rest = line-same dues (λ i. not (nat_eq row i) && has_row rest i) (has_row less) next.tail (λ i. sym (made i)) next.others;
+            of_rest = line-same dues (λ i. not (nat_eq row i) && has_bit rest i) (has_bit less) next.tail (λ i. sym (made i)) next.others;
             width_is = ap (λ xs. width + cost_of xs) (sym passed) ∙ so_far.width_is;
-            slots_are = λ slot. ap (λ xs. contains_slot mask slot || list_any (has_slot slot) xs) (sym passed) ∙ so_far.slots_are slot;
+            slots_are = λ slot. ap (λ xs. has_bit mask slot || list_any (has_slot slot) xs) (sym passed) ∙ so_far.slots_are slot;
           };
     }
 
 -- nothing is to be looked at any more
-pub nothing-left : (fill : Fill) (room rest : ℕ) (dues : ℕ → Due) (back : List Due) → rest ≡ 0 → IsLineOfRows dues (has_row rest) back → taken_of fill room back ≡ []
+pub nothing-left : (fill : Fill) (room rest : ℕ) (dues : ℕ → Due) (back : List Due) → rest ≡ 0 → IsLineOfRows dues (has_bit rest) back → taken_of fill room back ≡ []
 nothing-left fill room rest dues [] none is = refl
 nothing-left fill room rest dues (d ∷ tail) none is =
-    absurd (both_ways (has_row rest is.0) (ap (λ m. has_row m is.0) none ∙ has-none is.0) is.1.stands)
+    absurd (both_ways (has_bit rest is.0) (ap (λ m. has_bit m is.0) none ∙ has_bit-none is.0) is.1.stands)
 
 pub took : (fill : Fill) (window : ℕ) (goes : ℕ → ℕ → Bool) (entries : List Placed) (due rest left mask width gone : ℕ)
     → IsTaking fill window goes entries due rest left mask width
-    → ((dues : ℕ → Due) (back : List Due) → AreOfRows entries goes dues → IsLineOfRows dues (has_row rest) back
+    → ((dues : ℕ → Due) (back : List Due) → AreOfRows entries goes dues → IsLineOfRows dues (has_bit rest) back
     → taken_of fill (window - width) back ≡ [])
-    → ((i : ℕ) → has_row gone i ≡ (has_row rest i || has_row left i))
+    → ((i : ℕ) → has_bit gone i ≡ (has_bit rest i || has_bit left i))
     → cost_below entries (length entries) gone ≡ cost_below entries (length entries) rest + cost_below entries (length entries) left
     → mask < 2 ^ most_slots → IsTook fill window goes entries due gone mask width
 took fill window goes entries due rest left mask width gone t stops rows cost small = record {
-  left_is = λ i. rows i ∙ left-is i (has_row due i) refl;
+  left_is = λ i. rows i ∙ left-is i (has_bit due i) refl;
   mask_is = λ dues line of is.
       let so_far = t.taken dues line of is in
       record {
         slots = λ slot.
-            sym (or-none (contains_slot mask slot))
-            ∙ ap (λ xs. contains_slot mask slot || list_any (has_slot slot) xs) (sym (stops dues so_far.back of so_far.of_rest))
+            sym (or-false (has_bit mask slot))
+            ∙ ap (λ xs. has_bit mask slot || list_any (has_slot slot) xs) (sym (stops dues so_far.back of so_far.of_rest))
             ∙ so_far.slots_are slot;
         below = small;
       };
@@ -257,23 +258,19 @@ took fill window goes entries due rest left mask width gone t stops rows cost sm
   cost = let was = t.cost in omega arith;
 }
   where
-    or-none : (a : Bool) → (a || false) ≡ a
-    or-none true = refl
-    or-none false = refl
-
-    out : (i : ℕ) (set' : ℕ) → ((j : ℕ) → has_row set' j ≡ true → has_row due j ≡ true) → has_row due i ≡ false → has_row set' i ≡ false
-    out i set' in' none = pick (has_row set' i) refl
+    out : (i : ℕ) (set' : ℕ) → ((j : ℕ) → has_bit set' j ≡ true → has_bit due j ≡ true) → has_bit due i ≡ false → has_bit set' i ≡ false
+    out i set' in' none = pick (has_bit set' i) refl
       where
-        pick : (b : Bool) → has_row set' i ≡ b → b ≡ false
-        pick true is = absurd (both_ways (has_row due i) none (in' i is))
+        pick : (b : Bool) → has_bit set' i ≡ b → b ≡ false
+        pick true is = absurd (both_ways (has_bit due i) none (in' i is))
         pick false is = refl
 
-    left-is : (i : ℕ) (b : Bool) → has_row due i ≡ b → (has_row rest i || has_row left i) ≡ (has_row due i && not (contains_slot mask (slot_at entries i)))
-    left-is i true is = t.kept i is ∙ sym (ap (λ b. b && not (contains_slot mask (slot_at entries i))) is)
+    left-is : (i : ℕ) (b : Bool) → has_bit due i ≡ b → (has_bit rest i || has_bit left i) ≡ (has_bit due i && not (has_bit mask (slot_at entries i)))
+    left-is i true is = t.kept i is ∙ sym (ap (λ b. b && not (has_bit mask (slot_at entries i))) is)
     left-is i false is = rw (is, out i rest t.rest_in is, out i left t.left_in is) refl
 
 -- the first row of a set goes first by its own number
-pub first-row : (set' row : ℕ) → has_row set' row ≡ true → ((i : ℕ) → i < row → has_row set' i ≡ false) → IsFirstRow nat_le (has_row set') row
+pub first-row : (set' row : ℕ) → has_bit set' row ≡ true → ((i : ℕ) → i < row → has_bit set' i ≡ false) → IsFirstRow nat_le (has_bit set') row
 first-row set' row stands none = record {
   stands = stands;
   first = λ other in'. le-leb row other (from-first set' row other none in');

@@ -4,31 +4,21 @@
 use Rattle.std.specs.Prelude.{◌≡◌, ℕ, zero, suc, ◌+◌, ◌-◌, ◌*◌, ◌%◌, ◌^◌, ◌<◌, ◌≤◌, Bool, true, false, ◌&&◌, ◌||◌}
 use Rattle.std.specs.Prelude.{nat_eq, sum_by}
 use Rattle.std.specs.Prelude.{if◌then◌else◌, List, IsPermutation, None, Some, get_or, length, min, not, set}
-use Rattle.std.specs.Int.{bit_at}
 use Rattle.std.specs.Vec.{vec_capacity}
 use Rattle.profile.specs.Limits.{cycles_end}
 use Rattle.requirement_table.specs.declared.entries.Placed.{Placed}
 use Rattle.requirement_table.specs.Instance.{Exists, MaySend, deadline_of, exists, release_of, worst}
-use Rattle.requirement_table.specs.Slots.{contains_slot, sum_where}
+use Rattle.bit_sets.specs.Sets.{has_bit, sum_where}
 use Rattle.requirement_table.specs.Table.{IsInRange, IsWellPlaced}
 use Rattle.planner_policies.specs.declared.Policy.{Policy}
 use Rattle.planner_policies.specs.declared.due.Due.{Due}
 use Rattle.release_wheel.specs.declared.dues.Dues.{Dues}
 use Rattle.release_wheel.specs.declared.dues.Sum.{Sum}
-use Rattle.release_wheel.specs.declared.row_set.Rest.{Rest}
 use Rattle.release_wheel.specs.declared.rows.Rows.{Rows}
 use Rattle.release_wheel.specs.declared.wheel.Wheel.{Wheel}
 use Rattle.planner_policies.specs.Due.{IsDueOf, IsPlanned, IsSetOf, IsWholeLine, is_held_in, key_with, taken_of}
 use Rattle.planner_policies.specs.Ranked.{AreRanked}
 use Rattle.planner_policies.specs.Plan.{IsValid, Planning, Ranking, planning_of}
-
--- whether the row stands in the set
-abbrev pub has_row : ℕ → ℕ → Bool
-has_row set row = nat_eq (bit_at set row) 1
-
--- the rows that are still to be looked at, as a set
-abbrev pub rows_left : Rest → ℕ
-rows_left rest = (rest.behind * 2 ^ 64 + rest.word) * 2 ^ rest.base + 0
 
 -- whether a row below `n` passes the test
 unfoldable pub any_below : ℕ → (ℕ → Bool) → Bool
@@ -52,16 +42,16 @@ cost_at entries row = worst (get_or entries row no_entry).entry.length
 
 -- what the rows below `n` of the set cost together
 abbrev pub cost_below : List Placed → ℕ → ℕ → ℕ
-cost_below entries n set = sum_where n (has_row set) (cost_at entries)
+cost_below entries n set = sum_where n (has_bit set) (cost_at entries)
 
 -- no row of the set stands from `n` on
 abbrev pub IsBelow : ℕ → ℕ → Type 0
-IsBelow n set = (row : ℕ) → has_row set row ≡ true → row < n
+IsBelow n set = (row : ℕ) → has_bit set row ≡ true → row < n
 
 -- these are the slots of the rows below `n` of the set
 abbrev pub IsSlotsOf : List Placed → ℕ → ℕ → ℕ → Type 0
 IsSlotsOf entries n set mask = (slot : ℕ)
-    → contains_slot mask slot ≡ any_below n (λ row. has_row set row && nat_eq (slot_at entries row) slot)
+    → has_bit mask slot ≡ any_below n (λ row. has_bit set row && nat_eq (slot_at entries row) slot)
 
 -- a sum is one of rows below `n`: it has their slots, and what they cost together
 pub record IsSumOf (entries : List Placed) (n : ℕ) (sum : Sum) : Type 0 where
@@ -71,9 +61,9 @@ pub record IsSumOf (entries : List Placed) (n : ℕ) (sum : Sum) : Type 0 where
 
 -- the row of an entry is added to a sum, where that is wanted
 pub record IsAdded (p : Placed) (row : ℕ) (wanted : Bool) (old new : Sum) : Type 0 where
-  pub rows : (other : ℕ) → has_row new.rows other ≡ ((wanted && nat_eq row other) || has_row old.rows other)
-  pub slots : (slot : ℕ) → contains_slot new.slots slot
-      ≡ ((wanted && nat_eq slot p.entry.slot) || contains_slot old.slots slot)
+  pub rows : (other : ℕ) → has_bit new.rows other ≡ ((wanted && nat_eq row other) || has_bit old.rows other)
+  pub slots : (slot : ℕ) → has_bit new.slots slot
+      ≡ ((wanted && nat_eq slot p.entry.slot) || has_bit old.slots slot)
   pub cost : new.cost ≡ old.cost + (if wanted then worst p.entry.length else 0)
 
 -- what is kept of the instance of a row, by its last cycle
@@ -137,9 +127,9 @@ pub record HasRoom (n : ℕ) (rows : Rows) (dues : Dues) : Type 0 where
   pub in_range : (row : ℕ) → row < n → IsInRange (get_or rows.entries.items row no_entry)
   pub waiting : IsSumOf rows.entries.items n dues.waiting
   pub always : IsSumOf rows.entries.items n dues.always
-  pub on_wheel : (place row : ℕ) → place < 64 → has_row (get_or rows.places.items place 0) row ≡ true
+  pub on_wheel : (place row : ℕ) → place < 64 → has_bit (get_or rows.places.items place 0) row ≡ true
       → IsOnWheel n row place (get_or rows.nexts.items row 0) (get_or rows.entries.items row no_entry)
-      (has_row dues.always.rows row)
+      (has_bit dues.always.rows row)
 
 -- a row is this one, at this place
 abbrev pub is_there : ℕ → ℕ → ℕ → ℕ → Bool
@@ -151,16 +141,16 @@ pub record IsMovedOn (p : Placed) (row c last : ℕ) (old new : Rows) : Type 0 w
   pub nexts : new.nexts.items ≡ set old.nexts.items row (c + p.entry.period)
   pub lasts : new.lasts.items ≡ set old.lasts.items row last
   pub size : length new.places.items ≡ length old.places.items
-  pub places : (k other : ℕ) → k < 64 → has_row (get_or new.places.items k 0) other
-      ≡ ((has_row (get_or old.places.items k 0) other && not (is_there (c % 64) row k other))
+  pub places : (k other : ℕ) → k < 64 → has_bit (get_or new.places.items k 0) other
+      ≡ ((has_bit (get_or old.places.items k 0) other && not (is_there (c % 64) row k other))
       || (exists p (c + p.entry.period) && is_there ((c + p.entry.period) % 64) row k other))
 
 -- a row has its first release, and from then on an instance in each cycle
 pub record IsRowBegun (p : Placed) (row c : ℕ) (old new : Rows) (dues more : Dues) : Type 0 where
   pub rows : new ≡ record old { places = new.places }
   pub size : length new.places.items ≡ length old.places.items
-  pub places : (k other : ℕ) → k < 64 → has_row (get_or new.places.items k 0) other
-      ≡ (has_row (get_or old.places.items k 0) other && not (is_there (c % 64) row k other))
+  pub places : (k other : ℕ) → k < 64 → has_bit (get_or new.places.items k 0) other
+      ≡ (has_bit (get_or old.places.items k 0) other && not (is_there (c % 64) row k other))
   pub others : more ≡ record dues { always = more.always }
   pub added : IsAdded p row true dues.always more.always
 
@@ -176,8 +166,8 @@ pub record IsPutDown (p : Placed) (row next last : ℕ) (comes : Bool) (old new 
   pub nexts : new.nexts.items ≡ set old.nexts.items row next
   pub lasts : new.lasts.items ≡ set old.lasts.items row last
   pub size : length new.places.items ≡ length old.places.items
-  pub places : (k other : ℕ) → k < 64 → has_row (get_or new.places.items k 0) other
-      ≡ (has_row (get_or old.places.items k 0) other || (comes && is_there (next % 64) row k other))
+  pub places : (k other : ℕ) → k < 64 → has_bit (get_or new.places.items k 0) other
+      ≡ (has_bit (get_or old.places.items k 0) other || (comes && is_there (next % 64) row k other))
 
 -- a row is filled in at cycle `c`, before which these slots are pending: where it stands, and whether it waits
 pub record IsRowSet (p : Placed) (row c pending : ℕ) (old new : Rows) (dues more : Dues) : Type 0 where
@@ -187,7 +177,7 @@ pub record IsRowSet (p : Placed) (row c pending : ℕ) (old new : Rows) (dues mo
   pub last : ℕ
   pub next_is : IsNext p c next
   pub begun_is : begun ≡ true → IsAlways p c
-  pub waits_is : waits ≡ (contains_slot pending p.entry.slot && is_held_in c p)
+  pub waits_is : waits ≡ (has_bit pending p.entry.slot && is_held_in c p)
   pub last_is : waits ≡ true → (k : ℕ) → MaySend p k c → last + 1 ≡ deadline_of p k
   pub down : IsPutDown p row next last (not begun && exists p next) old new
   pub waiting : IsAdded p row waits dues.waiting more.waiting
@@ -200,33 +190,33 @@ pub record IsSameBut (row : ℕ) (old new : Rows) (dues more : Dues) : Type 0 wh
   pub next : (i : ℕ) → nat_eq row i ≡ false → get_or new.nexts.items i 0 ≡ get_or old.nexts.items i 0
   pub last : (i : ℕ) → nat_eq row i ≡ false → get_or new.lasts.items i 0 ≡ get_or old.lasts.items i 0
   pub place : (k i : ℕ) → k < 64 → nat_eq row i ≡ false
-      → has_row (get_or new.places.items k 0) i ≡ has_row (get_or old.places.items k 0) i
-  pub waiting : (i : ℕ) → nat_eq row i ≡ false → has_row more.waiting.rows i ≡ has_row dues.waiting.rows i
-  pub always : (i : ℕ) → nat_eq row i ≡ false → has_row more.always.rows i ≡ has_row dues.always.rows i
+      → has_bit (get_or new.places.items k 0) i ≡ has_bit (get_or old.places.items k 0) i
+  pub waiting : (i : ℕ) → nat_eq row i ≡ false → has_bit more.waiting.rows i ≡ has_bit dues.waiting.rows i
+  pub always : (i : ℕ) → nat_eq row i ≡ false → has_bit more.always.rows i ≡ has_bit dues.always.rows i
   pub sooner : more.soonest ≤ dues.soonest
 
 -- the place of the wheel for a cycle has the row
 abbrev pub is_found : Rows → ℕ → ℕ → Bool
-is_found rows cycle row = has_row (get_or rows.places.items (cycle % 64) 0) row
+is_found rows cycle row = has_bit (get_or rows.places.items (cycle % 64) 0) row
 
 abbrev pub StandsAt : Rows → Dues → ℕ → ℕ → Type 0
 StandsAt rows dues c row =
-    IsPlacedAt c (get_or rows.entries.items row no_entry) (has_row dues.always.rows row) (get_or rows.nexts.items row 0)
+    IsPlacedAt c (get_or rows.entries.items row no_entry) (has_bit dues.always.rows row) (get_or rows.nexts.items row 0)
     (is_found rows (get_or rows.nexts.items row 0) row)
 
 -- a row before the releases of a cycle
 abbrev pub TurnedAt : Rows → Dues → (ℕ → Bool) → ℕ → ℕ → Type 0
 TurnedAt rows dues before c row =
     StandsAt rows dues c row
-    × IsWaitingAt before c (get_or rows.entries.items row no_entry) (has_row dues.waiting.rows row)
+    × IsWaitingAt before c (get_or rows.entries.items row no_entry) (has_bit dues.waiting.rows row)
     (get_or rows.lasts.items row 0) dues.soonest
 
 -- a row behind them
 abbrev pub ReleasedAt : Rows → Dues → (ℕ → Bool) → ℕ → ℕ → Type 0
 ReleasedAt rows dues before c row =
     StandsAt rows dues (c + 1) row
-    × IsDueAt before c (get_or rows.entries.items row no_entry) (has_row dues.waiting.rows row)
-    (has_row dues.always.rows row) (get_or rows.lasts.items row 0) dues.soonest
+    × IsDueAt before c (get_or rows.entries.items row no_entry) (has_bit dues.waiting.rows row)
+    (has_bit dues.always.rows row) (get_or rows.lasts.items row 0) dues.soonest
 
 -- nothing is released before the cycle `quiet`, and nothing waits
 pub record IsQuiet (w : Wheel) : Type 0 where
@@ -240,16 +230,16 @@ pub record IsQuiet (w : Wheel) : Type 0 where
 pub record IsTurned (w : Wheel) : Type 0 where
   pub room : HasRoom (length w.rows.entries.items) w.rows w.dues
   pub each : (row : ℕ) → row < length w.rows.entries.items
-      → TurnedAt w.rows w.dues (contains_slot w.dues.waiting.slots) w.cycle row
+      → TurnedAt w.rows w.dues (has_bit w.dues.waiting.slots) w.cycle row
   pub quiet_is : w.cycle < w.quiet → IsQuiet w
 
 -- while the releases of a cycle are made, before which these slots were pending: the rows of the set `rest` are still to
 -- be looked at
 pub record IsReleasing (before : ℕ → Bool) (c rest : ℕ) (rows : Rows) (dues : Dues) : Type 0 where
   pub room : HasRoom (length rows.entries.items) rows dues
-  pub place : (row : ℕ) → has_row rest row ≡ true → is_found rows c row ≡ true
-  pub later : (row : ℕ) → row < length rows.entries.items → has_row rest row ≡ true → TurnedAt rows dues before c row
-  pub made : (row : ℕ) → row < length rows.entries.items → has_row rest row ≡ false
+  pub place : (row : ℕ) → has_bit rest row ≡ true → is_found rows c row ≡ true
+  pub later : (row : ℕ) → row < length rows.entries.items → has_bit rest row ≡ true → TurnedAt rows dues before c row
+  pub made : (row : ℕ) → row < length rows.entries.items → has_bit rest row ≡ false
       → ReleasedAt rows dues before c row
 
 -- a wheel when the releases of its cycle are made
@@ -262,9 +252,9 @@ pub record IsPart (plan : Planning) (before : ℕ → Bool) (w : Wheel) (left ma
   pub line : List Due
   pub whole : IsWholeLine plan w.cycle before line
   pub due : ℕ
-  pub due_is : (row : ℕ) → has_row due row ≡ (has_row w.dues.waiting.rows row || has_row w.dues.always.rows row)
+  pub due_is : (row : ℕ) → has_bit due row ≡ (has_bit w.dues.waiting.rows row || has_bit w.dues.always.rows row)
   pub left_is : (row : ℕ)
-      → has_row left row ≡ (has_row due row && not (contains_slot mask (slot_at w.rows.entries.items row)))
+      → has_bit left row ≡ (has_bit due row && not (has_bit mask (slot_at w.rows.entries.items row)))
   pub mask_is : IsSetOf mask (taken_of plan.fill plan.window line)
   pub width_is : width ≡ sum_by (λ due. due.cost) (taken_of plan.fill plan.window line)
   pub fits : width ≤ plan.window
@@ -288,14 +278,14 @@ pub record IsSameTable (old new : Wheel) : Type 0 where
 
 -- the releases of a cycle are made, before which these slots were pending in a planning
 pub record IsReady (ranking : Ranking) (pending : ℕ) (w : Wheel) : Type 0 where
-  pub released : IsReleased (contains_slot pending) w
+  pub released : IsReleased (has_bit pending) w
   pub of_ranking : IsOfRanking ranking w
   pub well : IsWellPlaced ranking.placed
   pub valid : IsValid ranking.placed w.cycle pending
 
 -- the cycle of a wheel is planned, and the wheel stands before the releases of the next one
 pub record IsPlannedOn (ranking : Ranking) (window pending : ℕ) (old new : Wheel) (mask width : ℕ) : Type 0 where
-  pub planned : IsPlanned (planning_of ranking window old.cycle pending) old.cycle (contains_slot pending) mask width
+  pub planned : IsPlanned (planning_of ranking window old.cycle pending) old.cycle (has_bit pending) mask width
       new.dues.waiting.slots
   pub next : new.cycle ≡ old.cycle + 1
   pub turned : IsTurned new
@@ -303,9 +293,9 @@ pub record IsPlannedOn (ranking : Ranking) (window pending : ℕ) (old new : Whe
 
 -- the rows that are left are not in their last cycle, and none of them is before `soonest`
 pub record AreInTime (w : Wheel) (left soonest : ℕ) : Type 0 where
-  pub not_always : (row : ℕ) → has_row left row ≡ true → has_row w.dues.always.rows row ≡ false
-  pub later : (row : ℕ) → has_row left row ≡ true → w.cycle < get_or w.rows.lasts.items row 0
-  pub soonest_is : (row : ℕ) → has_row left row ≡ true → soonest ≤ get_or w.rows.lasts.items row 0
+  pub not_always : (row : ℕ) → has_bit left row ≡ true → has_bit w.dues.always.rows row ≡ false
+  pub later : (row : ℕ) → has_bit left row ≡ true → w.cycle < get_or w.rows.lasts.items row 0
+  pub soonest_is : (row : ℕ) → has_bit left row ≡ true → soonest ≤ get_or w.rows.lasts.items row 0
 
 -- rows have room for so many
 pub record HasRoomFor (count : ℕ) (rows : Rows) : Type 0 where
@@ -320,12 +310,12 @@ pub record IsFilledTo (entries : List Placed) (n c pending : ℕ) (rows : Rows) 
   pub room : HasRoom n rows dues
   pub size : length rows.entries.items ≡ length entries
   pub same : (row : ℕ) → row < n → get_or rows.entries.items row no_entry ≡ get_or entries row no_entry
-  pub each : (row : ℕ) → row < n → TurnedAt rows dues (contains_slot pending) c row
+  pub each : (row : ℕ) → row < n → TurnedAt rows dues (has_bit pending) c row
 
 -- the entries of a ranking are filled in, in its order, at a cycle before which these slots are pending
 pub record AreFilled (ranking : Ranking) (c pending : ℕ) (rows : Rows) (dues : Dues) : Type 0 where
   pub room : HasRoom (length rows.entries.items) rows dues
-  pub each : (row : ℕ) → row < length rows.entries.items → TurnedAt rows dues (contains_slot pending) c row
+  pub each : (row : ℕ) → row < length rows.entries.items → TurnedAt rows dues (has_bit pending) c row
   pub slots : dues.waiting.slots ≡ pending
   pub same : IsPermutation ranking.placed rows.entries.items
   pub order : AreRanked ranking.policy rows.entries.items

@@ -2,10 +2,9 @@
 
 ghost use Rattle.std.specs.Prelude.{◌≡◌, ℕ, ◌+◌, ◌^◌, ◌<◌, ◌≤◌, ◌||◌, ◌&&◌, if◌then◌else◌, nat_eq};
 ghost use Rattle.requirement_table.specs.Instance.{worst};
-ghost use Rattle.requirement_table.specs.Slots.{contains_slot, most_slots};
-ghost use Rattle.release_wheel.specs.Wheel.{has_row};
+ghost use Rattle.bit_sets.specs.Sets.{has_bit, most_slots};
 
-use crate::row_set::with;
+use bit_sets::rows::with;
 use requirement_table::{Entry, Mask, cost};
 
 /// A set of rows, their slots, and what they cost together, in bit times.
@@ -36,9 +35,9 @@ impl Sum {
         requires slot { entry.now.slot < most_slots }
         requires length { entry.now.length ≤ 8 }
         requires cost { self.cost < 2 ^ 31 }
-        ensures rows { (other : ℕ) → has_row result.rows other ≡ ((wanted && nat_eq row other) || has_row self.rows other) }
-        ensures slots { (slot : ℕ) → contains_slot result.slots slot
-            ≡ ((wanted && nat_eq slot entry.now.slot) || contains_slot self.slots slot) }
+        ensures rows { (other : ℕ) → has_bit result.rows other ≡ ((wanted && nat_eq row other) || has_bit self.rows other) }
+        ensures slots { (slot : ℕ) → has_bit result.slots slot
+            ≡ ((wanted && nat_eq slot entry.now.slot) || has_bit self.slots slot) }
         ensures cost { result.cost ≡ self.cost + (if wanted then worst entry.now.length else 0) }
     {
         if !wanted {

@@ -5,7 +5,7 @@ ghost use Rattle.profile.specs.Limits.{cycles_end};
 ghost use Rattle.planner_policies.specs.Due.{is_held_in};
 ghost use Rattle.planner_policies.specs.Plan.{IsValid};
 ghost use Rattle.requirement_table.specs.Instance.{MaySend, deadline_of, exists};
-ghost use Rattle.requirement_table.specs.Slots.{contains_slot};
+ghost use Rattle.bit_sets.specs.Sets.{has_bit};
 ghost use Rattle.requirement_table.specs.Table.{IsInRange};
 ghost use Rattle.release_wheel.specs.Wheel.{AreFilled, HasRoom, HasRoomFor, IsKept, IsNext, IsRowSet};
 
@@ -131,7 +131,7 @@ fn begins(placed: &Placed, next: u64, cycle: u64) -> bool
 fn waits(slots: Mask, placed: &Placed, cycle: u64) -> bool
     requires in_range { IsInRange placed.now }
     requires cycle { cycle ≤ cycles_end }
-    ensures waits { result ≡ (contains_slot slots placed.now.entry.slot && is_held_in cycle placed.now) }
+    ensures waits { result ≡ (has_bit slots placed.now.entry.slot && is_held_in cycle placed.now) }
 {
     slots.has(placed.entry.slot) && is_held(placed, cycle)
 }

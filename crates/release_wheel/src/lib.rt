@@ -14,7 +14,6 @@ mod near;
 mod picking;
 mod planner;
 mod releases;
-mod row_set;
 mod rows;
 mod taking;
 mod wheel;

@@ -5,7 +5,7 @@
 
 ghost use Rattle.std.specs.Prelude.{◌≡◌, ℕ, ◌+◌, ◌<◌, ◌≤◌, All, IfSome, IfOk, IfErr, Some};
 ghost use Rattle.profile.specs.Limits.{cycles_end};
-ghost use Rattle.requirement_table.specs.Slots.{contains_slot};
+ghost use Rattle.bit_sets.specs.Sets.{has_bit};
 ghost use Rattle.requirement_table.specs.Table.{IsInRange};
 ghost use Rattle.planner_policies.specs.Due.{IsPlanned};
 ghost use Rattle.planner_policies.specs.Plan.{IsMissIn, IsValid, planning_of};
@@ -15,8 +15,8 @@ ghost use Rattle.release_wheel.specs.Wheel.{IsKept};
 
 use crate::filling::fill;
 use crate::planner::CyclePlan;
-use crate::row_set::MOST_ROWS;
 use crate::wheel::{Wheel, pass_quiet, step};
+use bit_sets::rows::MOST_ROWS;
 use planner_policies::{Miss, PlanState, Ranked};
 use requirement_table::laws::entries_that_are_near;
 use requirement_table::{Placed, is_over_in_range};
@@ -108,10 +108,10 @@ pub fn step_near(
     requires cycle { wheel.old.cycle < cycles_end }
     requires standing { IsStanding ranked.now near.old wheel.old }
     ensures planned { let plan = planning_of ranked.now w wheel.old.cycle wheel.old.dues.waiting.slots in IfOk result
-        (λ r. IsPlanned plan wheel.old.cycle (contains_slot wheel.old.dues.waiting.slots) r.mask r.width wheel.new.dues.waiting.slots) }
+        (λ r. IsPlanned plan wheel.old.cycle (has_bit wheel.old.dues.waiting.slots) r.mask r.width wheel.new.dues.waiting.slots) }
     ensures next { IfOk result (λ _. wheel.new.cycle ≡ wheel.old.cycle + 1) }
     ensures missed { let plan = planning_of ranked.now w wheel.old.cycle wheel.old.dues.waiting.slots in IfErr result
-        (λ miss. IsMissIn plan wheel.old.cycle (contains_slot wheel.old.dues.waiting.slots) miss.slot miss.release) }
+        (λ miss. IsMissIn plan wheel.old.cycle (has_bit wheel.old.dues.waiting.slots) miss.slot miss.release) }
     ensures missed_cycle { IfErr result (λ miss. miss.cycle ≡ wheel.old.cycle) }
     ensures same_cycle { IfErr result (λ _. wheel.new.cycle ≡ wheel.old.cycle) }
     ensures same_slots { IfErr result (λ _. wheel.new.dues.waiting.slots ≡ wheel.old.dues.waiting.slots) }

@@ -5,13 +5,15 @@
 
 ghost use Rattle.std.specs.Prelude.{◌≡◌, ◌≢◌, ℕ, ◌+◌, ◌-◌, ◌<◌, ◌≤◌, true, get_or, length, if◌then◌else◌};
 ghost use Rattle.release_wheel.specs.Taking.{AreDistinct, AreDue, IsFirstRow, IsSoonest, IsTaking, IsTook, goes_by, last_of};
-ghost use Rattle.release_wheel.specs.Wheel.{HasRoom, IsBelow, has_row, rows_left};
+ghost use Rattle.release_wheel.specs.Wheel.{HasRoom, IsBelow};
+ghost use Rattle.bit_sets.specs.Sets.{has_bit};
+ghost use Rattle.bit_sets.specs.Rows.{rows_left};
 
-use crate::row_set::{
-    Rest, both, common, first, first_left, next_word, rest_of, with, without, without_first,
-};
 use crate::taking::{Took, stops};
 use crate::wheel::Wheel;
+use bit_sets::rows::{
+    Rest, both, common, first, first_left, next_word, rest_of, with, without, without_first,
+};
 use planner_policies::Fill;
 use requirement_table::{Mask, cost};
 
@@ -59,7 +61,7 @@ fn first_due(wheel: &Wheel, rest: u128) -> usize
     requires some { 0 < rest }
     requires room { HasRoom (length wheel.now.rows.entries.items) wheel.now.rows wheel.now.dues }
     requires due { AreDue wheel.now rest }
-    ensures first { IsFirstRow (goes_by (last_of wheel.now)) (has_row rest) result }
+    ensures first { IsFirstRow (goes_by (last_of wheel.now)) (has_bit rest) result }
 {
     let always = common(rest, wheel.dues.always.rows);
     if always == 0 {
@@ -88,7 +90,7 @@ fn first_due(wheel: &Wheel, rest: u128) -> usize
 pub fn soonest_row(lasts: &[u64], rows: u128) -> usize
     requires some { 0 < rows }
     requires within { IsBelow (length lasts.now) rows }
-    ensures first { IsFirstRow (goes_by (λ row. get_or lasts.now row 0)) (has_row rows) result }
+    ensures first { IsFirstRow (goes_by (λ row. get_or lasts.now row 0)) (has_bit rows) result }
 {
     let row = first(rows);
     let start = Soonest {

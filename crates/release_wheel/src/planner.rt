@@ -2,15 +2,15 @@
 
 ghost use Rattle.std.specs.Prelude.{◌≡◌, ℕ, ◌+◌, ◌<◌, ◌≤◌, IfOk, IfErr, OnOk, OnErr};
 ghost use Rattle.profile.specs.Limits.{cycles_end};
-ghost use Rattle.requirement_table.specs.Slots.{contains_slot, set_of, most_slots};
+ghost use Rattle.bit_sets.specs.Sets.{has_bit, set_of, most_slots};
 ghost use Rattle.requirement_table.specs.Table.{IsWellPlaced, not_over, width_in};
 ghost use Rattle.planner_policies.specs.Plan.{HasNoMissIn, IsMissIn, IsValid, going_from, left_after, planned_in};
 ghost use Rattle.planner_policies.specs.Plan.{planning_of};
 ghost use Rattle.release_wheel.specs.Passed.{IsPassed};
 
 use crate::near::{Near, go_to, near_of, pass_near, step_near};
-use crate::row_set::MOST_ROWS;
 use crate::wheel::{Wheel, wheel_of};
+use bit_sets::rows::MOST_ROWS;
 use planner_policies::{Miss, PlanState, Ranked};
 use requirement_table::Mask;
 use requirement_table::laws::entries_that_are_over;
@@ -94,23 +94,23 @@ impl Planner {
         requires cycle { self.old.cycle < cycles_end }
         ensures planned { let plan = going_from self.old w in
             IfOk result
-            (λ r. r.mask ≡ set_of most_slots (planned_in plan self.old.cycle (contains_slot self.old.pending))) }
+            (λ r. r.mask ≡ set_of most_slots (planned_in plan self.old.cycle (has_bit self.old.pending))) }
         ensures width { let plan = going_from self.old w in
             IfOk result (λ r. r.width ≡ width_in plan.placed self.old.cycle
-            (planned_in plan self.old.cycle (contains_slot self.old.pending))) }
+            (planned_in plan self.old.cycle (has_bit self.old.pending))) }
         ensures fits { IfOk result (λ r. r.width ≤ w) }
         ensures next { let plan = going_from self.old w in
             OnOk result (self.new ≡ record {
               ranking = self.old.ranking;
               cycle = self.old.cycle + 1;
-              pending = set_of most_slots (left_after plan self.old.cycle (contains_slot self.old.pending));
+              pending = set_of most_slots (left_after plan self.old.cycle (has_bit self.old.pending));
             }) }
         ensures next_valid { IsValid self.new.ranking.placed self.new.cycle self.new.pending }
         ensures none_missed { let plan = going_from self.old w in
-            IfOk result (λ _. HasNoMissIn plan self.old.cycle (contains_slot self.old.pending)) }
+            IfOk result (λ _. HasNoMissIn plan self.old.cycle (has_bit self.old.pending)) }
         ensures missed { let plan = going_from self.old w in
             IfErr result
-            (λ miss. IsMissIn plan self.old.cycle (contains_slot self.old.pending) miss.slot miss.release) }
+            (λ miss. IsMissIn plan self.old.cycle (has_bit self.old.pending) miss.slot miss.release) }
         ensures missed_cycle { IfErr result (λ miss. miss.cycle ≡ self.old.cycle) }
         ensures same { OnErr result (self.new ≡ self.old) }
     {

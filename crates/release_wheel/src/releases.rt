@@ -2,22 +2,22 @@
 
 ghost use Rattle.std.specs.Prelude.{◌≡◌, ℕ, ◌<◌, Bool, true, not, ◌&&◌, length, nat_eq};
 ghost use Rattle.profile.specs.Limits.{cycles_end};
-ghost use Rattle.requirement_table.specs.Slots.{contains_slot};
+ghost use Rattle.bit_sets.specs.Sets.{has_bit};
 ghost use Rattle.requirement_table.specs.Table.{IsInRange};
 ghost use Rattle.release_wheel.specs.Wheel.{HasRoom, IsReleased, IsReleasing, IsRowBegun, IsRowReleased, IsSameTable, IsTurned};
-ghost use Rattle.release_wheel.specs.Wheel.{has_row, rows_left};
+ghost use Rattle.bit_sets.specs.Rows.{rows_left};
 
 use crate::dues::Dues;
-use crate::row_set::{Rest, first_left, next_word, rest_of, without_first};
 use crate::rows::{Rows, is_always, move_on, place_of, take_off};
 use crate::wheel::Wheel;
+use bit_sets::rows::{Rest, first_left, next_word, rest_of, without_first};
 use requirement_table::{Mask, Placed};
 
 /// Makes the releases of the cycle.
 pub fn release(wheel: &mut Wheel)
     requires turned { IsTurned wheel.old }
     requires cycle { wheel.old.cycle < cycles_end }
-    ensures released { IsReleased (contains_slot wheel.old.dues.waiting.slots) wheel.new }
+    ensures released { IsReleased (has_bit wheel.old.dues.waiting.slots) wheel.new }
     ensures table { IsSameTable wheel.old wheel.new }
     ensures cycle { wheel.new.cycle ≡ wheel.old.cycle }
 {
@@ -38,8 +38,8 @@ pub fn release(wheel: &mut Wheel)
 #[inline(always)]
 fn release_word(rows: &mut Rows, dues: &mut Dues, cycle: u64, pending: Mask, rest: Rest) -> Rest
     requires cycle { cycle < cycles_end }
-    requires going { IsReleasing (contains_slot pending) cycle (rows_left rest) rows.old dues.old }
-    ensures going { IsReleasing (contains_slot pending) cycle (rows_left result) rows.new dues.new }
+    requires going { IsReleasing (has_bit pending) cycle (rows_left rest) rows.old dues.old }
+    ensures going { IsReleasing (has_bit pending) cycle (rows_left result) rows.new dues.new }
     ensures entries { rows.new.entries.items ≡ rows.old.entries.items }
     ensures base { result.base ≡ rest.base }
     ensures behind { result.behind ≡ rest.behind }
@@ -61,7 +61,7 @@ fn look_at(rows: &mut Rows, dues: &mut Dues, row: usize, cycle: u64)
     requires room { HasRoom (length rows.old.entries.items) rows.old dues.old }
     requires row { row < length rows.old.entries.items }
     ensures next { (before : ℕ → Bool) (rest less : ℕ) → IsReleasing before cycle rest rows.old dues.old
-        → has_row rest row ≡ true → ((i : ℕ) → has_row less i ≡ (not (nat_eq row i) && has_row rest i))
+        → has_bit rest row ≡ true → ((i : ℕ) → has_bit less i ≡ (not (nat_eq row i) && has_bit rest i))
         → IsReleasing before cycle less rows.new dues.new }
     ensures entries { rows.new.entries.items ≡ rows.old.entries.items }
 {

@@ -3,9 +3,10 @@
 ghost use Rattle.std.specs.Prelude.{◌≡◌, ℕ, ◌%◌, ◌<◌, ◌≤◌, true, not, ◌||◌, ◌&&◌, get_or, is_none, length, nat_eq, vec_capacity};
 ghost use Rattle.profile.specs.Limits.{cycles_end};
 ghost use Rattle.requirement_table.specs.Table.{IsInRange};
-ghost use Rattle.release_wheel.specs.Wheel.{HasRoomFor, IsMovedOn, IsPutDown, has_row, is_there};
+ghost use Rattle.release_wheel.specs.Wheel.{HasRoomFor, IsMovedOn, IsPutDown, is_there};
+ghost use Rattle.bit_sets.specs.Sets.{has_bit};
 
-use crate::row_set::{MOST_ROWS, with, without};
+use bit_sets::rows::{MOST_ROWS, with, without};
 use requirement_table::{Entry, Placed, exists};
 use std::alloc::{AllocError, Global};
 
@@ -166,8 +167,8 @@ pub fn take_off(places: &mut Vec<u128>, place: usize, row: usize)
     requires place { place < length places.old.items }
     requires row { row < 128 }
     ensures size { length places.new.items ≡ length places.old.items }
-    ensures rows { (k other : ℕ) → k < length places.old.items → has_row (get_or places.new.items k 0) other
-        ≡ (has_row (get_or places.old.items k 0) other && not (is_there place row k other)) }
+    ensures rows { (k other : ℕ) → k < length places.old.items → has_bit (get_or places.new.items k 0) other
+        ≡ (has_bit (get_or places.old.items k 0) other && not (is_there place row k other)) }
 {
     places[place] = without(places[place], row);
 }
@@ -178,8 +179,8 @@ fn put_on(places: &mut Vec<u128>, place: usize, row: usize, wanted: bool)
     requires place { place < length places.old.items }
     requires row { row < 128 }
     ensures size { length places.new.items ≡ length places.old.items }
-    ensures rows { (k other : ℕ) → k < length places.old.items → has_row (get_or places.new.items k 0) other
-        ≡ (has_row (get_or places.old.items k 0) other || (wanted && is_there place row k other)) }
+    ensures rows { (k other : ℕ) → k < length places.old.items → has_bit (get_or places.new.items k 0) other
+        ≡ (has_bit (get_or places.old.items k 0) other || (wanted && is_there place row k other)) }
 {
     if !wanted {
         return;

@@ -6,9 +6,12 @@ ghost use Rattle.planner_policies.specs.declared.due.Due.{Due};
 ghost use Rattle.planner_policies.specs.Due.{taken_of};
 ghost use Rattle.requirement_table.specs.Table.{IsInRange};
 ghost use Rattle.release_wheel.specs.Taking.{AreDistinct, AreOfRows, IsLineOfRows, IsTaking, IsTook};
-ghost use Rattle.release_wheel.specs.Wheel.{IsBelow, has_row, no_entry, rows_left};
+ghost use Rattle.release_wheel.specs.Wheel.{IsBelow, no_entry};
+ghost use Rattle.bit_sets.specs.Sets.{has_bit};
+ghost use Rattle.bit_sets.specs.Rows.{rows_left};
 
-use crate::row_set::{Rest, both, first_left, next_word, of_words, rest_of, with, without_first};
+use bit_sets::of_words;
+use bit_sets::rows::{Rest, both, first_left, next_word, rest_of, with, without_first};
 use planner_policies::Fill;
 use requirement_table::{Mask, Placed, cost};
 
@@ -85,7 +88,7 @@ fn take_word(entries: &[Placed], fill: Fill, due: u128, taking: Taking, w: u32) 
     requires taking { IsTaking fill w nat_le entries.now due (rows_left taking.rest) taking.left taking.mask taking.width }
     ensures taking { IsTaking fill w nat_le entries.now due (rows_left result.rest) result.left result.mask result.width }
     ensures stops { 0 < result.rest.word → (dues : ℕ → Due) (line : List Due) → AreOfRows entries.now nat_le dues
-        → IsLineOfRows dues (has_row (rows_left result.rest)) line → taken_of fill (w - result.width) line ≡ [] }
+        → IsLineOfRows dues (has_bit (rows_left result.rest)) line → taken_of fill (w - result.width) line ≡ [] }
     ensures base { result.rest.base ≡ taking.rest.base }
     ensures behind { result.rest.behind ≡ taking.rest.behind }
 {

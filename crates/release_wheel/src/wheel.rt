@@ -10,23 +10,23 @@ ghost use Rattle.profile.specs.Limits.{cycles_end};
 ghost use Rattle.planner_policies.specs.declared.Policy.TheVariants.{Edf};
 ghost use Rattle.planner_policies.specs.Due.{IsPlanned};
 ghost use Rattle.planner_policies.specs.Plan.{IsMissIn, IsValid, Ranking, planning_of};
-ghost use Rattle.requirement_table.specs.Slots.{contains_slot};
+ghost use Rattle.bit_sets.specs.Sets.{has_bit};
 ghost use Rattle.requirement_table.specs.Table.{IsWellPlaced};
 ghost use Rattle.release_wheel.specs.Passed.{IsPassed};
-ghost use Rattle.release_wheel.specs.Wheel.{AreInTime, HasRoom, IsBelow, IsKept, IsPart, IsPlannedOn, IsReady, has_row};
+ghost use Rattle.release_wheel.specs.Wheel.{AreInTime, HasRoom, IsBelow, IsKept, IsPart, IsPlannedOn, IsReady};
 
 use crate::dues::{Dues, Sum};
 use crate::filling::fill;
 use crate::picking::{pick_rows, soonest_row};
 use crate::planner::CyclePlan;
 use crate::releases::release;
-use crate::row_set::{MOST_ROWS, both, common};
 use crate::rows::{PLACES, Rows, rows_of};
 use crate::taking::{Took, take_rows};
+use bit_sets::rows::{MOST_ROWS, both, common};
+use bit_sets::{difference, union};
 use planner_policies::{Miss, PlanState, Policy, Ranked, plan_with_width};
 use profile::CYCLES_END;
 use requirement_table::Mask;
-use slot_sets::{difference, union};
 use std::alloc::{AllocError, Global};
 
 /// Where a planning stands, and the rows that it looks at.
@@ -73,10 +73,10 @@ pub fn step(wheel: &mut Wheel, ranked: &Ranked, w: u32) -> Result<CyclePlan, Mis
     requires cycle { wheel.old.cycle < cycles_end }
     requires kept { IsKept ranked.now wheel.old }
     ensures planned { let plan = planning_of ranked.now w wheel.old.cycle wheel.old.dues.waiting.slots in IfOk result
-        (λ r. IsPlanned plan wheel.old.cycle (contains_slot wheel.old.dues.waiting.slots) r.mask r.width wheel.new.dues.waiting.slots) }
+        (λ r. IsPlanned plan wheel.old.cycle (has_bit wheel.old.dues.waiting.slots) r.mask r.width wheel.new.dues.waiting.slots) }
     ensures next { IfOk result (λ _. wheel.new.cycle ≡ wheel.old.cycle + 1) }
     ensures missed { let plan = planning_of ranked.now w wheel.old.cycle wheel.old.dues.waiting.slots in IfErr result
-        (λ miss. IsMissIn plan wheel.old.cycle (contains_slot wheel.old.dues.waiting.slots) miss.slot miss.release) }
+        (λ miss. IsMissIn plan wheel.old.cycle (has_bit wheel.old.dues.waiting.slots) miss.slot miss.release) }
     ensures missed_cycle { IfErr result (λ miss. miss.cycle ≡ wheel.old.cycle) }
     ensures same_cycle { IfErr result (λ _. wheel.new.cycle ≡ wheel.old.cycle) }
     ensures same_slots { IfErr result (λ _. wheel.new.dues.waiting.slots ≡ wheel.old.dues.waiting.slots) }
@@ -107,7 +107,7 @@ fn pass(wheel: &mut Wheel, ranked: &Ranked) -> CyclePlan
     requires well { IsWellPlaced ranked.now.placed }
     requires quiet { wheel.old.cycle < wheel.old.quiet }
     ensures planned { (window : ℕ) → IsPlanned (planning_of ranked.now window wheel.old.cycle wheel.old.dues.waiting.slots)
-        wheel.old.cycle (contains_slot wheel.old.dues.waiting.slots) result.mask result.width wheel.new.dues.waiting.slots }
+        wheel.old.cycle (has_bit wheel.old.dues.waiting.slots) result.mask result.width wheel.new.dues.waiting.slots }
     ensures next { wheel.new.cycle ≡ wheel.old.cycle + 1 }
     ensures same { wheel.new.quiet ≡ wheel.old.quiet }
     ensures empty { (wheel.new.dues.waiting.slots ≡ 0) × (result.mask ≡ 0) }
@@ -181,10 +181,10 @@ fn plan_plainly(
     requires cycle { state.now.cycle < cycles_end }
     requires valid { IsValid ranked.now.placed state.now.cycle state.now.pending }
     ensures planned { let plan = planning_of ranked.now w state.now.cycle state.now.pending in IfOk result
-        (λ r. IsPlanned plan state.now.cycle (contains_slot state.now.pending) r.mask r.width wheel.new.dues.waiting.slots) }
+        (λ r. IsPlanned plan state.now.cycle (has_bit state.now.pending) r.mask r.width wheel.new.dues.waiting.slots) }
     ensures next { IfOk result (λ _. wheel.new.cycle ≡ state.now.cycle + 1) }
     ensures missed { let plan = planning_of ranked.now w state.now.cycle state.now.pending in IfErr result
-        (λ miss. IsMissIn plan state.now.cycle (contains_slot state.now.pending) miss.slot miss.release) }
+        (λ miss. IsMissIn plan state.now.cycle (has_bit state.now.pending) miss.slot miss.release) }
     ensures missed_cycle { IfErr result (λ miss. miss.cycle ≡ state.now.cycle) }
     ensures same_cycle { IfErr result (λ _. wheel.new.cycle ≡ state.now.cycle) }
     ensures same_slots { IfErr result (λ _. wheel.new.dues.waiting.slots ≡ state.now.pending) }
@@ -279,7 +279,7 @@ fn take_some(wheel: &mut Wheel, ranked: &Ranked, state: &PlanState, w: u32) -> O
 fn take_due(wheel: &Wheel, ranked: &Ranked, state: &PlanState, w: u32) -> Took
     requires cycle { wheel.now.cycle < cycles_end }
     requires ready { IsReady ranked.now state.now.pending wheel.now }
-    ensures took { IsPart (planning_of ranked.now w wheel.now.cycle state.now.pending) (contains_slot state.now.pending)
+    ensures took { IsPart (planning_of ranked.now w wheel.now.cycle state.now.pending) (has_bit state.now.pending)
         wheel.now result.left result.mask result.width }
 {
     let due = both(wheel.dues.waiting.rows, wheel.dues.always.rows);
@@ -292,9 +292,9 @@ fn take_due(wheel: &Wheel, ranked: &Ranked, state: &PlanState, w: u32) -> Took
 /// What the filling takes of these rows, in the order of the rows, within a window of `w` bit times.
 fn take_by_row(wheel: &Wheel, ranked: &Ranked, state: &PlanState, due: u128, w: u32) -> Took
     requires ready { IsReady ranked.now state.now.pending wheel.now }
-    requires rows { (row : ℕ) → has_row due row ≡ (has_row wheel.now.dues.waiting.rows row || has_row wheel.now.dues.always.rows row) }
+    requires rows { (row : ℕ) → has_bit due row ≡ (has_bit wheel.now.dues.waiting.rows row || has_bit wheel.now.dues.always.rows row) }
     requires order { wheel.now.policy ≢ Edf }
-    ensures took { IsPart (planning_of ranked.now w wheel.now.cycle state.now.pending) (contains_slot state.now.pending)
+    ensures took { IsPart (planning_of ranked.now w wheel.now.cycle state.now.pending) (has_bit state.now.pending)
         wheel.now result.left result.mask result.width }
 {
     take_rows(wheel.rows.entries.as_slice(), ranked.fill(), due, w)
@@ -305,9 +305,9 @@ fn take_by_row(wheel: &Wheel, ranked: &Ranked, state: &PlanState, due: u128, w: 
 #[inline(never)]
 fn take_by_deadline(wheel: &Wheel, ranked: &Ranked, state: &PlanState, due: u128, w: u32) -> Took
     requires ready { IsReady ranked.now state.now.pending wheel.now }
-    requires rows { (row : ℕ) → has_row due row ≡ (has_row wheel.now.dues.waiting.rows row || has_row wheel.now.dues.always.rows row) }
+    requires rows { (row : ℕ) → has_bit due row ≡ (has_bit wheel.now.dues.waiting.rows row || has_bit wheel.now.dues.always.rows row) }
     requires order { wheel.now.policy ≡ Edf }
-    ensures took { IsPart (planning_of ranked.now w wheel.now.cycle state.now.pending) (contains_slot state.now.pending)
+    ensures took { IsPart (planning_of ranked.now w wheel.now.cycle state.now.pending) (has_bit state.now.pending)
         wheel.now result.left result.mask result.width }
 {
     pick_rows(wheel, ranked.fill(), due, w)
@@ -316,9 +316,9 @@ fn take_by_deadline(wheel: &Wheel, ranked: &Ranked, state: &PlanState, due: u128
 /// Where none of the rows that are left is in its last cycle, a cycle that is not above the last cycle of any of them.
 fn in_time(wheel: &Wheel, left: u128) -> Option<u64>
     requires room { HasRoom (length wheel.now.rows.entries.items) wheel.now.rows wheel.now.dues }
-    requires known { (row : ℕ) → has_row left row ≡ true
-        → (has_row wheel.now.dues.waiting.rows row || has_row wheel.now.dues.always.rows row) ≡ true }
-    requires soonest { (row : ℕ) → has_row wheel.now.dues.waiting.rows row ≡ true
+    requires known { (row : ℕ) → has_bit left row ≡ true
+        → (has_bit wheel.now.dues.waiting.rows row || has_bit wheel.now.dues.always.rows row) ≡ true }
+    requires soonest { (row : ℕ) → has_bit wheel.now.dues.waiting.rows row ≡ true
         → wheel.now.dues.soonest ≤ get_or wheel.now.rows.lasts.items row 0 }
     ensures in_time { IfSome result (λ soonest. AreInTime wheel.now left soonest) }
 {
@@ -338,7 +338,7 @@ fn in_time(wheel: &Wheel, left: u128) -> Option<u64>
 /// A cycle that is not above the last cycle of any of these rows.
 fn least_last(lasts: &[u64], rows: u128) -> u64
     requires within { IsBelow (length lasts.now) rows }
-    ensures least { (row : ℕ) → has_row rows row ≡ true → result ≤ get_or lasts.now row 0 }
+    ensures least { (row : ℕ) → has_bit rows row ≡ true → result ≤ get_or lasts.now row 0 }
 {
     if rows == 0 {
         return u64::MAX;

@@ -8,7 +8,7 @@ use Rattle.can_frame.specs.declared.data_frame.TimedFrame.{TimedFrame}
 use Rattle.trigger_codec.specs.Bytes.{trigger_frame, triggers_with, width_told}
 use Rattle.cycle_layout.specs.Layout.{CycleLayout, IsLayout}
 use Rattle.requirement_table.specs.Opening.{Opening, width_of}
-use Rattle.requirement_table.specs.Slots.{contains_slot}
+use Rattle.bit_sets.specs.Sets.{has_bit}
 use Rattle.requirement_table.specs.Table.{width_in}
 use Rattle.requirement_table.specs.declared.entries.Order.{Order}
 use Rattle.requirement_table.specs.declared.entries.Placed.{Placed}
@@ -166,7 +166,7 @@ begin-with-triggers laws run new order frames can ordered did =
     let is = runs laws setting run.master.history can.1 frames run.nodes new order (subst (λ r. IsOrder r run.master.history order) rules ordered) did way in
     let slots : run.master.rules.slots ≡ setting.layout.slots = ap (λ r. r.slots) rules ∙ way.known.same_slots in
     let width : order.l ≡ width_of opening =
-    ordered.window ∙ ap (λ n. width_in (placed_of run.master.history) n (contains_slot order.mask)) (sym ordered.cycle) in
+    ordered.window ∙ ap (λ n. width_in (placed_of run.master.history) n (has_bit order.mask)) (sym ordered.cycle) in
     let all : map (λ (sent : TimedFrame). sent.frame) frames ≡ trigger_frames setting.layout opening ++ map (λ (sent : TimedFrame). sent.frame) is.later =
     ap (map (λ (sent : TimedFrame). sent.frame)) is.all_frames ∙ map-append (λ (sent : TimedFrame). sent.frame) (is.trigger ∷ is.second) is.later
     ∙ ap (λ l. l ++ map (λ (sent : TimedFrame). sent.frame) is.later) is.are_triggers in

@@ -5,7 +5,7 @@ use Rattle.std.proofs.lemmas.Bool.{cases_lt, cases_order, eq-eqb, eqb-true, and_
 use Rattle.std.proofs.lemmas.List.Folds.{Any-from_list_any, list_any-from_Any}
 use Rattle.requirement_table.specs.declared.entries.Placed.{Placed}
 use Rattle.requirement_table.specs.Instance.{Exists, IsLastCycle, IsReleasedIn, MaySend, deadline_of, release_of, released_by}
-use Rattle.requirement_table.specs.Slots.{most_slots}
+use Rattle.bit_sets.specs.Sets.{most_slots}
 use Rattle.requirement_table.specs.Table.{IsInRange, IsWellPlaced, held_before, is_last_in, releases_in}
 use Rattle.requirement_table.specs.Flags.{IsFlaggedOnce, IsGoodCycle, waits}
 use Rattle.requirement_table.proofs.SlotInstances.{instance_in-found, one_instance}

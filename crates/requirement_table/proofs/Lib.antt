@@ -7,5 +7,4 @@ mod NotOver
 mod Rounds
 pub mod Shared
 mod SlotInstances
-mod SlotSets
 mod Waiting

@@ -7,9 +7,9 @@ use Rattle.std.proofs.lemmas.Option.{slice_get_within, get_or_from_slice_get, sa
 use Rattle.std.proofs.lemmas.List.Folds.{Any-from_list_any, list_any-from_Any}
 use Rattle.requirement_table.specs.declared.entries.Placed.{Placed}
 use Rattle.requirement_table.specs.Instance.{Instance, MaySend, IsReleasedIn, release_of, instance_of, released_by}
-use Rattle.requirement_table.specs.Slots.{contains_slot, most_slots}
+use Rattle.bit_sets.specs.Sets.{has_bit, most_slots}
 use Rattle.requirement_table.specs.Table.{IsInRange, IsFreeAt, GoesBefore, IsWellPlaced, sendable, instance_in, releases_in, released_in}
-use Rattle.requirement_table.proofs.SlotSets.{contains_slot-set_of}
+use Rattle.bit_sets.proofs.Shared.{has_bit-set_of}
 use Rattle.requirement_table.proofs.Latest.{latest-of_sent, instance_of-sent, MaySend-from_instance, released_by-released, IsReleasedIn-from_released_by}
 
 -- what may be sent before an end that frees the slot comes before the cycle in which it is free
@@ -153,13 +153,13 @@ released-test slot c p period released =
 in_range-of : (placed : List Placed) (i : ℕ) (p : Placed) → IsWellPlaced placed → i < length placed → get_or placed i p ≡ p → IsInRange p
 in_range-of placed i p well within at = rw at at (well.in_range i p within)
 
-pub released_in-sound : (placed : List Placed) (slot c : ℕ) → contains_slot (released_in placed c) slot ≡ true → Any (IsReleasedOf slot c) placed
+pub released_in-sound : (placed : List Placed) (slot c : ℕ) → has_bit (released_in placed c) slot ≡ true → Any (IsReleasedOf slot c) placed
 released_in-sound placed slot c contains =
-    let parts = and_parts (nat_lt slot most_slots) (releases_in placed c slot) (sym (contains_slot-set_of most_slots (releases_in placed c) slot) ∙ contains) in
+    let parts = and_parts (nat_lt slot most_slots) (releases_in placed c slot) (sym (has_bit-set_of most_slots (releases_in placed c) slot) ∙ contains) in
     let any = Any-from_list_any (λ p. nat_eq p.entry.slot slot && is_some (released_by p c)) placed parts.1 in
     (any.0, any.1, any.2, any.3, released-parts slot c any.1 any.4)
 
-pub released_in-complete : (placed : List Placed) (slot c : ℕ) → IsWellPlaced placed → Any (IsReleasedOf slot c) placed → contains_slot (released_in placed c) slot ≡ true
+pub released_in-complete : (placed : List Placed) (slot c : ℕ) → IsWellPlaced placed → Any (IsReleasedOf slot c) placed → has_bit (released_in placed c) slot ≡ true
 released_in-complete placed slot c well any =
     let range = in_range-of placed any.0 any.1 well any.2 any.3 in
     let known = range.entry.slot in
@@ -167,6 +167,6 @@ released_in-complete placed slot c well any =
     let deadline = range.entry.some_time in
     let period = range.entry.deadline in
     let test = released-test slot c any.1 (omega arith) any.4 in
-    contains_slot-set_of most_slots (releases_in placed c) slot
+    has_bit-set_of most_slots (releases_in placed c) slot
     ∙ and_from _ _ (lt-ltb slot most_slots (omega arith))
     (list_any-from_Any (λ p. nat_eq p.entry.slot slot && is_some (released_by p c)) placed (any.0, any.1, any.2, any.3, test))

@@ -1,5 +1,4 @@
 pub mod Flags
 pub mod Instance
 pub mod Opening
-pub mod Slots
 pub mod Table

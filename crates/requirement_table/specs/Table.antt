@@ -8,7 +8,7 @@ use Rattle.profile.specs.Limits.{cycles_end}
 use Rattle.requirement_table.specs.declared.entries.Placed.{Placed}
 use Rattle.requirement_table.specs.declared.entries.Entry.{Entry}
 use Rattle.requirement_table.specs.Instance.{Instance, deadline_of, instance_of, release_of, released_by, worst_of}
-use Rattle.requirement_table.specs.Slots.{set_of, most_slots, sum_where}
+use Rattle.bit_sets.specs.Sets.{set_of, most_slots, sum_where}
 
 -- the fields of an entry are in range; how many nodes there are is not known here
 pub record IsEntry (entry : Entry) : Type 0 where

@@ -1,6 +1,6 @@
 //! Entries of the table, placed entries, and the order of one cycle.
 
-use crate::slots::Mask;
+use bit_sets::Mask;
 use items::Items;
 
 /// A synchronous requirement: one frame of a slot in each period.

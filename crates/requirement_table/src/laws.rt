@@ -7,18 +7,9 @@ ghost use Rattle.requirement_table.specs.declared.entries.Placed.{Placed};
 ghost use Rattle.requirement_table.specs.Instance.{Exists, IsLastCycle, IsReleasedIn, MaySend};
 ghost use Rattle.requirement_table.specs.Instance.{instance_of, release_of, released_by};
 ghost use Rattle.requirement_table.specs.Flags.{HasWaiting, HasWaitingBefore, IsFlaggedOnce, IsGoodCycle, waits};
-ghost use Rattle.requirement_table.specs.Slots.{contains_slot, set_of};
+ghost use Rattle.bit_sets.specs.Sets.{has_bit, set_of};
 ghost use Rattle.requirement_table.specs.Table.{IsWellPlaced, held_before, instance_in, near_of, not_over};
 ghost use Rattle.requirement_table.specs.Table.{released_in, releases_in};
-
-/// A set of slots made of a test contains the slots below `n` that pass it, and no other.
-pub fn sets_of_slots()
-    ensures below { (n : ℕ) (p : ℕ → Bool) → set_of n p < 2 ^ n }
-    ensures slots { (n slot : ℕ) (p : ℕ → Bool)
-        → contains_slot (set_of n p) slot ≡ (nat_lt slot n && p slot) }
-    ensures same { (n : ℕ) (p q : ℕ → Bool)
-        → ((slot : ℕ) → slot < n → p slot ≡ q slot) → set_of n p ≡ set_of n q }
-{}
 
 /// The functions of an entry and a cycle find the instance that the relations describe, where the
 /// deadline is 1 to the period.
@@ -42,7 +33,7 @@ pub fn instances_of_a_slot()
     ensures sound { (placed : List Placed) (slot c : ℕ) → IfSome (instance_in placed slot c)
         (λ i. Contains placed i.placed × (i.placed.entry.slot ≡ slot) × MaySend i.placed i.number c) }
     ensures released { (placed : List Placed) (slot c : ℕ) → IsWellPlaced placed
-        → IsTrue (contains_slot (released_in placed c) slot)
+        → IsTrue (has_bit (released_in placed c) slot)
         ↔ Any (λ p. (p.entry.slot ≡ slot) × ((k : ℕ) × IsReleasedIn p k c)) placed }
 {}
 

@@ -8,8 +8,8 @@ mod entries;
 mod instances;
 pub mod laws;
 mod lists;
-mod slots;
 
+pub use bit_sets::Mask;
 pub use entries::{Entry, Order, Placed, PlacedList};
 pub use instances::{Payload, Sendable, cost, current, current_instance, due, exists, releases};
 pub use lists::{
@@ -17,4 +17,3 @@ pub use lists::{
     released_in, well_placed,
 };
 pub use profile::MOST_SLOTS;
-pub use slots::Mask;

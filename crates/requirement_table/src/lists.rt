@@ -8,7 +8,7 @@ ghost use Rattle.requirement_table.specs.Table.{free_from, is_over, near_of, not
 
 use crate::entries::{Entry, Placed};
 use crate::instances::releases;
-use crate::slots::Mask;
+use bit_sets::Mask;
 use profile::{CYCLES_END, MOST_SLOTS};
 use std::alloc::{AllocError, Global};
 

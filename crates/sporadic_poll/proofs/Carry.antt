@@ -12,7 +12,7 @@ use Rattle.can_frame.specs.declared.data_frame.TimedFrame.{TimedFrame}
 use Rattle.cycle_layout.specs.Layout.{CycleLayout, IsLayout}
 use Rattle.requirement_table.specs.Instance.{Instance, bytes_of}
 use Rattle.requirement_table.specs.Opening.{Opening, width_of}
-use Rattle.requirement_table.specs.Slots.{contains_slot, most_slots}
+use Rattle.bit_sets.specs.Sets.{has_bit, most_slots}
 use Rattle.requirement_table.specs.Table.{IsWellPlaced, instance_in}
 use Rattle.requirement_table.proofs.Shared.{found-in}
 use Rattle.bus_line.specs.Trace.{AgreeAlong, Follows, end_of}
@@ -141,24 +141,24 @@ above_low frame slot is = by_test (nat_le first_identifier frame.identifier && n
 -- a frame of a slot is one of a flagged slot
 pub flagged_frame : (layout : CycleLayout) (opening : Opening) (known : IsLayout layout) (fits : FitsWindow layout opening) (frames past : List TimedFrame) (free : ℕ)
     → Follows (offered_in bytes_of layout [] opening) past free (end_of_cycle layout opening) frames → (sent : TimedFrame) (slot : ℕ) → Contains frames sent → slot_sent sent.frame ≡ Some slot
-    → (slot < most_slots) × (contains_slot opening.mask slot ≡ true)
+    → (slot < most_slots) × (has_bit opening.mask slot ≡ true)
 flagged_frame layout opening known fits [] past free follows sent slot among is = absurd (omega (arith, among.1))
 flagged_frame layout opening known fits (one ∷ later) past free (next, follows) sent slot (suc k, within, same) is =
     flagged_frame layout opening known fits later (past ++ one ∷ []) (end_of one) follows sent slot (k, omega (arith, within), same) is
 flagged_frame layout opening known fits (one ∷ later) past free (next, follows) sent slot (zero, within, same) is =
     by_offer (ap (λ (s : TimedFrame). slot_sent s.frame) same ∙ is) next.least.offered
   where
-    by_offer : slot_sent one.frame ≡ Some slot → offered_in bytes_of layout [] opening past one.start one.frame → (slot < most_slots) × (contains_slot opening.mask slot ≡ true)
+    by_offer : slot_sent one.frame ≡ Some slot → offered_in bytes_of layout [] opening past one.start one.frame → (slot < most_slots) × (has_bit opening.mask slot ≡ true)
     by_offer here (inl trigger) =
         absurd (omega (arith, above_low one.frame slot here, low layout.slots opening.cycle (width_of opening) opening.mask one.frame trigger.among))
     by_offer here (inr (inl request)) = absurd (no_request layout opening past one.start one.frame request)
     by_offer here (inr (inr (s, offers))) =
         let it : s ≡ slot = same_Some _ _ (sym (slot_is one.frame s offers.known offers.identifier) ∙ here) in
-        (omega (arith, it, offers.known), ap (contains_slot opening.mask) (sym it) ∙ offers.flagged)
+        (omega (arith, it, offers.known), ap (has_bit opening.mask) (sym it) ∙ offers.flagged)
 
 -- each flagged slot has a frame in the window
 pub window_frame : (layout : CycleLayout) (opening : Opening) (frames front window : List TimedFrame) → RunsCycle bytes_of layout opening frames → frames ≡ front ++ window
-    → All (λ sent. slot_sent sent.frame ≡ None) front → (slot : ℕ) → slot < most_slots → contains_slot opening.mask slot ≡ true
+    → All (λ sent. slot_sent sent.frame ≡ None) front → (slot : ℕ) → slot < most_slots → has_bit opening.mask slot ≡ true
     → (sent : TimedFrame) × Contains window sent × (slot_sent sent.frame ≡ Some slot)
 window_frame layout opening frames front window runs split none slot few flagged =
     let once = runs.each slot few flagged in

@@ -9,7 +9,7 @@ use Rattle.std.proofs.lemmas.Option.{none-some, same_Some, slice_get-get_or, sli
 use Rattle.can_frame.specs.declared.data_frame.TimedFrame.{TimedFrame}
 use Rattle.requirement_table.specs.declared.entries.Placed.{Placed}
 use Rattle.requirement_table.specs.Opening.{Opening}
-use Rattle.requirement_table.specs.Slots.{contains_slot, most_slots}
+use Rattle.bit_sets.specs.Sets.{has_bit, most_slots}
 use Rattle.sporadic_poll.specs.declared.fate.Fate.{Fate}
 use Rattle.sporadic_poll.specs.declared.fate.Fate.TheVariants.{Waits, Taken, Sent}
 use Rattle.sporadic_poll.specs.declared.fate.Ride.{Ride}
@@ -208,8 +208,8 @@ polled_by (one ∷ streams) (suc place) stream at = by_test (one.slot == stream.
 pub fates_more : (streams : List Stream) (openings : List Opening) (opening : Opening) (carried : ℕ → ℕ → Option ℕ) (old middle : List Fate) (frames : List TimedFrame)
     → SameSent old middle → length middle ≡ length streams
     → ((slot release place : ℕ) → slot < most_slots → carried slot release ≡ Some place → IsOfSlot streams slot place)
-    → ((sent : TimedFrame) (slot : ℕ) → Contains frames sent → slot_sent sent.frame ≡ Some slot → (slot < most_slots) × (contains_slot opening.mask slot ≡ true))
-    → ((slot : ℕ) → is_polled streams slot ≡ true → contains_slot opening.mask slot ≡ true → (sent : TimedFrame) × Contains frames sent × (slot_sent sent.frame ≡ Some slot))
+    → ((sent : TimedFrame) (slot : ℕ) → Contains frames sent → slot_sent sent.frame ≡ Some slot → (slot < most_slots) × (has_bit opening.mask slot ≡ true))
+    → ((slot : ℕ) → is_polled streams slot ≡ true → has_bit opening.mask slot ≡ true → (sent : TimedFrame) × Contains frames sent × (slot_sent sent.frame ≡ Some slot))
     → AreFates streams openings carried old
     → AreFates streams (openings ++ opening ∷ []) carried (noted_all streams carried opening.placed opening.cycle middle frames)
 fates_more streams openings opening carried old middle frames same each of_slot flagged sent_all fates = record {
@@ -236,7 +236,7 @@ fates_more streams openings opening carried old middle frames same each of_slot 
           opening = opening;
           opened = Contains-append_right openings (opening ∷ []) opening (0, omega arith, refl);
           in_cycle = sym now.1;
-          flagged = ap (contains_slot opening.mask) of.its_slot ∙ flag.1;
+          flagged = ap (has_bit opening.mask) of.its_slot ∙ flag.1;
           released = ap (λ s. release_in opening.placed s cycle) of.its_slot ∙ ap (release_in opening.placed it.slot) now.1 ∙ it.released;
           took = ap (λ s. carried s release) of.its_slot ∙ it.took;
         }
@@ -258,7 +258,7 @@ fates_more streams openings opening carried old middle frames same each of_slot 
       | inl eq ↦
           let slot = ridden.stream.slot in
           let polled = polled_by streams place ridden.stream ridden.at in
-          let found = sent_all slot polled (ap (λ (o : Opening). contains_slot o.mask slot) eq ∙ ridden.flagged) in
+          let found = sent_all slot polled (ap (λ (o : Opening). has_bit o.mask slot) eq ∙ ridden.flagged) in
           let released : release_in opening.placed slot opening.cycle ≡ Some release =
           ap (λ (o : Opening). release_in o.placed slot o.cycle) eq ∙ ap (release_in ridden.opening.placed slot) ridden.in_cycle ∙ ridden.released in
           let inside = slice_get_within streams place ridden.stream ridden.at in

@@ -15,7 +15,7 @@ use Rattle.can_frame.specs.declared.data_frame.TimedFrame.{TimedFrame}
 use Rattle.cycle_layout.specs.Layout.{CycleLayout, IsLayout, trigger_part}
 use Rattle.requirement_table.specs.Instance.{Instance, bytes_of}
 use Rattle.requirement_table.specs.Opening.{Opening, width_of}
-use Rattle.requirement_table.specs.Slots.{contains_slot, most_slots}
+use Rattle.bit_sets.specs.Sets.{has_bit, most_slots}
 use Rattle.requirement_table.specs.Table.{instance_in}
 use Rattle.trigger_codec.specs.Bytes.{triggers_with}
 use Rattle.trigger_codec.proofs.Shared.{low_ids}
@@ -123,7 +123,7 @@ module _ (layout : CycleLayout) (opening : Opening) (sends : Instance → List �
 
   -- all flagged slots were sent
   abbrev pub AllSent : List TimedFrame → Type 0
-  AllSent past = (slot : ℕ) → slot < most_slots → contains_slot opening.mask slot ≡ true → IsUnsent layout opening slot past → ⊥
+  AllSent past = (slot : ℕ) → slot < most_slots → has_bit opening.mask slot ≡ true → IsUnsent layout opening slot past → ⊥
 
   -- in the window only slots are offered
   in_window : (past : List TimedFrame) (at : ℕ) (frame : DataFrame) → window_start layout opening ≤ at → offered_in sends layout [] opening past at frame

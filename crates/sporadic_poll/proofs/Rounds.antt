@@ -8,7 +8,7 @@ use Rattle.can_frame.specs.DataFrame.{DataFrame}
 use Rattle.can_frame.specs.Wire.{wire_length}
 use Rattle.can_frame.specs.declared.data_frame.TimedFrame.{TimedFrame}
 use Rattle.requirement_table.specs.declared.entries.Placed.{Placed}
-use Rattle.requirement_table.specs.Slots.{most_slots}
+use Rattle.bit_sets.specs.Sets.{most_slots}
 use Rattle.cycle_engine.specs.SyncWindow.{back_to_back, sent_at}
 use Rattle.sporadic_poll.specs.declared.fate.Fate.{Fate}
 use Rattle.sporadic_poll.specs.declared.stream.Stream.{Stream}

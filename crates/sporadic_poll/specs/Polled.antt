@@ -3,7 +3,7 @@ use Rattle.std.specs.Prelude.{ℕ, ◌<◌, ◌==◌, Bool, nat_lt, if◌then◌
 use Rattle.std.specs.List.{list_any, slice_get}
 use Rattle.requirement_table.specs.Instance.{Instance, bytes_of, release_of}
 use Rattle.requirement_table.specs.Opening.{Opening}
-use Rattle.requirement_table.specs.Slots.{most_slots}
+use Rattle.bit_sets.specs.Sets.{most_slots}
 use Rattle.sporadic_poll.specs.declared.stream.Stream.{Stream}
 use Rattle.sporadic_poll.specs.Ride.{IsRide, bytes_with, length_released}
 

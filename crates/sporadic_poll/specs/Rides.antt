@@ -11,7 +11,7 @@ use Rattle.cycle_layout.specs.Layout.{CycleLayout}
 use Rattle.requirement_table.specs.declared.entries.Placed.{Placed}
 use Rattle.requirement_table.specs.Instance.{bytes_of, release_of}
 use Rattle.requirement_table.specs.Opening.{Opening}
-use Rattle.requirement_table.specs.Slots.{contains_slot, most_slots}
+use Rattle.bit_sets.specs.Sets.{has_bit, most_slots}
 use Rattle.requirement_table.specs.Table.{instance_in}
 use Rattle.bus_line.specs.Trace.{Follows}
 use Rattle.node_model.specs.Opening.{end_of_cycle, start_of}
@@ -55,7 +55,7 @@ pub record IsKept (queued : Queued) (polled : ℕ) (latest : List (Option Ride))
   pub slots : length latest ≡ length queued.next
   pub few : length queued.next ≤ most_slots
   pub known : All (λ stream. stream.slot < length queued.next) queued.streams
-  pub are_polled : (slot : ℕ) → contains_slot polled slot ≡ is_polled queued.streams slot
+  pub are_polled : (slot : ℕ) → has_bit polled slot ≡ is_polled queued.streams slot
   pub inside : (slot : ℕ) → IfSome (get_or latest slot None) (λ ride. ride.place < length queued.streams)
 
 -- a request of the slot that is known to be taken by the instance that was released in a cycle
@@ -86,7 +86,7 @@ pub record IsRidden (streams : List Stream) (openings : List Opening) (carried :
   pub opening : Opening
   pub opened : Contains openings opening
   pub in_cycle : opening.cycle ≡ cycle
-  pub flagged : contains_slot opening.mask stream.slot ≡ true
+  pub flagged : has_bit opening.mask stream.slot ≡ true
   pub released : release_in opening.placed stream.slot cycle ≡ Some release
   pub took : carried stream.slot release ≡ Some place
 

@@ -8,7 +8,7 @@ ghost use Rattle.requirement_table.specs.Table.{IsWellPlaced};
 ghost use Rattle.can_frame.specs.declared.data_frame.TimedFrame.{TimedFrame};
 ghost use Rattle.cycle_layout.specs.Layout.{CycleLayout, IsLayout};
 ghost use Rattle.requirement_table.specs.Opening.{Opening};
-ghost use Rattle.requirement_table.specs.Slots.{most_slots};
+ghost use Rattle.bit_sets.specs.Sets.{most_slots};
 ghost use Rattle.cycle_engine.specs.Cycle.{RunsCycle, RunsCycles};
 ghost use Rattle.cycle_engine.specs.Offered.{AreOfDistinctCycles};
 ghost use Rattle.sporadic_poll.specs.declared.stream.Stream.{Stream};

@@ -7,7 +7,7 @@ ghost use Rattle.std.specs.List.{slice_get};
 ghost use Rattle.profile.specs.Limits.{cycles_end, times_end};
 ghost use Rattle.can_frame.specs.declared.data_frame.TimedFrame.{TimedFrame};
 ghost use Rattle.requirement_table.specs.Opening.{Opening};
-ghost use Rattle.requirement_table.specs.Slots.{contains_slot, most_slots};
+ghost use Rattle.bit_sets.specs.Sets.{has_bit, most_slots};
 ghost use Rattle.requirement_table.specs.Table.{IsWellPlaced};
 ghost use Rattle.bus_line.specs.Trace.{Follows};
 ghost use Rattle.cycle_engine.specs.Offered.{offered_in};
@@ -58,7 +58,7 @@ impl Model for Rides {
 /// The slots of requests.
 fn slots_of(streams: &[Stream]) -> Mask
     requires known { All (λ stream. stream.slot < most_slots) streams.now }
-    ensures slots { (slot : ℕ) → contains_slot result slot ≡ is_polled streams.now slot }
+    ensures slots { (slot : ℕ) → has_bit result slot ≡ is_polled streams.now slot }
 {
     let mut slots = Mask::empty();
     for stream in streams {

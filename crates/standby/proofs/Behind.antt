@@ -9,7 +9,7 @@ use Rattle.master_core.specs.History.{placed_of, next_of, IsRight, IsRightAnswer
 use Rattle.master_core.specs.declared.event.Event.{Event}
 use Rattle.master_core.specs.declared.event.Event.TheVariants.{Submit, Look, Open}
 use Rattle.planner_policies.specs.Plan.{mask_at}
-use Rattle.requirement_table.specs.Slots.{contains_slot}
+use Rattle.bit_sets.specs.Sets.{has_bit}
 use Rattle.requirement_table.specs.Table.{width_in}
 use Rattle.requirement_table.specs.declared.entries.Placed.{Placed}
 use Rattle.can_frame.specs.DataFrame.{DataFrame}
@@ -198,12 +198,12 @@ own-next rules whole own cycle mask core right =
 
 -- and its trigger frames are those that are due
 pub frames-due : (rules : Rules) (whole own : List Event) (cycle mask : ℕ) → core_of whole ≡ core_of own → IsRight rules whole (Open cycle mask)
-    → triggers_with rules.slots cycle (width_in (placed_of whole) cycle (contains_slot mask)) mask ≡ due_frames (record { rules = rules; history = own })
+    → triggers_with rules.slots cycle (width_in (placed_of whole) cycle (has_bit mask)) mask ≡ due_frames (record { rules = rules; history = own })
 frames-due rules whole own cycle mask core right =
     let next = own-next rules whole own cycle mask core right in
-    ap (λ (l : List Placed). triggers_with rules.slots cycle (width_in l cycle (contains_slot mask)) mask) (placed-core whole own core)
-    ∙ ap (λ (n : ℕ). triggers_with rules.slots n (width_in (placed_of own) n (contains_slot mask)) mask) next.cycle_is
-    ∙ ap (λ (m : ℕ). triggers_with rules.slots (next_of own) (width_in (placed_of own) (next_of own) (contains_slot m)) m) next.mask_is
+    ap (λ (l : List Placed). triggers_with rules.slots cycle (width_in l cycle (has_bit mask)) mask) (placed-core whole own core)
+    ∙ ap (λ (n : ℕ). triggers_with rules.slots n (width_in (placed_of own) n (has_bit mask)) mask) next.cycle_is
+    ∙ ap (λ (m : ℕ). triggers_with rules.slots (next_of own) (width_in (placed_of own) (next_of own) (has_bit m)) m) next.mask_is
 
 -- trigger frames that are told are those that are due
 pub record IsDueTrigger (rules : Rules) (whole own : List Event) (frames : List DataFrame) (rest : List Told) : Type 0 where

@@ -5,7 +5,7 @@ use Rattle.std.proofs.lemmas.List.{append-nil}
 use Rattle.std.proofs.lemmas.Option.{same_Some}
 use Rattle.can_frame.specs.DataFrame.{DataFrame}
 use Rattle.requirement_table.specs.declared.entries.Placed.{Placed}
-use Rattle.requirement_table.specs.Slots.{contains_slot, most_slots}
+use Rattle.bit_sets.specs.Sets.{has_bit, most_slots}
 use Rattle.trigger_kind.specs.Kind.{IsSlots}
 use Rattle.profile.specs.Limits.{longest_window}
 use Rattle.requirement_table.specs.Table.{width_in}
@@ -152,7 +152,7 @@ pub due-heard : (rules : Rules) (own : List Event) (upcoming : Upcoming) (frames
     → frames ≡ due_frames (seen rules own) → heard_of rules.slots (next_of own) frames ≡ Some (record { l = upcoming.l; mask = upcoming.mask })
 due-heard rules own upcoming frames was is due =
     let flags : upcoming.mask ≡ planned_of (seen rules own) = is.order.mask in
-    let width : upcoming.l ≡ sum_of (seen rules own) = is.order.window ∙ ap (λ (m : ℕ). width_in (placed_of own) (next_of own) (contains_slot m)) flags in
+    let width : upcoming.l ≡ sum_of (seen rules own) = is.order.window ∙ ap (λ (m : ℕ). width_in (placed_of own) (next_of own) (has_bit m)) flags in
     let fits = is.order.fits in
     let window = was.ranges.greatest_window in
     ap (heard_of rules.slots (next_of own)) due

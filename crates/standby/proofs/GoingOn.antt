@@ -15,7 +15,7 @@ use Rattle.master_core.proofs.Shared.{OneVerdict, same-events}
 use Rattle.planner_policies.specs.Plan.{mask_at, pending_at}
 use Rattle.requirement_table.specs.declared.entries.Order.{Order}
 use Rattle.requirement_table.specs.declared.entries.Placed.{Placed}
-use Rattle.requirement_table.specs.Slots.{contains_slot}
+use Rattle.bit_sets.specs.Sets.{has_bit}
 use Rattle.requirement_table.specs.Table.{instance_in, width_in}
 use Rattle.standby.specs.Core.{Item, changed, opened, items_of, core_of}
 use Rattle.standby.proofs.Cores.{core_of-append, core_of-cons, core_of-push, learned-core, next-core, placed-core}
@@ -172,8 +172,8 @@ order-core rules one other order same is =
           ∙ ap (λ (n : ℕ). mask_at (plan_of rules (placed_of other)) n) next;
       window =
           is.window
-          ∙ ap (λ (l : List Placed). width_in l (next_of one) (contains_slot order.mask)) placed
-          ∙ ap (λ (n : ℕ). width_in (placed_of other) n (contains_slot order.mask)) next;
+          ∙ ap (λ (l : List Placed). width_in l (next_of one) (has_bit order.mask)) placed
+          ∙ ap (λ (n : ℕ). width_in (placed_of other) n (has_bit order.mask)) next;
       learned = is.learned ∙ learned-core one other same;
       fits = is.fits;
       slots = is.slots;

@@ -3,7 +3,7 @@
 use Rattle.std.specs.Prelude.{◌≡◌, ◌≢◌, ℕ, false, List, [], ◌∷◌, ◌++◌, Some, None, All}
 use Rattle.can_frame.specs.DataFrame.{DataFrame}
 use Rattle.trigger_kind.specs.Kind.{IsSlots}
-use Rattle.requirement_table.specs.Slots.{contains_slot}
+use Rattle.bit_sets.specs.Sets.{has_bit}
 use Rattle.requirement_table.specs.Table.{width_in}
 use Rattle.change_protocol.specs.declared.operations.Change.{Change}
 use Rattle.planner_policies.specs.Plan.{mask_at, pending_at}
@@ -49,7 +49,7 @@ planned_of standby = mask_at (plan_of standby.rules (placed_of standby.history))
 
 abbrev pub sum_of : StandbyView → ℕ
 sum_of standby =
-    width_in (placed_of standby.history) (next_of standby.history) (contains_slot (planned_of standby))
+    width_in (placed_of standby.history) (next_of standby.history) (has_bit (planned_of standby))
 
 -- the trigger frames that are due next
 abbrev pub due_frames : StandbyView → List DataFrame

@@ -1,6 +1,6 @@
 -- *Handover*: what a standby is told of a history, and how far it has come.
 use Rattle.std.specs.Prelude.{◌≡◌, ◌≤◌, List, [], ◌∷◌, ◌++◌, if◌then◌else◌}
-use Rattle.requirement_table.specs.Slots.{contains_slot}
+use Rattle.bit_sets.specs.Sets.{has_bit}
 use Rattle.requirement_table.specs.Table.{width_in}
 use Rattle.admission_rules.specs.declared.Rules.{Rules}
 use Rattle.admission.specs.Verdict.{is_accepted}
@@ -19,7 +19,7 @@ told_of rules before (Submit caller change from verdict trail) =
     if is_accepted verdict then Change caller change ∷ [] else []
 told_of rules before (Look caller next) = []
 told_of rules before (Open cycle mask) =
-    Trigger (triggers_with rules.slots cycle (width_in (placed_of before) cycle (contains_slot mask)) mask) ∷ []
+    Trigger (triggers_with rules.slots cycle (width_in (placed_of before) cycle (has_bit mask)) mask) ∷ []
 
 -- what is told of events that follow the events before them
 abbrev pub told_after : Rules → List Event → List Event → List Told

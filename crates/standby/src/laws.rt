@@ -4,7 +4,7 @@ ghost use Rattle.std.specs.Prelude.{◌≡◌, ℕ, ◌^◌, ◌<◌, ◌≤◌,
 ghost use Rattle.profile.specs.Limits.{longest_window};
 ghost use Rattle.can_frame.specs.DataFrame.{DataFrame};
 ghost use Rattle.requirement_table.specs.declared.entries.Order.{Order};
-ghost use Rattle.requirement_table.specs.Slots.{contains_slot};
+ghost use Rattle.bit_sets.specs.Sets.{has_bit};
 ghost use Rattle.requirement_table.specs.Table.{width_in};
 ghost use Rattle.trigger_kind.specs.Kind.{IsSlots};
 ghost use Rattle.change_protocol.specs.declared.operations.Change.{Change};
@@ -69,7 +69,7 @@ pub fn goes_on()
 pub fn follows_each()
     ensures due { (rules : Rules) (whole own : List Event) (cycle mask : ℕ) → core_of whole ≡ core_of own
         → IsRight rules whole (Open cycle mask)
-        → triggers_with rules.slots cycle (width_in (placed_of whole) cycle (contains_slot mask)) mask
+        → triggers_with rules.slots cycle (width_in (placed_of whole) cycle (has_bit mask)) mask
         ≡ due_frames (record { rules = rules; history = own }) }
     ensures opened { (rules : Rules) (whole own new : List Event) (cycle mask : ℕ) (frames : List DataFrame)
         → core_of whole ≡ core_of own → IsRight rules whole (Open cycle mask)

@@ -4,7 +4,7 @@ use Rattle.std.specs.Prelude.{Err, IfOk, IfSome, None, Ok, Option, Result, Some}
 use Rattle.std.proofs.lemmas.List.Elements.{All-cons, All-nil}
 use Rattle.can_frame.specs.declared.data_frame.TimedFrame.{TimedFrame}
 use Rattle.requirement_table.specs.Opening.{width_of}
-use Rattle.requirement_table.specs.Slots.{contains_slot}
+use Rattle.bit_sets.specs.Sets.{has_bit}
 use Rattle.requirement_table.specs.Table.{width_in}
 use Rattle.requirement_table.specs.declared.entries.Order.{Order}
 use Rattle.async_window.specs.declared.request.Request.{Request}
@@ -86,7 +86,7 @@ module _ (system : System) (requests : List Request) (trace : List TimedFrame) (
       let setting : Setting = setting_of system requests in
       let way = way-run runs setting old.master.history trace new.sent old.nodes new.nodes order ordered did again.way in
       let width : width_of (record { cycle = order.cycle; mask = order.mask; placed = placed_of old.master.history }) ≡ new.width =
-      ap (λ c. width_in (placed_of old.master.history) c (contains_slot order.mask)) ordered.cycle ∙ sym ordered.window ∙ sym same in
+      ap (λ c. width_in (placed_of old.master.history) c (has_bit order.mask)) ordered.cycle ∙ sym ordered.window ∙ sym same in
       let told = opened-told laws setting again.way.known old.master.history trace again.way.under_way order.cycle order.mask new.sent
       way.under_way ordered.cycle in
       record {

@@ -1,19 +1,9 @@
 -- The flag of a slot in the bytes of a trigger frame.
 use Rattle.std.proofs.Common.{◌≡◌, ℕ, zero, suc, ◌+◌, ◌*◌, ◌/◌, ◌%◌, ◌^◌, ◌<◌, ◌-◌, ◌≤◌, slice_index, nat_eq, refl, sym, ap, ◌∙◌, arith}
 use Rattle.std.specs.Int.{bit_at}
-use Rattle.std.proofs.Math.Nat.{div-div-eq-div-mul}
-use Rattle.std.proofs.lemmas.Nat.{pow-add, div-add-mod'}
-use Rattle.std.proofs.lemmas.Nat.Bits.{bit_at_cat_low}
-use Rattle.requirement_table.specs.Slots.{contains_slot}
+use Rattle.bit_sets.proofs.Shared.{bit_at-low, bit_at-shifted}
+use Rattle.bit_sets.specs.Sets.{has_bit}
 use Rattle.trigger_codec.specs.Bytes.{trigger_bytes, second_bytes}
-
--- the bits of a number from bit `k` on
-pub bit_at-shifted : (n k j : ℕ) → bit_at (n / 2 ^ k) j ≡ bit_at n (k + j)
-bit_at-shifted n k j = ap (λ m. m % 2) (div-div-eq-div-mul n (2 ^ k) (2 ^ j) ∙ ap (λ m. n / m) (sym (pow-add 2 k j)))
-
--- the low bits of a number
-pub bit_at-low : (n w j : ℕ) → j < w → bit_at (n % 2 ^ w) j ≡ bit_at n j
-bit_at-low n w j below = sym (bit_at_cat_low (n / 2 ^ w) w (n % 2 ^ w) j below) ∙ ap (λ m. bit_at m j) (div-add-mod' n (2 ^ w))
 
 -- the flags of the slots from 8 * i on
 flag_byte : (cycle l mask i : ℕ) → i < 5 → slice_index (trigger_bytes cycle l mask) (3 + i) ≡ mask / 2 ^ (8 * i) % 2 ^ 8
@@ -24,14 +14,14 @@ flag_byte cycle l mask (suc (suc (suc zero))) below = refl
 flag_byte cycle l mask (suc (suc (suc (suc zero)))) below = refl
 flag_byte cycle l mask (suc (suc (suc (suc (suc i))))) below = absurd (omega arith)
 
-pub flag-slot : (cycle l mask slot : ℕ) → slot < 40 → nat_eq (bit_at (slice_index (trigger_bytes cycle l mask) (3 + slot / 8)) (slot % 8)) 1 ≡ contains_slot mask slot
+pub flag-slot : (cycle l mask slot : ℕ) → slot < 40 → has_bit (slice_index (trigger_bytes cycle l mask) (3 + slot / 8)) (slot % 8) ≡ has_bit mask slot
 flag-slot cycle l mask slot below =
     let byte = flag_byte cycle l mask (slot / 8) (omega arith) in
     let bit : bit_at (mask / 2 ^ (8 * (slot / 8)) % 2 ^ 8) (slot % 8) ≡ bit_at mask slot =
     bit_at-low (mask / 2 ^ (8 * (slot / 8))) 8 (slot % 8) (omega arith)
     ∙ bit_at-shifted mask (8 * (slot / 8)) (slot % 8)
     ∙ ap (bit_at mask) (omega arith) in
-    ap (λ b. nat_eq (bit_at b (slot % 8)) 1) byte ∙ ap (λ b. nat_eq b 1) bit
+    ap (λ b. has_bit b (slot % 8)) byte ∙ ap (λ b. nat_eq b 1) bit
 
 -- the flags of the slots from 40 + 8 * i on
 second_flag_byte : (cycle mask i : ℕ) → i < 7 → slice_index (second_bytes cycle mask) (1 + i) ≡ mask / 2 ^ (40 + 8 * i) % 2 ^ 8
@@ -44,7 +34,7 @@ second_flag_byte cycle mask (suc (suc (suc (suc (suc zero))))) below = refl
 second_flag_byte cycle mask (suc (suc (suc (suc (suc (suc zero)))))) below = refl
 second_flag_byte cycle mask (suc (suc (suc (suc (suc (suc (suc i))))))) below = absurd (omega arith)
 
-pub second-flag-slot : (cycle mask slot : ℕ) → 40 ≤ slot → slot < 96 → nat_eq (bit_at (slice_index (second_bytes cycle mask) (1 + (slot - 40) / 8)) ((slot - 40) % 8)) 1 ≡ contains_slot mask slot
+pub second-flag-slot : (cycle mask slot : ℕ) → 40 ≤ slot → slot < 96 → has_bit (slice_index (second_bytes cycle mask) (1 + (slot - 40) / 8)) ((slot - 40) % 8) ≡ has_bit mask slot
 second-flag-slot cycle mask slot above below =
     let place = slot - 40 in
     let byte = second_flag_byte cycle mask (place / 8) (omega arith) in
@@ -52,4 +42,4 @@ second-flag-slot cycle mask slot above below =
     bit_at-low (mask / 2 ^ (40 + 8 * (place / 8))) 8 (place % 8) (omega arith)
     ∙ bit_at-shifted mask (40 + 8 * (place / 8)) (place % 8)
     ∙ ap (bit_at mask) (omega arith) in
-    ap (λ b. nat_eq (bit_at b (place % 8)) 1) byte ∙ ap (λ b. nat_eq b 1) bit
+    ap (λ b. has_bit b (place % 8)) byte ∙ ap (λ b. nat_eq b 1) bit

@@ -6,20 +6,19 @@ use Rattle.std.proofs.lemmas.Bool.{cases_lt}
 use Rattle.std.proofs.lemmas.Bool.Decides.{nat_tests}
 use Rattle.std.proofs.lemmas.Nat.Bits.{bit_at_cat_low, bit_at_cat_high, bit_at-zero}
 use Rattle.std.proofs.lemmas.Nat.{pow-add, pow_pos}
-use Rattle.requirement_table.specs.Slots.{contains_slot}
-use Rattle.requirement_table.proofs.Shared.{contains_slot-set_of, set_of-contains_slot, set_of-from_slots, set_of-same}
+use Rattle.bit_sets.specs.Sets.{has_bit}
+use Rattle.bit_sets.proofs.Shared.{has_bit-set_of, set_of-has_bit, set_of-from_slots, set_of-same, bit_at-low, bit_at-shifted}
 use Rattle.trigger_codec.specs.Bytes.{flags_of_both, low_slots, high_slots, trigger_bytes, second_bytes, flags_in, second_flags_in}
-use Rattle.trigger_codec.proofs.Flags.{bit_at-low, bit_at-shifted}
 
 -- the slots below 40 are the number's lowest 40 bits
 pub low_slots-is : (mask : ℕ) → mask % 2 ^ 40 ≡ low_slots mask
 low_slots-is mask =
-    set_of-from_slots 40 (mask % 2 ^ 40) (contains_slot mask) (omega arith)
+    set_of-from_slots 40 (mask % 2 ^ 40) (has_bit mask) (omega arith)
     (λ slot below. ap (λ b. nat_eq b 1) (bit_at-low mask 40 slot below))
 
 -- a number without its lowest `k` bits contains the slots from `k` on
-contains_slot-from : (k mask slot : ℕ) → contains_slot (mask / 2 ^ k * 2 ^ k) slot ≡ (nat_le k slot && contains_slot mask slot)
-contains_slot-from k mask slot =
+has_bit-from : (k mask slot : ℕ) → has_bit (mask / 2 ^ k * 2 ^ k) slot ≡ (nat_le k slot && has_bit mask slot)
+has_bit-from k mask slot =
     ⊎_elim
     (λ (low : slot < k).
     let bit = bit_at_cat_low (mask / 2 ^ k) k 0 slot low in
@@ -34,8 +33,8 @@ contains_slot-from k mask slot =
 -- the slots from 40 on are the number without its lowest 40 bits
 pub high_slots-is : (mask : ℕ) → mask < 2 ^ 96 → mask / 2 ^ 40 * 2 ^ 40 ≡ high_slots mask
 high_slots-is mask below =
-    set_of-from_slots 96 (mask / 2 ^ 40 * 2 ^ 40) (λ slot. nat_le 40 slot && contains_slot mask slot) (omega arith)
-    (λ slot within. contains_slot-from 40 mask slot)
+    set_of-from_slots 96 (mask / 2 ^ 40 * 2 ^ 40) (λ slot. nat_le 40 slot && has_bit mask slot) (omega arith)
+    (λ slot within. has_bit-from 40 mask slot)
 
 -- the five bytes of the first frame are the lowest 40 bits
 low-bytes : (mask : ℕ) → byte_at 0 mask + byte_at 1 mask * 256 + byte_at 2 mask * 256 ^ 2 + byte_at 3 mask * 256 ^ 3 + byte_at 4 mask * 256 ^ 4 ≡ mask % 2 ^ 40
@@ -76,13 +75,13 @@ one-part slot false within = grind (arith, nat_tests)
 -- both parts together are the whole set
 pub both-parts : (mask : ℕ) → mask < 2 ^ 96 → flags_of_both (low_slots mask) (high_slots mask) ≡ mask
 both-parts mask below =
-    set_of-same 96 (λ slot. contains_slot (low_slots mask) slot || contains_slot (high_slots mask) slot) (contains_slot mask)
+    set_of-same 96 (λ slot. has_bit (low_slots mask) slot || has_bit (high_slots mask) slot) (has_bit mask)
     (λ slot within.
-    ap (λ low. low || contains_slot (high_slots mask) slot) (contains_slot-set_of 40 (contains_slot mask) slot)
-    ∙ ap (λ high. (nat_lt slot 40 && contains_slot mask slot) || high) (contains_slot-set_of 96 (λ s. nat_le 40 s && contains_slot mask s) slot)
-    ∙ one-part slot (contains_slot mask slot) within)
-    ∙ sym (set_of-contains_slot 96 mask below)
+    ap (λ low. low || has_bit (high_slots mask) slot) (has_bit-set_of 40 (has_bit mask) slot)
+    ∙ ap (λ high. (nat_lt slot 40 && has_bit mask slot) || high) (has_bit-set_of 96 (λ s. nat_le 40 s && has_bit mask s) slot)
+    ∙ one-part slot (has_bit mask slot) within)
+    ∙ sym (set_of-has_bit 96 mask below)
 
 -- the first part is all, where all slots are below 40
 pub first-part : (mask : ℕ) → mask < 2 ^ 40 → low_slots mask ≡ mask
-first-part mask below = sym (set_of-contains_slot 40 mask below)
+first-part mask below = sym (set_of-has_bit 40 mask below)

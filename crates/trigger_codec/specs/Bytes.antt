@@ -8,16 +8,16 @@ use Rattle.trigger_kind.specs.declared.Triggers.{Triggers}
 use Rattle.trigger_kind.specs.declared.Triggers.TheVariants.{One, Two}
 use Rattle.trigger_kind.specs.Kind.{triggers_of}
 use Rattle.can_frame.specs.DataFrame.{DataFrame}
-use Rattle.requirement_table.specs.Slots.{contains_slot, most_slots, set_of}
+use Rattle.bit_sets.specs.Sets.{has_bit, most_slots, set_of}
 use Rattle.trigger_codec.specs.declared.message.Trigger.{Trigger}
 use Rattle.trigger_codec.specs.declared.message.Second.{Second}
 
 -- the slots of a set that the first frame flags, and those that the second one flags: those from 40 on
 abbrev pub low_slots : ℕ → ℕ
-low_slots mask = set_of first_slots (contains_slot mask)
+low_slots mask = set_of first_slots (has_bit mask)
 
 abbrev pub high_slots : ℕ → ℕ
-high_slots mask = set_of most_slots (λ slot. nat_le first_slots slot && contains_slot mask slot)
+high_slots mask = set_of most_slots (λ slot. nat_le first_slots slot && has_bit mask slot)
 
 -- the data bytes of the first trigger frame of a cycle: the cycle modulo 256, the length of the synchronous window
 -- big-endian, and the flags of the slots below 40, eight to a byte, the least slot in the least significant bit
@@ -52,7 +52,7 @@ triggers_with slots cycle l mask = trigger_frame cycle l mask ∷ later_frames (
 
 -- the slots that two trigger frames flag, where the first one and the second one flag these
 abbrev pub flags_of_both : ℕ → ℕ → ℕ
-flags_of_both first second = set_of most_slots (λ slot. contains_slot first slot || contains_slot second slot)
+flags_of_both first second = set_of most_slots (λ slot. has_bit first slot || has_bit second slot)
 
 -- the length of the synchronous window that the data bytes of a first trigger frame say
 abbrev pub width_told : List ℕ → ℕ

@@ -1,10 +1,9 @@
 //! Laws about the definitions of this crate. Each function has an empty body, and its contract is the
 //! law.
 
-ghost use Rattle.std.specs.Prelude.{◌≡◌, ℕ, ◌+◌, ◌-◌, ◌/◌, ◌%◌, ◌^◌, ◌<◌, ◌≤◌, nat_eq, slice_index, Some};
-ghost use Rattle.std.specs.Int.{bit_at};
+ghost use Rattle.std.specs.Prelude.{◌≡◌, ℕ, ◌+◌, ◌-◌, ◌/◌, ◌%◌, ◌^◌, ◌<◌, ◌≤◌, slice_index, Some};
 ghost use Rattle.profile.specs.Limits.{first_slots, longest_window};
-ghost use Rattle.requirement_table.specs.Slots.{contains_slot, most_slots};
+ghost use Rattle.bit_sets.specs.Sets.{has_bit, most_slots};
 ghost use Rattle.trigger_codec.specs.Bytes.{flags_of_both, low_slots, high_slots};
 ghost use Rattle.trigger_codec.specs.Bytes.{trigger_bytes, second_bytes, triggers_with};
 ghost use Rattle.trigger_codec.specs.Heard.{heard_of};
@@ -14,11 +13,10 @@ ghost use Rattle.trigger_codec.specs.Heard.{heard_of};
 /// is the least significant.
 pub fn flags_by_slot()
     ensures first { (cycle l mask slot : ℕ) → slot < first_slots
-        → nat_eq (bit_at (slice_index (trigger_bytes cycle l mask) (3 + slot / 8)) (slot % 8)) 1
-        ≡ contains_slot mask slot }
+        → has_bit (slice_index (trigger_bytes cycle l mask) (3 + slot / 8)) (slot % 8) ≡ has_bit mask slot }
     ensures second { (cycle mask slot : ℕ) → first_slots ≤ slot → slot < most_slots
-        → nat_eq (bit_at (slice_index (second_bytes cycle mask) (1 + (slot - first_slots) / 8)) ((slot - first_slots) % 8)) 1
-        ≡ contains_slot mask slot }
+        → has_bit (slice_index (second_bytes cycle mask) (1 + (slot - first_slots) / 8)) ((slot - first_slots) % 8)
+        ≡ has_bit mask slot }
 {}
 
 /// The slots that the two frames of a cycle flag are together those that are flagged. The first frame

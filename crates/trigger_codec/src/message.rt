@@ -4,17 +4,17 @@ ghost use Rattle.std.specs.Prelude.{◌≡◌, ℕ, ◌%◌, ◌^◌, ◌<◌, �
 ghost use Rattle.std.specs.List.{cons_option};
 ghost use Rattle.std.specs.Result.{result_ok};
 ghost use Rattle.profile.specs.Limits.{first_slots, longest_window};
-ghost use Rattle.requirement_table.specs.Slots.{most_slots};
+ghost use Rattle.bit_sets.specs.Sets.{most_slots};
 ghost use Rattle.trigger_codec.specs.Bytes.{flags_of_both, later_frames, low_slots, high_slots};
 ghost use Rattle.trigger_codec.specs.Bytes.{trigger_frame, trigger_of, flags_in};
 ghost use Rattle.trigger_codec.specs.Bytes.{second_frame, second_of, second_flags_in};
 ghost use Rattle.trigger_codec.specs.Refusal.{Refuses, RefusesSecond};
 
 use crate::trigger_fault::TriggerFault;
+use bit_sets::union;
 use can_frame::Frame;
 use profile::LONGEST_WINDOW;
 use requirement_table::Mask;
-use slot_sets::union;
 use trigger_kind::Triggers;
 
 /// The identifier of the first trigger frame of a cycle: the least there is, so it wins every

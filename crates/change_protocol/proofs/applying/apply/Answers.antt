@@ -1,6 +1,6 @@
 use Rattle.std.proofs.Common.{◌<◌, [], All}
 use Rattle.std.proofs.lemmas.List.Elements.{All-weaker}
-use Rattle.requirement_table.specs.Slots.{most_slots}
+use Rattle.bit_sets.specs.Sets.{most_slots}
 use Rattle.change_protocol.specs.Malformed.{bounds_of}
 use Rattle.change_protocol.specs.Operations.{HasTypes, slot_of}
 use Rattle.change_protocol.proofs.Allowed.{IsAllowed, allowed-most}

@@ -2,8 +2,8 @@ use Rattle.std.proofs.Common.{◌≡◌, ℕ, [], ◌∷◌, ◌+◌, ◌++◌, 
 use Rattle.std.proofs.Math.Seq.{drop-append_seam}
 use Rattle.std.proofs.lemmas.Bool.{cases_lt}
 use Rattle.profile.specs.Limits.{first_identifier}
-use Rattle.requirement_table.specs.Slots.{contains_slot, most_slots}
-use Rattle.requirement_table.proofs.Shared.{contains_slot-above}
+use Rattle.bit_sets.specs.Sets.{has_bit, most_slots}
+use Rattle.bit_sets.proofs.Shared.{has_bit-above}
 use Rattle.cycle_engine.specs.Nodes.{heard_by}
 use Rattle.cycle_engine.specs.SyncWindow.{back_to_back, due_frames, is_among}
 use Rattle.cycle_engine.proofs.Along.{opens_not}
@@ -34,15 +34,15 @@ hear_slots-requires c =
     let start = length c.as_slice-before.result.now in
     let frames = take (length c.as_slice.result.now - start) (drop start c.as_slice.result.now) in
     let behind : drop (length old) c.send_slots-left.new.out.items ≡ frames = ap (drop (length old)) put ∙ drop-append_seam old sent ∙ sym same in
-    let all : (slot : ℕ) → contains_slot c.due_slots-due.result slot ≡ (is_among slot frames || contains_slot c.send_slots-left.result slot) = λ slot. c.send_slots-left.ensures.left slot ∙ ap (λ fs. is_among slot fs || contains_slot c.send_slots-left.result slot) behind in
-    let apart : (slot : ℕ) → contains_slot c.send_slots-left.result slot ≡ true → is_among slot frames ≡ false = λ slot has. ap (is_among slot) (sym behind) ∙ c.send_slots-left.ensures.apart slot has in
+    let all : (slot : ℕ) → has_bit c.due_slots-due.result slot ≡ (is_among slot frames || has_bit c.send_slots-left.result slot) = λ slot. c.send_slots-left.ensures.left slot ∙ ap (λ fs. is_among slot fs || has_bit c.send_slots-left.result slot) behind in
+    let apart : (slot : ℕ) → has_bit c.send_slots-left.result slot ≡ true → is_among slot frames ≡ false = λ slot has. ap (is_among slot) (sym behind) ∙ c.send_slots-left.ensures.apart slot has in
     record {
       slots = record {
         all = subst (All (λ one. (first_identifier ≤ one.frame.identifier) × (one.frame.identifier < first_identifier + most_slots))) (sym same)
             (due-ids nodes c.args.from c.args.until);
         each = λ slot. elim (cases_lt slot most_slots) [
           | inl within ↦ sent-slots _ _ _ slot _ (c.difference-sent.ensures.slots slot) (all slot) (apart slot)
-          | inr beyond ↦ sent-none _ _ _ slot _ (contains_slot-above _ most_slots slot c.known-2.ensures.below beyond) (contains_slot-above _ most_slots slot c.known.ensures.below beyond) (all slot)
+          | inr beyond ↦ sent-none _ _ _ slot _ (has_bit-above _ most_slots slot c.known-2.ensures.below beyond) (has_bit-above _ most_slots slot c.known.ensures.below beyond) (all slot)
         ];
       };
     }

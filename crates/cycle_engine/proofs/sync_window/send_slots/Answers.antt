@@ -2,10 +2,10 @@ use Rattle.std.proofs.Common.{◌≡◌, ℕ, ◌++◌, ◌+◌, ◌||◌, drop,
 use Rattle.std.proofs.lemmas.List.{drop_all, length-append}
 use Rattle.can_frame.specs.declared.data_frame.TimedFrame.{TimedFrame}
 use Rattle.cycle_engine.specs.SyncWindow.{back_to_back, by_slots, due_among, is_among}
-use Rattle.slot_sets.proofs.Shared.{without-less}
-use Rattle.requirement_table.specs.Slots.{contains_slot}
+use Rattle.bit_sets.proofs.Shared.{least-of, without-less}
+use Rattle.bit_sets.specs.Sets.{has_bit, most_slots}
 use Rattle.cycle_engine.proofs.Sent.{among-more, apart-more, due-identifier, left-before, left-more}
-use Rattle.cycle_engine.proofs.BySlots.{among-first, among-none, least-of, put-late, put-more}
+use Rattle.cycle_engine.proofs.BySlots.{among-first, among-none, put-late, put-more}
 use Rattle.cycle_engine.proofs.sync_window.send_slots.Goals as goal
 
 pub loop-slot-init : goal.loop-slot-init
@@ -13,7 +13,7 @@ loop-slot-init c = record {
   all = refl;
   among = λ slot has. has;
   few = omega arith;
-  left = λ slot. ap (λ xs. is_among slot xs || contains_slot c.args.set slot) (sym (drop_all (length c.args.out.now.items) c.args.out.now.items (omega arith)));
+  left = λ slot. ap (λ xs. is_among slot xs || has_bit c.args.set slot) (sym (drop_all (length c.args.out.now.items) c.args.out.now.items (omega arith)));
   apart = λ slot has. ap (is_among slot) (drop_all (length c.args.out.now.items) c.args.out.now.items (omega arith));
   long = omega arith;
   more = omega arith;
@@ -47,7 +47,7 @@ push_reserved-requires c =
 pub loop-slot-smaller : goal.loop-slot-smaller
 loop-slot-smaller c =
     let least = least-of c.loop-slot.left c.in-Some.slot (sym c.in-Some.ensures.least) in
-    without-less c.loop-slot.left c.without_least-left.result c.in-Some.slot least.0 c.known.ensures.below c.known-in-Some.ensures.below least.1
+    without-less most_slots c.loop-slot.left c.without_least-left.result c.in-Some.slot least.0 c.known.ensures.below c.known-in-Some.ensures.below least.1
     (c.without_least-left.ensures.slots c.in-Some.slot (sym c.in-Some.ensures.least))
 
 pub loop-slot-preserved : goal.loop-slot-preserved

@@ -1,7 +1,7 @@
 use Rattle.std.proofs.Common.{◌≡◌, ◌∙◌, ◌++◌, ◌∷◌, [], ℕ, Some, refl, ap, subst, sym, arith}
 use Rattle.std.proofs.lemmas.Grind.{common_steps}
 use Rattle.admission_rules.specs.declared.Rules.{Rules}
-use Rattle.requirement_table.specs.Slots.{contains_slot}
+use Rattle.bit_sets.specs.Sets.{has_bit}
 use Rattle.requirement_table.specs.Table.{width_in}
 use Rattle.master_core.specs.Cores.{IsStateOf}
 use Rattle.master_core.specs.declared.event.Event.TheVariants.{Open}
@@ -44,7 +44,7 @@ returns-clause-heard c =
     let mask : c.upcoming-upcoming.result.mask ≡ planned_of c.args.core.now = c.upcoming-upcoming.ensures.upcoming.order.mask in
     let window : c.in-Some.heard.l ≡ c.upcoming-upcoming.result.l = let ne = c.if-heard-upcoming.false in grind (arith, common_steps) in
     let sum : c.upcoming-upcoming.result.l ≡ sum_of c.args.core.now = c.upcoming-upcoming.ensures.upcoming.order.window
-    ∙ ap (λ (m : ℕ). width_in c.args.core.now.placed c.args.core.now.cycle (contains_slot m)) mask in
+    ∙ ap (λ (m : ℕ). width_in c.args.core.now.placed c.args.core.now.cycle (has_bit m)) mask in
     record {
       heard = heard
           ∙ ap (λ (m : ℕ). Some (record { l = c.in-Some.heard.l; mask = m })) (flags ∙ mask)

@@ -1,5 +1,5 @@
 use Rattle.std.proofs.Common.{◌≡◌, ◌∙◌, ◌-◌, ap, arith, subst, sym}
-use Rattle.requirement_table.specs.Slots.{contains_slot, most_slots, set_of}
+use Rattle.bit_sets.specs.Sets.{has_bit, most_slots, set_of}
 use Rattle.requirement_table.specs.Table.{not_over}
 use Rattle.planner_policies.specs.declared.state.PlanState.{PlanState}
 use Rattle.planner_policies.specs.Plan.{HasNoMiss, HasNoMissIn, IsMissIn, Ranking, Standing, left_after, pending_at, planning_of}
@@ -48,13 +48,13 @@ loop-preserved c =
       in_time =
           step-in_time c.args.rules.now (not_over c.args.from.now.cycle c.args.placed.now) c.args.from.now.cycle c.args.from.now.pending c.loop.counter
           c.loop.planner.cycle c.loop.planner.pending c.loop.invariant.cycle c.loop.invariant.pending c.loop.invariant.in_time
-          (subst (λ (r : Ranking). HasNoMissIn (planning_of r c.args.rules.now.window c.loop.planner.cycle c.loop.planner.pending) c.loop.planner.cycle (contains_slot c.loop.planner.pending)) c.loop.invariant.ranking c.in-Ok.ensures.none_missed);
+          (subst (λ (r : Ranking). HasNoMissIn (planning_of r c.args.rules.now.window c.loop.planner.cycle c.loop.planner.pending) c.loop.planner.cycle (has_bit c.loop.planner.pending)) c.loop.invariant.ranking c.in-Ok.ensures.none_missed);
       pending =
           ap (λ (s : Standing). s.pending) next
           ∙ ap
           (λ (r : Ranking).
           set_of most_slots
-          (left_after (planning_of r c.args.rules.now.window c.loop.planner.cycle c.loop.planner.pending) c.loop.planner.cycle (contains_slot c.loop.planner.pending)))
+          (left_after (planning_of r c.args.rules.now.window c.loop.planner.cycle c.loop.planner.pending) c.loop.planner.cycle (has_bit c.loop.planner.pending)))
           c.loop.invariant.ranking
           ∙ step-pending c.args.rules.now (not_over c.args.from.now.cycle c.args.placed.now) c.args.from.now.cycle c.args.from.now.pending c.loop.counter
           c.loop.planner.cycle c.loop.planner.pending c.loop.invariant.cycle c.loop.invariant.pending;
@@ -69,7 +69,7 @@ returns-in-Err-clause-apart c off leads =
     c.in-Err.field-0.slot c.in-Err.field-0.release
     c.requires.well_placed leads (omega arith) counted c.loop.invariant.pending
     (subst (λ (r : Ranking). IsMissIn (planning_of r c.args.rules.now.window c.loop.planner.cycle c.loop.planner.pending) c.loop.planner.cycle
-    (contains_slot c.loop.planner.pending) c.in-Err.field-0.slot c.in-Err.field-0.release) c.loop.invariant.ranking c.in-Err.ensures.missed)
+    (has_bit c.loop.planner.pending) c.in-Err.field-0.slot c.in-Err.field-0.release) c.loop.invariant.ranking c.in-Err.ensures.missed)
 
 pub returns-clause-leads : goal.returns-clause-leads
 returns-clause-leads c same =

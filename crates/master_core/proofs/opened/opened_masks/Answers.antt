@@ -1,5 +1,5 @@
 use Rattle.std.proofs.Common.{Vec, Global, ap, ◌∙◌}
-use Rattle.requirement_table.specs.declared.slots.Mask.{Mask}
+use Rattle.bit_sets.specs.declared.slots.Mask.{Mask}
 use Rattle.master_core.proofs.Certificates.{listed-opening, listed-other}
 use Rattle.master_core.proofs.opened.opened_masks.Goals as goal
 use Rattle.master_core.proofs.opened.opened_masks.Goals.{in-Open+in_ok-push, in_default}

@@ -1,5 +1,5 @@
 use Rattle.std.proofs.Common.{◌≡◌, Bool, true, false, ◌&&◌, not, refl, ap, ◌∙◌}
-use Rattle.requirement_table.specs.Slots.{contains_slot}
+use Rattle.bit_sets.specs.Sets.{has_bit}
 use Rattle.node_model.proofs.cycle.unheard.Goals as goal
 
 in_turn : (a b c : Bool) → ((a && b) && c) ≡ (a && (b && c))
@@ -10,6 +10,6 @@ pub returns : goal.returns
 returns c = record {
   slots = λ slot.
       c.difference.ensures.slots slot
-      ∙ ap (λ has. has && not (contains_slot c.args.heard slot)) (c.common.ensures.slots slot)
-      ∙ in_turn (contains_slot c.args.flags slot) (contains_slot c.args.sendable slot) (not (contains_slot c.args.heard slot));
+      ∙ ap (λ has. has && not (has_bit c.args.heard slot)) (c.common.ensures.slots slot)
+      ∙ in_turn (has_bit c.args.flags slot) (has_bit c.args.sendable slot) (not (has_bit c.args.heard slot));
 }

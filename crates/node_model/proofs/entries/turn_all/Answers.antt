@@ -1,9 +1,8 @@
 use Rattle.std.proofs.Common.{inl, inr, refl, sym, ◌∙◌}
 use Rattle.std.proofs.lemmas.Bool.{cases_lt, false≢true}
-use Rattle.requirement_table.specs.Slots.{most_slots}
-use Rattle.requirement_table.proofs.Shared.{contains_slot-above}
-use Rattle.slot_sets.proofs.Shared.{without-less}
-use Rattle.node_model.proofs.Ready.{least-of, none-left, sendable-next}
+use Rattle.bit_sets.specs.Sets.{most_slots}
+use Rattle.bit_sets.proofs.Shared.{has_bit-above, least-of, none-of, without-less}
+use Rattle.node_model.proofs.Ready.{sendable-next}
 use Rattle.node_model.proofs.entries.turn_all.Goals as goal
 
 pub loop-slot-init : goal.loop-slot-init
@@ -18,7 +17,7 @@ turn-requires c = record { slot = (least-of c.loop-slot.left c.in-Some.slot (sym
 pub loop-slot-smaller : goal.loop-slot-smaller
 loop-slot-smaller c =
     let least = least-of c.loop-slot.left c.in-Some.slot (sym c.in-Some.ensures.least) in
-    without-less c.loop-slot.left c.without_least-left.result c.in-Some.slot least.0 c.known-in-Some.ensures.below c.known-in-Some-2.ensures.below least.1
+    without-less most_slots c.loop-slot.left c.without_least-left.result c.in-Some.slot least.0 c.known-in-Some.ensures.below c.known-in-Some-2.ensures.below least.1
     (c.without_least-left.ensures.slots c.in-Some.slot (sym c.in-Some.ensures.least))
 
 pub loop-slot-preserved : goal.loop-slot-preserved
@@ -32,8 +31,8 @@ loop-slot-preserved c = record {
 pub returns : goal.returns
 returns c = record {
   sendable = λ _ slot has. elim (cases_lt slot most_slots) [
-    | inl within ↦ c.loop-slot.invariant.sendable slot has (none-left c.loop-slot.left (sym c.in_default.ensures.least) slot within)
-    | inr beyond ↦ absurd (false≢true (sym (contains_slot-above c.args.set most_slots slot c.known.ensures.below beyond) ∙ has))
+    | inl within ↦ c.loop-slot.invariant.sendable slot has (none-of c.loop-slot.left (sym c.in_default.ensures.least) slot within)
+    | inr beyond ↦ absurd (false≢true (sym (has_bit-above c.args.set most_slots slot c.known.ensures.below beyond) ∙ has))
   ];
   ready = c.loop-slot.invariant.ready;
 }

@@ -1,7 +1,7 @@
 use Rattle.std.proofs.Common.{◌≡◌, ℕ, ◌-◌, ◌+◌, ◌∙◌, refl, ap, not, ◌&&◌, nat_eq, ◌<◌, ◌≤◌, List, Result, Ok, Err, IsOk, IsErr, length, arith}
 use Rattle.std.specs.List.{list_any}
 use Rattle.requirement_table.specs.declared.entries.Placed.{Placed}
-use Rattle.requirement_table.specs.Slots.{contains_slot, most_slots}
+use Rattle.bit_sets.specs.Sets.{has_bit, most_slots}
 use Rattle.plan_check.specs.declared.breach.Breach.TheVariants.{BadLoop}
 use Rattle.plan_check.specs.Certificate.{CertificateView, IsCertificate, length_of}
 use Rattle.plan_check.specs.PlanKept.{IsTaken, differ, goes_round, is_bad, is_held, is_open}
@@ -10,21 +10,21 @@ use Rattle.plan_check.proofs.Taken.{breach-wrong, passes-none, taken-of}
 use Rattle.plan_check.proofs.checking.check.Goals as goal
 
 bad-is : (placed : List Placed) (certificate : CertificateView) (bad first length : ℕ) → first ≡ certificate.first → length ≡ length_of certificate
-    → ((slot : ℕ) → contains_slot bad slot ≡ list_any {X = Placed} (λ p. nat_eq p.entry.slot slot && not (goes_round first length p)) placed)
-    → (slot : ℕ) → slot < most_slots → contains_slot bad slot ≡ is_bad placed certificate slot
+    → ((slot : ℕ) → has_bit bad slot ≡ list_any {X = Placed} (λ p. nat_eq p.entry.slot slot && not (goes_round first length p)) placed)
+    → (slot : ℕ) → slot < most_slots → has_bit bad slot ≡ is_bad placed certificate slot
 bad-is placed certificate bad first length same_first same_length made slot known =
     made slot
     ∙ ap (λ n. list_any {X = Placed} (λ p. nat_eq p.entry.slot slot && not (goes_round n length p)) placed) same_first
     ∙ ap (λ n. list_any {X = Placed} (λ p. nat_eq p.entry.slot slot && not (goes_round certificate.first n p)) placed) same_length
 
 open-is : (placed : List Placed) (certificate : CertificateView) (before behind both : ℕ)
-    → ((s : ℕ) → s < most_slots → contains_slot before s ≡ is_held placed certificate (certificate.first - certificate.from) s)
-    → ((s : ℕ) → s < most_slots → contains_slot behind s ≡ is_held placed certificate (certificate.first - certificate.from + length_of certificate) s)
-    → ((s : ℕ) → s < most_slots → contains_slot both s ≡ differ (contains_slot before s) (contains_slot behind s))
-    → (s : ℕ) → s < most_slots → contains_slot both s ≡ is_open placed certificate s
+    → ((s : ℕ) → s < most_slots → has_bit before s ≡ is_held placed certificate (certificate.first - certificate.from) s)
+    → ((s : ℕ) → s < most_slots → has_bit behind s ≡ is_held placed certificate (certificate.first - certificate.from + length_of certificate) s)
+    → ((s : ℕ) → s < most_slots → has_bit both s ≡ differ (has_bit before s) (has_bit behind s))
+    → (s : ℕ) → s < most_slots → has_bit both s ≡ is_open placed certificate s
 open-is placed certificate before behind both held_before held_behind made s known =
     made s known
-    ∙ ap (λ b. differ b (contains_slot behind s)) (held_before s known)
+    ∙ ap (λ b. differ b (has_bit behind s)) (held_before s known)
     ∙ ap (λ b. differ (is_held placed certificate (certificate.first - certificate.from) s) b) (held_behind s known)
 
 ok-err : {T E : Type 0} (r : Result T E) → IsOk r → IsErr r → ⊥
@@ -37,13 +37,13 @@ is-certificate certificate first value after within = record { after = omega ari
 
 pub returns-in-Some-clause-breach : goal.returns-in-Some-clause-breach
 returns-in-Some-clause-breach c =
-    least-same (contains_slot c.bad_slots.result) (is_bad c.args.placed.now c.args.certificate.now) c.in-Some.slot
+    least-same (has_bit c.bad_slots.result) (is_bad c.args.placed.now c.args.certificate.now) c.in-Some.slot
     (bad-is c.args.placed.now c.args.certificate.now c.bad_slots.result c.first.result c.length.result c.first.ensures.value c.length.ensures.value c.bad_slots.ensures.slots)
     c.in-Some.ensures.least
 
 pub returns-in-Some-clause-ok : goal.returns-in-Some-clause-ok
 returns-in-Some-clause-ok c =
-    let least = least-same (contains_slot c.bad_slots.result) (is_bad c.args.placed.now c.args.certificate.now) c.in-Some.slot
+    let least = least-same (has_bit c.bad_slots.result) (is_bad c.args.placed.now c.args.certificate.now) c.in-Some.slot
     (bad-is c.args.placed.now c.args.certificate.now c.bad_slots.result c.first.result c.length.result c.first.ensures.value c.length.ensures.value c.bad_slots.ensures.slots)
     c.in-Some.ensures.least in (
       λ wrong. absurd (cc),
@@ -52,7 +52,7 @@ returns-in-Some-clause-ok c =
 
 pub check_cycles-requires-clause-rounds : goal.check_cycles-requires-clause-rounds
 check_cycles-requires-clause-rounds c =
-    none-same (contains_slot c.bad_slots.result) (is_bad c.args.placed.now c.args.certificate.now)
+    none-same (has_bit c.bad_slots.result) (is_bad c.args.placed.now c.args.certificate.now)
     (bad-is c.args.placed.now c.args.certificate.now c.bad_slots.result c.first.result c.length.result c.first.ensures.value c.length.ensures.value c.bad_slots.ensures.slots)
     c.in_default.ensures.least
 
@@ -68,11 +68,11 @@ returns-in-Some-least-clause-breach c =
     let placed = c.args.placed.now in
     let certificate = c.args.certificate.now in
     record {
-      rounds = none-same (contains_slot c.bad_slots.result) (is_bad placed certificate)
+      rounds = none-same (has_bit c.bad_slots.result) (is_bad placed certificate)
           (bad-is placed certificate c.bad_slots.result c.first.result c.length.result c.first.ensures.value c.length.ensures.value c.bad_slots.ensures.slots)
           c.in_default.ensures.least;
       good = c.in_ok-before.ensures.good;
-      slot_is = least-same (contains_slot c.symmetric_difference.result) (is_open placed certificate) c.in-Some-least.slot
+      slot_is = least-same (has_bit c.symmetric_difference.result) (is_open placed certificate) c.in-Some-least.slot
           (open-is placed certificate c.in_ok-before.before c.in_ok-before.behind c.symmetric_difference.result c.in_ok-before.ensures.before
           c.in_ok-before.ensures.behind c.symmetric_difference.ensures.slots)
           c.in-Some-least.ensures.least;
@@ -82,7 +82,7 @@ pub returns-in-Some-least-clause-ok : goal.returns-in-Some-least-clause-ok
 returns-in-Some-least-clause-ok c =
     let placed = c.args.placed.now in
     let certificate = c.args.certificate.now in
-    let least = least-same (contains_slot c.symmetric_difference.result) (is_open placed certificate) c.in-Some-least.slot
+    let least = least-same (has_bit c.symmetric_difference.result) (is_open placed certificate) c.in-Some-least.slot
     (open-is placed certificate c.in_ok-before.before c.in_ok-before.behind c.symmetric_difference.result c.in_ok-before.ensures.before
     c.in_ok-before.ensures.behind c.symmetric_difference.ensures.slots)
     c.in-Some-least.ensures.least in (
@@ -96,11 +96,11 @@ returns-in-None-clause-ok c =
     let certificate = c.args.certificate.now in (
       λ _. taken-of placed c.args.w certificate c.requires.well_placed c.requires.pending
           (is-certificate certificate c.first.result c.first.ensures.value c.first.ensures.after c.first.ensures.within)
-          (none-same (contains_slot c.bad_slots.result) (is_bad placed certificate)
+          (none-same (has_bit c.bad_slots.result) (is_bad placed certificate)
           (bad-is placed certificate c.bad_slots.result c.first.result c.length.result c.first.ensures.value c.length.ensures.value c.bad_slots.ensures.slots)
           c.in_default.ensures.least)
           c.in_ok-before.ensures.good
-          (none-same (contains_slot c.symmetric_difference.result) (is_open placed certificate)
+          (none-same (has_bit c.symmetric_difference.result) (is_open placed certificate)
           (open-is placed certificate c.in_ok-before.before c.in_ok-before.behind c.symmetric_difference.result c.in_ok-before.ensures.before
           c.in_ok-before.ensures.behind c.symmetric_difference.ensures.slots)
           c.in-None.ensures.least),

@@ -1,6 +1,6 @@
 use Rattle.std.proofs.Common.{◌≡◌, ℕ, suc, ◌+◌, ◌-◌, ◌<◌, ◌∙◌, ap, length, get_or, rules, arith}
 use Rattle.std.proofs.lemmas.List.{get_or_default}
-use Rattle.requirement_table.specs.Slots.{contains_slot, most_slots}
+use Rattle.bit_sets.specs.Sets.{has_bit, most_slots}
 use Rattle.plan_check.specs.Breaches.{IsBreach, is_flagged}
 use Rattle.plan_check.proofs.CycleSteps.{IsCycle, cycle-of, good-more, mask-at}
 use Rattle.plan_check.proofs.CycleSteps.{mask-flags, step-breach, step-good, step-held}
@@ -14,7 +14,7 @@ check_cycle-requires-clause-ends c = λ s known.
     let count : length ends ≡ 256 = search rules in
     let few = c.requires.few in
     let below = c.loop-i-test.true in
-    ap (λ n. contains_slot n s) (get_or_default ends i c.index-block-index-in-loop-i.result 0 (omega arith))
+    ap (λ n. has_bit n s) (get_or_default ends i c.index-block-index-in-loop-i.result 0 (omega arith))
     ∙ (c.requires.filled s known).ends i below
 
 -- where the cycle's sets are read: what they say of the cycle is what the certificate's words say
@@ -40,7 +40,7 @@ module _ (c : After-index-block-index-in-loop-i) where
       (get_or_default block.released i c.index-block-index.result 0 (omega arith))
       (get_or_default block.ends i c.index-block-index-in-loop-i.result 0 (omega arith))
 
-  flags : (s : ℕ) → s < most_slots → contains_slot c.index-masks-cycle.result s
+  flags : (s : ℕ) → s < most_slots → has_bit c.index-masks-cycle.result s
       ≡ is_flagged c.args.certificate.now number s
   flags =
       let certificate = c.args.certificate.now in

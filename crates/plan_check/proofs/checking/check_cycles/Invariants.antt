@@ -1,5 +1,5 @@
 use Rattle.std.proofs.Common.{◌≡◌, ℕ, ◌-◌, ◌<◌, ◌≤◌}
-use Rattle.requirement_table.specs.Slots.{contains_slot, most_slots}
+use Rattle.bit_sets.specs.Sets.{has_bit, most_slots}
 use Rattle.plan_check.specs.Blocks.{IsLast}
 use Rattle.plan_check.specs.Breaches.{IsGoodAt}
 use Rattle.plan_check.specs.PlanKept.{is_held}
@@ -15,8 +15,8 @@ invariant-loop-cycle l = record {
   within : l.cycle ≤ l.end;
   passed : ArePassed l.placed l.cycle l.slots l.places;
   last : IsLast l.placed l.cycle l.last;
-  held : (s : ℕ) → s < most_slots → contains_slot l.held s ≡ is_held l.placed l.certificate (l.cycle - l.certificate.from) s;
+  held : (s : ℕ) → s < most_slots → has_bit l.held s ≡ is_held l.placed l.certificate (l.cycle - l.certificate.from) s;
   before : l.certificate.first < l.cycle → (s : ℕ) → s < most_slots
-      → contains_slot l.before s ≡ is_held l.placed l.certificate (l.certificate.first - l.certificate.from) s;
+      → has_bit l.before s ≡ is_held l.placed l.certificate (l.certificate.first - l.certificate.from) s;
   good : (n : ℕ) → n < l.cycle - l.certificate.from → IsGoodAt l.placed l.w l.certificate n;
 }

@@ -1,5 +1,5 @@
 use Rattle.std.proofs.Common.{◌≤◌, take}
-use Rattle.requirement_table.specs.Slots.{most_slots}
+use Rattle.bit_sets.specs.Sets.{most_slots}
 use Rattle.plan_check.specs.Places.{AreSlotsBelow}
 use Rattle.plan_check.proofs.places.slots_of.Given as goal
 

@@ -1,6 +1,6 @@
 use Rattle.std.proofs.Common.{◌*◌, ◌≤◌, drop}
 use Rattle.requirement_table.specs.Instance.{worst}
-use Rattle.requirement_table.specs.Slots.{most_slots}
+use Rattle.bit_sets.specs.Sets.{most_slots}
 use Rattle.plan_report.specs.Current.{ArePassed}
 use Rattle.plan_report.specs.Opened.{IsWidthFrom}
 use Rattle.plan_report.proofs.Widths.{IsLoaded}

@@ -1,9 +1,9 @@
 use Rattle.std.proofs.Common.{sym, arith}
-use Rattle.requirement_table.specs.Slots.{contains_slot}
+use Rattle.bit_sets.specs.Sets.{has_bit, most_slots}
 use Rattle.requirement_table.specs.Table.{worst_in}
-use Rattle.slot_sets.proofs.Shared.{without-less}
+use Rattle.bit_sets.proofs.Shared.{least-of, without-less}
 use Rattle.bus_trace.proofs.Shared.{width-le}
-use Rattle.plan_report.proofs.Widths.{least-in, sum-empty, sum-without}
+use Rattle.plan_report.proofs.Widths.{sum-empty, sum-without}
 use Rattle.plan_report.proofs.load.width.Goals as goal
 
 pub loop-slot-init : goal.loop-slot-init
@@ -12,28 +12,28 @@ loop-slot-init c =
     record { later = omega (arith, near); so_far = λ k from below. omega arith; passed = c.requires.passed }
 
 pub slot_cost-cost-requires-clause-slot : goal.slot_cost-cost-requires-clause-slot
-slot_cost-cost-requires-clause-slot c = (least-in c.loop-slot.left c.in-Some.slot (sym c.in-Some.ensures.least)).0
+slot_cost-cost-requires-clause-slot c = (least-of c.loop-slot.left c.in-Some.slot (sym c.in-Some.ensures.least)).0
 
 pub overflow_add-bits : goal.overflow_add-bits
 overflow_add-bits c =
-    let least = least-in c.loop-slot.left c.in-Some.slot (sym c.in-Some.ensures.least) in
+    let least = least-of c.loop-slot.left c.in-Some.slot (sym c.in-Some.ensures.least) in
     let split = sum-without c.loop-slot.left c.without-left.result c.in-Some.slot (worst_in c.args.placed.now c.args.cycle) least.0 least.1 c.without-left.ensures.slots in
-    let all = width-le c.args.placed.now c.args.cycle (contains_slot c.args.mask) c.requires.well_placed in
+    let all = width-le c.args.placed.now c.args.cycle (has_bit c.args.mask) c.requires.well_placed in
     let so_far = c.loop-slot.invariant.so_far c.args.cycle (omega arith) c.loop-slot.invariant.later in
     let cost = c.slot_cost-cost.ensures.cost c.args.cycle (omega arith) c.slot_cost-cost.ensures.later in
     omega (arith, split, all, so_far, cost)
 
 pub without-left-requires : goal.without-left-requires
-without-left-requires c = (least-in c.loop-slot.left c.in-Some.slot (sym c.in-Some.ensures.least)).0
+without-left-requires c = (least-of c.loop-slot.left c.in-Some.slot (sym c.in-Some.ensures.least)).0
 
 pub loop-slot-smaller : goal.loop-slot-smaller
 loop-slot-smaller c =
-    let least = least-in c.loop-slot.left c.in-Some.slot (sym c.in-Some.ensures.least) in
-    without-less c.loop-slot.left c.without-left.result c.in-Some.slot least.0 c.known.ensures.below c.known-in-Some.ensures.below least.1 c.without-left.ensures.slots
+    let least = least-of c.loop-slot.left c.in-Some.slot (sym c.in-Some.ensures.least) in
+    without-less most_slots c.loop-slot.left c.without-left.result c.in-Some.slot least.0 c.known.ensures.below c.known-in-Some.ensures.below least.1 c.without-left.ensures.slots
 
 pub loop-slot-preserved : goal.loop-slot-preserved
 loop-slot-preserved c =
-    let least = least-in c.loop-slot.left c.in-Some.slot (sym c.in-Some.ensures.least) in
+    let least = least-of c.loop-slot.left c.in-Some.slot (sym c.in-Some.ensures.least) in
     let later = c.slot_cost-cost.ensures.later in
     let before = c.loop-slot.invariant.later in
     record {
@@ -61,6 +61,6 @@ returns-clause-width c =
 pub returns-clause-range : goal.returns-clause-range
 returns-clause-range c =
     let none = sum-empty c.loop-slot.left (worst_in c.args.placed.now c.args.cycle) (sym c.in_default.ensures.least) in
-    let all = width-le c.args.placed.now c.args.cycle (contains_slot c.args.mask) c.requires.well_placed in
+    let all = width-le c.args.placed.now c.args.cycle (has_bit c.args.mask) c.requires.well_placed in
     let so_far = c.loop-slot.invariant.so_far c.args.cycle (omega arith) c.loop-slot.invariant.later in
     omega (arith, none, all, so_far)

@@ -1,5 +1,5 @@
 use Rattle.std.proofs.Common.{◌≡◌, ℕ, ◌+◌, ◌<◌, ◌≤◌}
-use Rattle.requirement_table.specs.Slots.{contains_slot, most_slots, sum_where}
+use Rattle.bit_sets.specs.Sets.{has_bit, most_slots, sum_where}
 use Rattle.requirement_table.specs.Table.{width_in, worst_in}
 use Rattle.plan_report.specs.Current.{ArePassed}
 use Rattle.plan_report.proofs.load.width.Given as goal
@@ -9,7 +9,7 @@ abbrev pub invariant-loop-slot : goal.invariant-loop-slot
 invariant-loop-slot l = record {
   later : l.cycle < l.until;
   so_far : (c : ℕ) → l.cycle ≤ c → c < l.until
-      → l.bits + sum_where most_slots (contains_slot l.left) (worst_in l.placed c) ≡ width_in l.placed c (contains_slot l.fn.mask);
+      → l.bits + sum_where most_slots (has_bit l.left) (worst_in l.placed c) ≡ width_in l.placed c (has_bit l.fn.mask);
   passed : ArePassed l.placed l.places.first l.cycle;
 }
 

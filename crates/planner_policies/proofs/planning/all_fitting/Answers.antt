@@ -1,7 +1,7 @@
 use Rattle.std.proofs.Common.{◌≡◌, None, get_or, take}
 use Rattle.std.proofs.lemmas.List.{take_all}
 use Rattle.requirement_table.specs.declared.entries.Placed.{Placed}
-use Rattle.requirement_table.specs.Slots.{contains_slot}
+use Rattle.bit_sets.specs.Sets.{has_bit}
 use Rattle.planner_policies.specs.Due.{IsDueOf, IsPending}
 use Rattle.planner_policies.specs.Plan.{planning_of}
 use Rattle.planner_policies.proofs.AllFitting.{IsGathered, gathered-more, gathered-none, gathered-whole}
@@ -21,7 +21,7 @@ loop-row-preserved c =
     let ranked = c.args.ranked.now in
     let plan = planning_of ranked c.args.w c.args.state.now.cycle c.args.state.now.pending in
     let cycle = c.args.state.now.cycle in
-    let before = contains_slot c.args.state.now.pending in
+    let before = has_bit c.args.state.now.pending in
     let rows = c.rows-rows.result.now in
     let k = c.loop-row.row-index in
     let so_far = c.loop-row.invariant in
@@ -50,7 +50,7 @@ returns c =
     let rows = c.rows-rows.result.now in
     let k = c.loop-row.row-index in
     let all : take k rows ≡ rows = take_all k rows c.loop-row-test.false in
-    let done : IsGathered plan c.args.state.now.cycle (contains_slot c.args.state.now.pending) rows c.loop-row.mask c.loop-row.width
+    let done : IsGathered plan c.args.state.now.cycle (has_bit c.args.state.now.pending) rows c.loop-row.mask c.loop-row.width
     = rw all at c.loop-row.invariant in
     record {
       fitting = gathered-whole plan c.args.state.now.cycle c.args.state.now.pending rows c.loop-row.mask c.loop-row.width c.rows-rows.ensures.well_placed

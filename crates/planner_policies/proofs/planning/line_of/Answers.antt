@@ -1,7 +1,7 @@
 use Rattle.std.proofs.Common.{rules, ◌≡◌, None, get_or, take}
 use Rattle.std.proofs.lemmas.List.{take_all}
 use Rattle.requirement_table.specs.declared.entries.Placed.{Placed}
-use Rattle.requirement_table.specs.Slots.{contains_slot}
+use Rattle.bit_sets.specs.Sets.{has_bit}
 use Rattle.planner_policies.specs.Due.{IsDueOf, IsPending}
 use Rattle.planner_policies.specs.Plan.{planning_of}
 use Rattle.planner_policies.proofs.Rows.{IsLineOf, line_of-more, line_of-none, more-of, room-of, stands-in, whole_line-of}
@@ -20,7 +20,7 @@ put-requires g c =
     let ranked = c.args.ranked.now in
     let plan = planning_of ranked c.args.w c.args.state.now.cycle c.args.state.now.pending in
     let cycle = c.args.state.now.cycle in
-    let before = contains_slot c.args.state.now.pending in
+    let before = has_bit c.args.state.now.pending in
     let rows = c.rows-rows.result.now in
     let k = c.loop-row.row-index in
     let same = c.rows-rows.ensures.same in
@@ -39,7 +39,7 @@ loop-row-preserved g c =
     let ranked = c.args.ranked.now in
     let plan = planning_of ranked c.args.w c.args.state.now.cycle c.args.state.now.pending in
     let cycle = c.args.state.now.cycle in
-    let before = contains_slot c.args.state.now.pending in
+    let before = has_bit c.args.state.now.pending in
     let rows = c.rows-rows.result.now in
     let k = c.loop-row.row-index in
     let same = c.rows-rows.ensures.same in
@@ -66,7 +66,7 @@ returns g c =
     let rows = c.rows-rows.result.now in
     let k = c.loop-row.row-index in
     let all : take k rows ≡ rows = take_all k rows c.loop-row-test.false in
-    let done : IsLineOf plan cycle (contains_slot c.args.state.now.pending) rows c.loop-row.line = rw all at c.loop-row.invariant in
+    let done : IsLineOf plan cycle (has_bit c.args.state.now.pending) rows c.loop-row.line = rw all at c.loop-row.invariant in
     record {
       line = whole_line-of plan cycle c.args.state.now.pending rows c.loop-row.line c.rows-rows.ensures.well_placed c.rows-rows.ensures.same
           c.requires.valid done;

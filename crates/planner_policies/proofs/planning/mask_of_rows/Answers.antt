@@ -1,5 +1,5 @@
 use Rattle.std.proofs.Common.{rules, refl}
-use Rattle.requirement_table.specs.Slots.{contains_slot}
+use Rattle.bit_sets.specs.Sets.{has_bit}
 use Rattle.planner_policies.specs.Due.{IsSetOf, left_of, taken_of}
 use Rattle.planner_policies.specs.Plan.{planning_of}
 use Rattle.planner_policies.proofs.Cycles.{planned-set, split-of}
@@ -16,7 +16,7 @@ pub returns : goal.returns
 returns g c =
     let plan = planning_of c.args.ranked.now c.args.w c.args.state.now.cycle c.args.state.now.pending in
     let cycle = c.args.state.now.cycle in
-    let before = contains_slot c.args.state.now.pending in
+    let before = has_bit c.args.state.now.pending in
     let line = c.line_of-line.result in
     let taken = taken_of plan.fill plan.window line in
     let left = left_of plan.fill plan.window line in

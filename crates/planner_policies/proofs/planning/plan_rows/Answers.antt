@@ -1,7 +1,7 @@
 use Rattle.std.proofs.Common.{rules, Some, refl}
 use Rattle.std.specs.Result.{IfErr, IfOk}
 use Rattle.std.proofs.lemmas.Result.{IfErr-weaker, IfOk-weaker}
-use Rattle.requirement_table.specs.Slots.{contains_slot}
+use Rattle.bit_sets.specs.Sets.{has_bit}
 use Rattle.planner_policies.specs.Due.{IsLeastMissed, IsLineTaken, IsPlanned, left_of, taken_of}
 use Rattle.planner_policies.specs.Plan.{IsMissIn, planning_of}
 use Rattle.planner_policies.proofs.Cycles.{line-planned, miss-is, split-of}
@@ -18,7 +18,7 @@ pub returns-clause-planned : goal.returns-clause-planned
 returns-clause-planned g c =
     let plan = planning_of c.args.ranked.now c.args.w c.args.state.now.cycle c.args.state.now.pending in
     let cycle = c.args.state.now.cycle in
-    let before = contains_slot c.args.state.now.pending in
+    let before = has_bit c.args.state.now.pending in
     let line = c.line_of-line.result in
     let made : IfOk c.plan_line.result (λ r. IsLineTaken plan.fill plan.window line cycle r.mask r.width r.next.pending)
     = rw (c.as_slice.ensures.list, c.fill.ensures.value) at c.plan_line.ensures.planned in
@@ -30,7 +30,7 @@ pub returns-clause-missed : goal.returns-clause-missed
 returns-clause-missed g c =
     let plan = planning_of c.args.ranked.now c.args.w c.args.state.now.cycle c.args.state.now.pending in
     let cycle = c.args.state.now.cycle in
-    let before = contains_slot c.args.state.now.pending in
+    let before = has_bit c.args.state.now.pending in
     let line = c.line_of-line.result in
     let taken = taken_of plan.fill plan.window line in
     let left = left_of plan.fill plan.window line in

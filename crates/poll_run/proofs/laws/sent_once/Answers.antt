@@ -1,6 +1,6 @@
 use Rattle.std.proofs.Common.{◌<◌, ℕ, arith, subst}
 use Rattle.std.proofs.lemmas.Option.{get_or_from_slice_get, slice_get_within}
-use Rattle.requirement_table.specs.Slots.{most_slots}
+use Rattle.bit_sets.specs.Sets.{most_slots}
 use Rattle.master_core.specs.Openings.{openings_of}
 use Rattle.replay_run.proofs.Shared.{is_rules}
 use Rattle.sporadic_poll.specs.declared.stream.Stream.{Stream}

@@ -1,6 +1,6 @@
 use Rattle.std.proofs.Common.{refl, sym, subst, arith}
 use Rattle.std.proofs.lemmas.List.Sorted.{length_permutation}
-use Rattle.requirement_table.specs.Slots.{contains_slot}
+use Rattle.bit_sets.specs.Sets.{has_bit}
 use Rattle.planner_policies.specs.Plan.{IsValid}
 use Rattle.release_wheel.specs.Wheel.{TurnedAt}
 use Rattle.release_wheel.proofs.filling.fill.Goals as goal
@@ -36,7 +36,7 @@ returns-clause-kept c =
       turned = λ _. record {
         turned = record {
           room = filled.room;
-          each = λ row below. subst (λ slots. TurnedAt rows dues (contains_slot slots) cycle row) (sym filled.slots) (filled.each row below);
+          each = λ row below. subst (λ slots. TurnedAt rows dues (has_bit slots) cycle row) (sym filled.slots) (filled.each row below);
           quiet_is = λ wrong. absurd (omega arith);
         };
         of_ranking = record { policy = c.policy-wheel.ensures.value; same = filled.same; order = filled.order };

@@ -1,7 +1,7 @@
 use Rattle.std.proofs.Common.{◌≡◌, ◌+◌, ℕ, suc, sym, subst, ap, ◌∙◌, arith, get_or, length, refl}
 use Rattle.std.proofs.lemmas.List.Sorted.{length_permutation}
-use Rattle.requirement_table.specs.Slots.{contains_slot}
-use Rattle.requirement_table.proofs.Shared.{contains_slot-none}
+use Rattle.bit_sets.specs.Sets.{has_bit}
+use Rattle.bit_sets.proofs.Shared.{has_bit-none}
 use Rattle.release_wheel.specs.Wheel.{HasRoomFor, IsFilledTo, no_entry}
 use Rattle.release_wheel.proofs.RowFilling.{filled-more, filled-start, filled-whole}
 use Rattle.release_wheel.proofs.RowSums.{sum-none}
@@ -22,9 +22,9 @@ loop-row-init c =
     let few = c.requires.room.few in
     filled-start list c.args.state.now.cycle c.args.state.now.pending rows c.of_slots-dues.result (omega arith) (omega (arith, made.entries))
     (omega (arith, made.nexts)) (omega (arith, made.lasts)) made.places made.empty
-    (sum-none rows.entries.items c.of_slots-dues.result.waiting none.rows (λ slot. ap (λ m. contains_slot m slot) none.slots ∙ c.empty.ensures.slots slot) none.cost)
+    (sum-none rows.entries.items c.of_slots-dues.result.waiting none.rows (λ slot. ap (λ m. has_bit m slot) none.slots ∙ c.empty.ensures.slots slot) none.cost)
     (sum-none rows.entries.items c.of_slots-dues.result.always (ap (λ s. s.rows) none.always)
-    (λ slot. ap (λ s. contains_slot s.slots slot) none.always ∙ contains_slot-none slot) (ap (λ s. s.cost) none.always))
+    (λ slot. ap (λ s. has_bit s.slots slot) none.always ∙ has_bit-none slot) (ap (λ s. s.cost) none.always))
 
 pub loop-row-preserved : goal.loop-row-preserved
 loop-row-preserved c =

@@ -1,5 +1,5 @@
 use Rattle.std.proofs.Common.{◌∙◌, arith}
-use Rattle.release_wheel.specs.Wheel.{rows_left}
+use Rattle.bit_sets.specs.Rows.{rows_left}
 use Rattle.release_wheel.proofs.RowPicking.{looking-on, looking-sooner}
 use Rattle.release_wheel.proofs.picking.look_through.Goals as goal
 

@@ -1,6 +1,6 @@
 use Rattle.std.proofs.Common.{◌≡◌}
 use Rattle.release_wheel.specs.Taking.{IsSoonest}
-use Rattle.release_wheel.specs.Wheel.{rows_left}
+use Rattle.bit_sets.specs.Rows.{rows_left}
 use Rattle.release_wheel.proofs.picking.look_through.Given as goal
 
 abbrev pub invariant-loop-rest : goal.invariant-loop-rest

@@ -1,11 +1,11 @@
 use Rattle.std.proofs.Common.{rules, ◌≡◌, ◌+◌, ◌-◌, ◌||◌, nat_eq, true, false, Bool, ℕ, get_or, length, ap, sym, subst, refl, ◌∙◌, arith}
 use Rattle.requirement_table.specs.Instance.{worst}
-use Rattle.requirement_table.specs.Slots.{contains_slot}
+use Rattle.bit_sets.specs.Sets.{has_bit}
 use Rattle.release_wheel.specs.Taking.{IsTaking, goes_by, last_of}
-use Rattle.release_wheel.specs.Wheel.{cost_at, cost_below, has_row, no_entry}
+use Rattle.release_wheel.specs.Wheel.{cost_at, cost_below, no_entry}
 use Rattle.planner_policies.proofs.Shared.{same-read}
 use Rattle.release_wheel.proofs.RowPicking.{due-below, due-less}
-use Rattle.release_wheel.proofs.RowSets.{has-none}
+use Rattle.bit_sets.proofs.Shared.{has_bit-none}
 use Rattle.release_wheel.proofs.RowSums.{cost-both}
 use Rattle.release_wheel.proofs.RowTaking.{cost-none, nothing-fits, nothing-left, taking-pass, taking-start, taking-take, took}
 use Rattle.release_wheel.proofs.picking.pick_rows.Goals as goal
@@ -63,7 +63,7 @@ loop-rest-preserved-then-cost-w c =
     subst P (sym cost)
     (taking-take c.args.fill c.args.w order entries c.args.due l.rest l.left l.mask l.width row l.invariant c.requires.distinct below first less
     c.without-rest.ensures.rows c.with-mask.result (omega arith)
-    (λ slot. c.with-mask.ensures.slots slot ∙ ap (λ p. nat_eq slot p.entry.slot || contains_slot l.mask slot) entry))
+    (λ slot. c.with-mask.ensures.slots slot ∙ ap (λ p. nat_eq slot p.entry.slot || has_bit l.mask slot) entry))
 
 pub returns-then-stops : goal.returns-then-stops
 returns-then-stops c =
@@ -112,7 +112,7 @@ returns c =
     record {
       took = took c.args.fill c.args.w (goes_by (last_of w)) entries c.args.due l.rest l.left l.mask l.width l.left l.invariant
           (λ dues back of is. nothing-left c.args.fill (c.args.w - l.width) l.rest dues back empty is)
-          (λ i. sym (first-false (has_row l.rest i) (has_row l.left i) (ap (λ m. has_row m i) empty ∙ has-none i))) (omega arith) c.known-2.ensures.below;
+          (λ i. sym (first-false (has_bit l.rest i) (has_bit l.left i) (ap (λ m. has_bit m i) empty ∙ has_bit-none i))) (omega arith) c.known-2.ensures.below;
     }
   where
     first-false : (a b : Bool) → a ≡ false → (a || b) ≡ b

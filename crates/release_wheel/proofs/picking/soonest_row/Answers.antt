@@ -1,8 +1,8 @@
 use Rattle.std.proofs.Common.{ℕ, get_or, sym, subst, ◌∙◌}
 use Rattle.release_wheel.specs.Taking.{IsSoonest}
-use Rattle.release_wheel.specs.Wheel.{rows_left}
+use Rattle.bit_sets.specs.Rows.{rows_left}
 use Rattle.release_wheel.proofs.RowPicking.{looking-end, looking-start}
-use Rattle.release_wheel.proofs.RowWords.{none-left}
+use Rattle.bit_sets.proofs.Shared.{none-left}
 use Rattle.release_wheel.proofs.picking.soonest_row.Goals as goal
 
 pub look_through-low-requires-clause-soonest : goal.look_through-low-requires-clause-soonest

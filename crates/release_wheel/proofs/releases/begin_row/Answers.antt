@@ -1,5 +1,6 @@
 use Rattle.std.proofs.Common.{◌&&◌, not, ap, get_or, length, refl, ◌∙◌, arith}
-use Rattle.release_wheel.specs.Wheel.{has_row, is_there}
+use Rattle.release_wheel.specs.Wheel.{is_there}
+use Rattle.bit_sets.specs.Sets.{has_bit}
 use Rattle.release_wheel.proofs.RowSums.{costs-small}
 use Rattle.release_wheel.proofs.releases.begin_row.Goals as goal
 
@@ -16,7 +17,7 @@ returns c = record {
     places = λ k other below.
         let room = c.requires.room.places in
         c.take_off.ensures.rows k other (omega arith)
-        ∙ ap (λ place. has_row (get_or c.args.rows.now.places.items k 0) other && not (is_there place c.args.row k other)) c.place_of.ensures.place;
+        ∙ ap (λ place. has_bit (get_or c.args.rows.now.places.items k 0) other && not (is_there place c.args.row k other)) c.place_of.ensures.place;
     others = refl;
     added = record { rows = c.add-dues.ensures.rows; slots = c.add-dues.ensures.slots; cost = c.add-dues.ensures.cost };
   };

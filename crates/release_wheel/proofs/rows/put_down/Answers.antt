@@ -1,5 +1,6 @@
 use Rattle.std.proofs.Common.{◌%◌, ◌||◌, ◌&&◌, ap, ◌∙◌, arith, get_or, rules}
-use Rattle.release_wheel.specs.Wheel.{has_row, is_there}
+use Rattle.release_wheel.specs.Wheel.{is_there}
+use Rattle.bit_sets.specs.Sets.{has_bit}
 use Rattle.release_wheel.proofs.rows.put_down.Goals as goal
 
 pub returns : goal.returns
@@ -12,6 +13,6 @@ returns c = record {
     places = λ k other below.
         let room = c.requires.places in
         c.put_on.ensures.rows k other (omega arith)
-        ∙ ap (λ place. has_row (get_or c.args.rows.now.places.items k 0) other || (c.args.comes && is_there place c.args.row k other)) c.place_of.ensures.place;
+        ∙ ap (λ place. has_bit (get_or c.args.rows.now.places.items k 0) other || (c.args.comes && is_there place c.args.row k other)) c.place_of.ensures.place;
   };
 }

@@ -1,10 +1,11 @@
 use Rattle.std.proofs.Common.{nat_le, ◌≡◌, ◌≢◌, ◌-◌, ◌||◌, ◌∙◌, ap, sym, subst, ℕ, ⊎_elim, arith, length}
 use Rattle.std.proofs.lemmas.Bool.{cases_eq}
 use Rattle.release_wheel.specs.Taking.{IsTaking}
-use Rattle.release_wheel.specs.Wheel.{has_row, rows_left}
+use Rattle.bit_sets.specs.Sets.{has_bit}
+use Rattle.bit_sets.specs.Rows.{rows_left}
 use Rattle.release_wheel.proofs.RowSums.{cost-both}
 use Rattle.release_wheel.proofs.RowTaking.{nothing-left, taking-start, took}
-use Rattle.release_wheel.proofs.RowWords.{high-set, low-set, none-left}
+use Rattle.bit_sets.proofs.Shared.{high-set, low-set, none-left}
 use Rattle.release_wheel.proofs.taking.take_rows.Goals as goal
 
 pub take_word-low-requires-clause-taking : goal.take_word-low-requires-clause-taking
@@ -26,8 +27,8 @@ returns-then-low-ne0 c =
     let rest = rows_left last.rest in
     let some = c.if-low-ne0.true in
     let is = c.of_words.ensures.set ∙ low-set last.rest (ends.base ∙ c.rest_of.ensures.low) in
-    let rows : (i : ℕ) → has_row c.both.result i ≡ (has_row rest i || has_row last.left i)
-    = λ i. c.both.ensures.rows i ∙ ap (λ set'. has_row set' i || has_row last.left i) is in
+    let rows : (i : ℕ) → has_bit c.both.result i ≡ (has_bit rest i || has_bit last.left i)
+    = λ i. c.both.ensures.rows i ∙ ap (λ set'. has_bit set' i || has_bit last.left i) is in
     record {
       took = took c.args.fill c.args.w nat_le entries c.args.due rest last.left last.mask last.width c.both.result ends.taking (ends.stops (omega arith)) rows
           (cost-both entries (length entries) rest last.left c.both.result ends.taking.apart rows) c.known.ensures.below;
@@ -41,8 +42,8 @@ returns c =
     let rest = rows_left last.rest in
     let behind = ends.behind ∙ c.next_word.ensures.last in
     let is = c.of_words-2.ensures.set ∙ high-set last.rest (ends.base ∙ c.next_word.ensures.high) behind in
-    let rows : (i : ℕ) → has_row c.both-2.result i ≡ (has_row rest i || has_row last.left i)
-    = λ i. c.both-2.ensures.rows i ∙ ap (λ set'. has_row set' i || has_row last.left i) is in
+    let rows : (i : ℕ) → has_bit c.both-2.result i ≡ (has_bit rest i || has_bit last.left i)
+    = λ i. c.both-2.ensures.rows i ∙ ap (λ set'. has_bit set' i || has_bit last.left i) is in
     record {
       took = took c.args.fill c.args.w nat_le entries c.args.due rest last.left last.mask last.width c.both-2.result ends.taking
           (λ dues back of is.

@@ -1,6 +1,7 @@
 use Rattle.std.proofs.Common.{nat_le, ◌≡◌, ◌+◌, ◌∙◌, sym, refl, subst, ℕ, arith}
 use Rattle.release_wheel.specs.Taking.{IsTaking}
-use Rattle.release_wheel.specs.Wheel.{cost_at, rows_left}
+use Rattle.release_wheel.specs.Wheel.{cost_at}
+use Rattle.bit_sets.specs.Rows.{rows_left}
 use Rattle.release_wheel.proofs.RowTaking.{first-row, nothing-fits, taking-pass, taking-take}
 use Rattle.release_wheel.proofs.taking.take_word.Goals as goal
 

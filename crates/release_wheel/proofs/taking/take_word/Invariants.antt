@@ -1,6 +1,6 @@
 use Rattle.std.proofs.Common.{nat_le, ◌≡◌}
 use Rattle.release_wheel.specs.Taking.{IsTaking}
-use Rattle.release_wheel.specs.Wheel.{rows_left}
+use Rattle.bit_sets.specs.Rows.{rows_left}
 use Rattle.release_wheel.proofs.taking.take_word.Given as goal
 
 abbrev pub invariant-loop-rest : goal.invariant-loop-rest

@@ -1,6 +1,6 @@
 use Rattle.std.proofs.Common.{◌≡◌, ℕ, true, false, ◌<◌, sym, subst, ◌∙◌, ⊎_elim, arith}
 use Rattle.std.proofs.lemmas.Bool.{both_ways, cases_Bool}
-use Rattle.requirement_table.specs.Slots.{contains_slot}
+use Rattle.bit_sets.specs.Sets.{has_bit}
 use Rattle.release_wheel.specs.declared.wheel.Wheel.{Wheel}
 use Rattle.planner_policies.specs.Due.{IsPlanned}
 use Rattle.planner_policies.specs.Plan.{Ranking, planning_of}
@@ -26,7 +26,7 @@ returns-clause-planned c = λ window.
     let ready : IsReady ranking w.dues.waiting.slots w = record { released = quiet-released w turned less; of_ranking = (kept.turned on).of_ranking; well = c.requires.well; valid = kept.valid } in
     let cost = quiet-cost w turned less in
     let number = c.empty.ensures.number in
-    let P : ℕ → Type 0 = λ width. IsPlanned (planning_of ranking window w.cycle w.dues.waiting.slots) w.cycle (contains_slot w.dues.waiting.slots) c.empty.result width c.empty-wheel.result in
+    let P : ℕ → Type 0 = λ width. IsPlanned (planning_of ranking window w.cycle w.dues.waiting.slots) w.cycle (has_bit w.dues.waiting.slots) c.empty.result width c.empty-wheel.result in
     subst P cost
     (planned-all ranking w.dues.waiting.slots window w ready c.empty.result (omega arith) (λ slot. c.empty.ensures.slots slot ∙ sym (quiet-slots w slot turned less)) (omega arith)
     c.empty-wheel.result c.empty-wheel.ensures.number)
@@ -40,7 +40,7 @@ returns-clause-kept c =
     let near = c.requires.cycle in
     record {
       near = omega arith;
-      valid = λ slot in'. absurd (both_ways (contains_slot c.empty-wheel.result slot) (c.empty-wheel.ensures.slots slot) in');
+      valid = λ slot in'. absurd (both_ways (has_bit c.empty-wheel.result slot) (c.empty-wheel.ensures.slots slot) in');
       plain = kept.plain;
       turned = λ on.
           let was = kept.turned on in

@@ -1,6 +1,6 @@
 use Rattle.std.proofs.Common.{◌≡◌, ◌<◌, ◌≤◌, ℕ, refl, sym, subst, ◌∙◌, ⊎_elim, arith}
 use Rattle.std.proofs.lemmas.Bool.{cases_lt}
-use Rattle.requirement_table.specs.Slots.{contains_slot}
+use Rattle.bit_sets.specs.Sets.{has_bit}
 use Rattle.planner_policies.specs.Due.{IsPlanned}
 use Rattle.planner_policies.specs.Plan.{IsValid, Ranking, planning_of}
 use Rattle.release_wheel.specs.Passed.{IsPassed}
@@ -8,7 +8,7 @@ use Rattle.release_wheel.proofs.wheel.pass_quiet.Goals as goal
 
 -- a cycle is passed in which nothing is planned, and after which the same is pending
 passed-at : (ranking : Ranking) (window c slots mask width next : ℕ)
-    → IsPlanned (planning_of ranking window c slots) c (contains_slot slots) mask width next → mask ≡ 0 → next ≡ slots
+    → IsPlanned (planning_of ranking window c slots) c (has_bit slots) mask width next → mask ≡ 0 → next ≡ slots
     → IsPassed (planning_of ranking window c slots)
 passed-at ranking window c slots mask width next planned mask_is next_is = record {
   planned = sym planned.planned ∙ mask_is;

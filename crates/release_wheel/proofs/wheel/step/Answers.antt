@@ -1,7 +1,7 @@
 use Rattle.std.proofs.Common.{◌≡◌, ◌+◌, ◌^◌, ◌<◌, ℕ, true, List, IsPermutation, sym, subst, ap, ◌∙◌, arith}
 use Rattle.std.proofs.lemmas.Bool.{both_ways}
 use Rattle.requirement_table.specs.declared.entries.Placed.{Placed}
-use Rattle.requirement_table.specs.Slots.{contains_slot}
+use Rattle.bit_sets.specs.Sets.{has_bit}
 use Rattle.requirement_table.specs.Table.{IsWellPlaced}
 use Rattle.release_wheel.specs.declared.wheel.Wheel.{Wheel}
 use Rattle.planner_policies.specs.Due.{IsPlanned}
@@ -25,7 +25,7 @@ table-on a b c one other = record {
 planned-on : (ranking : Ranking) (window pending : ℕ) (old released new : Wheel) (mask width : ℕ) → released.cycle ≡ old.cycle → IsSameTable old released
     → IsPlannedOn ranking window pending released new mask width → IsPlannedOn ranking window pending old new mask width
 planned-on ranking window pending old released new mask width cycle table on =
-    let P : ℕ → Type 0 = λ at. IsPlanned (planning_of ranking window at pending) at (contains_slot pending) mask width new.dues.waiting.slots in
+    let P : ℕ → Type 0 = λ at. IsPlanned (planning_of ranking window at pending) at (has_bit pending) mask width new.dues.waiting.slots in
     record {
       planned = subst P cycle on.planned;
       next = on.next ∙ ap (λ at. at + 1) cycle;

@@ -1,5 +1,5 @@
 use Rattle.std.proofs.Common.{◌+◌, ◌-◌, ◌&&◌, not, ap, ◌∙◌, length, arith}
-use Rattle.requirement_table.specs.Slots.{contains_slot}
+use Rattle.bit_sets.specs.Sets.{has_bit}
 use Rattle.release_wheel.proofs.RowCycles.{some-on}
 use Rattle.release_wheel.proofs.RowSums.{costs-small}
 use Rattle.release_wheel.proofs.wheel.take_some.Goals as goal
@@ -22,5 +22,5 @@ returns-clause-planned c =
     let parts = part.cost in
     some-on c.args.ranked.now pending c.args.w w c.requires.ready part.line part.whole part.due result.left result.mask result.width
     c.difference-pending.result part.due_is part.left_is part.mask_is part.width_is part.fits c.known.ensures.below
-    (λ slot. c.difference-pending.ensures.slots slot ∙ ap (λ b. b && not (contains_slot result.mask slot)) (c.union-all.ensures.slots slot))
+    (λ slot. c.difference-pending.ensures.slots slot ∙ ap (λ b. b && not (has_bit result.mask slot)) (c.union-all.ensures.slots slot))
     c.in_ok-soonest.soonest (w.dues.waiting.cost + w.dues.always.cost - result.width) c.in_ok-soonest.ensures.in_time (omega arith)

@@ -1,7 +1,7 @@
 use Rattle.std.proofs.Common.{◌≤◌, None, IsSomeAnd, get_or, take, length-set, sym, ◌∙◌, arith}
 use Rattle.std.proofs.lemmas.List.{take_more}
 use Rattle.std.proofs.lemmas.List.Elements.{All-nil}
-use Rattle.requirement_table.specs.Slots.{most_slots}
+use Rattle.bit_sets.specs.Sets.{most_slots}
 use Rattle.requirement_table.specs.Table.{IsInRange}
 use Rattle.requirement_table.proofs.FreeSlots.{no_entry, free-start, free-more, free-before, well_placed-more}
 use Rattle.requirement_table.proofs.lists.well_placed.Goals as goal

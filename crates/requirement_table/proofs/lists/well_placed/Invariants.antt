@@ -1,5 +1,5 @@
 use Rattle.std.proofs.Common.{◌≡◌, ℕ, ◌<◌, length, take, None, slice_index_or}
-use Rattle.requirement_table.specs.Slots.{most_slots}
+use Rattle.bit_sets.specs.Sets.{most_slots}
 use Rattle.requirement_table.specs.Table.{IsWellPlaced}
 use Rattle.requirement_table.proofs.FreeSlots.{IsFreeFrom}
 use Rattle.requirement_table.proofs.lists.well_placed.Given as goal

@@ -1,5 +1,5 @@
 use Rattle.std.proofs.Common.{◌-◌, ◌<◌, arith, get_or, subst}
-use Rattle.requirement_table.specs.Slots.{most_slots}
+use Rattle.bit_sets.specs.Sets.{most_slots}
 use Rattle.change_protocol.specs.Slots.{IsLastAt}
 use Rattle.change_protocol.proofs.Uses.{one-less}
 use Rattle.change_protocol.proofs.slots.Table.last.Goals as goal

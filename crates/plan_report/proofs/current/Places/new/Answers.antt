@@ -1,5 +1,5 @@
 use Rattle.std.proofs.Common.{arith}
-use Rattle.requirement_table.specs.Slots.{most_slots}
+use Rattle.bit_sets.specs.Sets.{most_slots}
 use Rattle.plan_report.proofs.OneOfSlot.{zeros-at}
 use Rattle.plan_report.proofs.current.Places.new.Goals as goal
 
