@@ -1,10 +1,9 @@
 -- Cycles in which plans go on in the same way, and plannings that are the same.
-use Rattle.std.proofs.Common.{◌≡◌, ℕ, zero, suc, ◌+◌, ◌<◌, Bool, false, ◌&&◌, List, ◌++◌, ◌∷◌, [], refl, sym, ap, ◌∙◌, arith}
-use Rattle.std.proofs.lemmas.Bool.{lt-ltb}
+use Rattle.std.proofs.Common.{◌≡◌, ℕ, zero, suc, ◌+◌, ◌<◌, Bool, false, List, ◌++◌, ◌∷◌, [], refl, sym, ap, ◌∙◌, arith}
 use Rattle.requirement_table.specs.declared.entries.Placed.{Placed}
 use Rattle.bit_sets.specs.Sets.{has_bit, set_of, most_slots}
 use Rattle.requirement_table.specs.Table.{is_last_in, releases_in, worst_in}
-use Rattle.bit_sets.proofs.Shared.{has_bit-none, has_bit-set_of, set_of-same}
+use Rattle.bit_sets.proofs.Shared.{has_bit-none, set_of-same, set_of-has}
 use Rattle.planner_policies.specs.declared.Policy.{Policy}
 use Rattle.planner_policies.specs.Plan.{HasNoMiss, Planning, Ranking, is_by, is_missed_at, is_missed_in, left_after, mask_at, pending_at, pending_before, planned_in, planning_of}
 use Rattle.planner_policies.proofs.Shared.{AreAlike, left-alike, missed-alike, planned-alike}
@@ -35,7 +34,7 @@ like-sym policy one other c d like = record {
 
 -- a set contains the slots of which it was made
 pub agree-set : (p : ℕ → Bool) → Agree (has_bit (set_of most_slots p)) p
-agree-set p slot known = has_bit-set_of most_slots p slot ∙ ap (λ b. b && p slot) (lt-ltb slot most_slots known)
+agree-set p slot known = set_of-has most_slots p slot known
 
 pub none-set : (p : ℕ → Bool) (slot : ℕ) → set_of most_slots p ≡ 0 → slot < most_slots → p slot ≡ false
 none-set p slot empty known = sym (agree-set p slot known) ∙ ap (λ mask. has_bit mask slot) empty ∙ has_bit-none slot

@@ -28,11 +28,14 @@ bit_at-out set bit out = let small = bit_at-lt set bit in let no = eqb-false (bi
 pub has_bit-none : (bit : ℕ) → has_bit 0 bit ≡ false
 has_bit-none bit = rw (bit_at-zero bit) refl
 
+pub has_bit-empty : (set bit : ℕ) → set ≡ 0 → has_bit set bit ≡ false
+has_bit-empty set bit empty = ap (λ m. has_bit m bit) empty ∙ has_bit-none bit
+
 -- a set that has something is not empty
 pub not-empty : (set bit : ℕ) → has_bit set bit ≡ true → 0 < set
 not-empty set bit has =
     ⊎_elim
-    (λ (none : set ≡ 0). absurd (both_ways (has_bit set bit) (ap (λ m. has_bit m bit) none ∙ has_bit-none bit) has))
+    (λ (none : set ≡ 0). absurd (both_ways (has_bit set bit) (has_bit-empty set bit none) has))
     (λ (some : set ≢ 0). omega arith)
     (cases_eq set 0)
 

@@ -1,5 +1,5 @@
 -- The least slot of a set, and the set without it.
-use Rattle.std.proofs.Common.{◌≡◌, ℕ, ◌+◌, ◌-◌, ◌*◌, ◌/◌, ◌%◌, ◌^◌, ◌<◌, ◌&&◌, not, nat_eq, None, Some, bit_and, sym, ap, ◌∙◌, arith}
+use Rattle.std.proofs.Common.{◌≡◌, ℕ, ◌+◌, ◌-◌, ◌*◌, ◌/◌, ◌%◌, ◌^◌, ◌<◌, ◌&&◌, not, false, nat_eq, None, Some, bit_and, sym, ap, ◌∙◌, arith}
 use Rattle.std.specs.Int.Bits.{and_self}
 use Rattle.std.proofs.lemmas.Nat.{and_block, shr_split}
 use Rattle.bit_sets.specs.Least.{least_where}

@@ -1,5 +1,5 @@
 -- The least slot with a property, and the lowest bit of a set of slots.
-use Rattle.std.proofs.Common.{◌≡◌, ℕ, zero, suc, ◌/◌, ◌%◌, ◌^◌, ◌<◌, ◌≤◌, Bool, true, false, not, nat_eq, is_some, if◌then◌else◌, Option, Some, None, refl, sym, ap, ◌∙◌, arith, ⊎_elim}
+use Rattle.std.proofs.Common.{◌≡◌, ℕ, zero, suc, ◌%◌, ◌^◌, ◌<◌, ◌≤◌, Bool, true, false, not, nat_eq, Some, None, refl, sym, ap, ◌∙◌, arith, ⊎_elim}
 use Rattle.std.specs.Bool.{then_some}
 use Rattle.std.specs.Int.{trailing_zeros, w64, w128}
 use Rattle.std.proofs.lemmas.Bool.{both_ways, cases_lt}

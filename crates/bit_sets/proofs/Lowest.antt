@@ -5,9 +5,9 @@ use Rattle.std.proofs.Math.Bool.{and-false}
 use Rattle.std.proofs.Math.Nat.{add-mul, mod-lt}
 use Rattle.std.proofs.lemmas.Bool.{both_ways, cases_eq, cases_lt, eq-eqb, eqb-true, ne_eqb}
 use Rattle.std.proofs.lemmas.Nat.{and_le_r, div-add-mod', pow_pos}
-use Rattle.std.proofs.lemmas.Nat.Bits.{bit_at-suc, bit_at-trailing_zeros, bit_at-zero, bit_at_cat_high, bit_at_cat_low, bit_at_lowest}
+use Rattle.std.proofs.lemmas.Nat.Bits.{bit_at-suc, bit_at-trailing_zeros, bit_at_cat_high, bit_at_lowest}
 use Rattle.bit_sets.specs.Sets.{has_bit}
-use Rattle.bit_sets.proofs.Bits.{bit_at-low, bit_at-out, has_bit-and}
+use Rattle.bit_sets.proofs.Bits.{bit_at-low, has_bit-and}
 use Rattle.bit_sets.proofs.SetOf.{empty-set}
 
 -- the place of the lowest bit of a set

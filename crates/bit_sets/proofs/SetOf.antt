@@ -1,8 +1,8 @@
 -- Sets that are made of a test: what such a set has, and that a set is what it has.
-use Rattle.std.proofs.Common.{◌≡◌, ◌≢◌, ℕ, zero, suc, ◌+◌, ◌-◌, ◌*◌, ◌^◌, ◌<◌, ◌≤◌, Bool, true, false, not, ◌&&◌, nat_eq, nat_lt, if◌then◌else◌, refl, sym, ◌∙◌, ap, arith, ⊎_elim}
+use Rattle.std.proofs.Common.{◌≡◌, ◌≢◌, ℕ, zero, suc, ◌+◌, ◌-◌, ◌*◌, ◌^◌, ◌<◌, ◌≤◌, Bool, true, false, not, ◌&&◌, nat_eq, nat_lt, if◌then◌else◌, sym, ◌∙◌, ap, arith, ⊎_elim}
 use Rattle.std.specs.Int.{bit_at}
 use Rattle.std.proofs.Math.Nat.{two-pow-succ}
-use Rattle.std.proofs.lemmas.Bool.{cases_eq, cases_lt}
+use Rattle.std.proofs.lemmas.Bool.{and_parts, cases_eq, cases_lt, lt-ltb}
 use Rattle.std.proofs.lemmas.Bool.Decides.{nat_tests}
 use Rattle.std.proofs.lemmas.Nat.{pow_pos}
 use Rattle.std.proofs.lemmas.Nat.Bits.{bit_at-lt, bit_at-zero, bit_at_above, bit_at_cat_low, bit_at_cat_high, bit_at_lowest, same_from_bits_below}
@@ -61,6 +61,14 @@ has_bit-set_of (suc n) p s =
     let bits = has_bit-next (p n) n (set_of n p) s (set_of-below n p) in
     let low = has_bit-set_of n p s in
     ap (λ set. has_bit set s) next ∙ bits ∙ passes_next n p s _ low
+
+-- of what is below `n` it has what passes
+pub set_of-has : (n : ℕ) (p : ℕ → Bool) (s : ℕ) → s < n → has_bit (set_of n p) s ≡ p s
+set_of-has n p s below = has_bit-set_of n p s ∙ ap (λ b. b && p s) (lt-ltb s n below)
+
+-- and what it has passes
+pub set_of-passes : (n : ℕ) (p : ℕ → Bool) (s : ℕ) → has_bit (set_of n p) s ≡ true → p s ≡ true
+set_of-passes n p s has = (and_parts (nat_lt s n) (p s) (sym (has_bit-set_of n p s) ∙ has)).1
 
 -- a set of numbers below `n` is the set of what it has
 pub set_of-has_bit : (n set : ℕ) → set < 2 ^ n → set ≡ set_of n (has_bit set)

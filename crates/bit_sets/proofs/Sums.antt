@@ -62,6 +62,58 @@ sum_where-most (suc n) most p f each =
     step true x few = few
     step false x few = omega arith
 
+-- a function that gives no more on what passes gives no greater sum
+pub sum_where-fewer : (n : ℕ) (p : ℕ → Bool) (f g : ℕ → ℕ) → ((s : ℕ) → s < n → p s ≡ true → f s ≤ g s) → sum_where n p f ≤ sum_where n p g
+unfolding sum_where
+sum_where-fewer zero p f g fewer = omega arith
+sum_where-fewer (suc n) p f g fewer =
+    let rest = sum_where-fewer n p f g (λ s below. fewer s (omega arith)) in
+    let here = step (p n) (f n) (g n) (fewer n (omega arith)) in
+    omega arith
+  where
+    step : (b : Bool) (x y : ℕ) → (b ≡ true → x ≤ y) → (if b then x else 0) ≤ (if b then y else 0)
+    step true x y less = less refl
+    step false x y less = omega arith
+
+-- the sum of two functions
+pub sum_where-add : (n : ℕ) (p : ℕ → Bool) (f g h : ℕ → ℕ) → ((s : ℕ) → s < n → h s ≡ f s + g s)
+    → sum_where n p h ≡ sum_where n p f + sum_where n p g
+unfolding sum_where
+sum_where-add zero p f g h each = refl
+sum_where-add (suc n) p f g h each =
+    let rest = sum_where-add n p f g h (λ s below. each s (omega arith)) in
+    let here = step (p n) (h n) (f n) (g n) (each n (omega arith)) in
+    omega arith
+  where
+    step : (b : Bool) (x y z : ℕ) → x ≡ y + z → (if b then x else 0) ≡ (if b then y else 0) + (if b then z else 0)
+    step true x y z is = is
+    step false x y z is = refl
+
+-- a function that gives something at one number alone
+pub sum_where-one : (n k x : ℕ) (p : ℕ → Bool)
+    → (n ≤ k → sum_where n p (λ s. if nat_eq k s then x else 0) ≡ 0)
+    × (k < n → sum_where n p (λ s. if nat_eq k s then x else 0) ≡ (if p k then x else 0))
+unfolding sum_where
+sum_where-one zero k x p = (λ _. refl, λ below. absurd (omega arith))
+sum_where-one (suc n) k x p =
+    let rest = sum_where-one n k x p in
+    ⊎_elim
+    (λ (same : k ≡ n).
+    let one : (if nat_eq k n then x else 0) ≡ x = ap (λ (b : Bool). if b then x else 0) (eq-eqb k n same) in
+    let here : (if p n then (if nat_eq k n then x else 0) else 0) ≡ (if p k then x else 0)
+    = ap (λ (y : ℕ). if p n then y else 0) one ∙ ap (λ (s : ℕ). if p s then x else 0) (sym same) in
+    let none = rest.0 (omega arith) in
+    (λ above. absurd (omega arith), λ below. omega arith))
+    (λ (other : k ≢ n).
+    let one : (if nat_eq k n then x else 0) ≡ 0 = ap (λ (b : Bool). if b then x else 0) (ne_eqb k n other) in
+    let here : (if p n then (if nat_eq k n then x else 0) else 0) ≡ 0 = nothing (p n) (if nat_eq k n then x else 0) one in
+    (λ above. let none = rest.0 (omega arith) in omega arith, λ below. let some = rest.1 (omega arith) in omega arith))
+    (cases_eq k n)
+  where
+    nothing : (b : Bool) (y : ℕ) → y ≡ 0 → (if b then y else 0) ≡ 0
+    nothing true y none = none
+    nothing false y none = refl
+
 -- one that passes is left out
 pub sum_where-without : (n k : ℕ) (p q : ℕ → Bool) (f : ℕ → ℕ) → k < n → p k ≡ true → q k ≡ false
     → ((s : ℕ) → s < n → s ≢ k → q s ≡ p s) → sum_where n q f + f k ≡ sum_where n p f

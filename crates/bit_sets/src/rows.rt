@@ -1,7 +1,7 @@
 //! Sets of rows, as numbers: row i is bit i. A set is looked through word by word, since a loop over one word of the
 //! processor costs half of one over two.
 
-ghost use Rattle.std.specs.Prelude.{◌≡◌, ℕ, ◌+◌, ◌*◌, ◌%◌, ◌<◌, ◌^◌, ◌||◌, ◌&&◌, nat_eq, not, true, false};
+ghost use Rattle.std.specs.Prelude.{◌≡◌, ℕ, ◌+◌, ◌<◌, ◌||◌, ◌&&◌, nat_eq, not, true, false};
 ghost use Rattle.bit_sets.specs.Rows.{rows_left};
 ghost use Rattle.bit_sets.specs.Sets.{has_bit};
 

@@ -1,61 +1,19 @@
 -- What the flagged slots of a cycle cost together, entry by entry.
-use Rattle.std.proofs.Common.{◌≡◌, ℕ, zero, suc, ◌+◌, ◌*◌, ◌<◌, ◌≤◌, ◌&&◌, Bool, true, false, cond, eqb, Option, Some, None, IfSome, is_some, List, [], ◌∷◌, length, drop, get_or, slice_get, Contains, refl, sym, ap, ◌∙◌, arith, subst, inl, inr}
+use Rattle.std.proofs.Common.{◌≡◌, ℕ, zero, suc, ◌+◌, ◌*◌, ◌<◌, ◌≤◌, ◌&&◌, Bool, true, false, cond, eqb, Option, Some, None, IfSome, is_some, List, [], ◌∷◌, length, drop, get_or, slice_get, Contains, refl, sym, ap, ◌∙◌, arith, subst}
 use Rattle.std.specs.List.{filter_map, cons_option}
 use Rattle.std.specs.Option.{option_map, option_map_or}
-use Rattle.std.proofs.lemmas.Bool.{cases_eq, eqb-true, eq-eqb, ne_eqb, cond-true, cond-false}
+use Rattle.std.proofs.lemmas.Bool.{eqb-true}
 use Rattle.std.proofs.lemmas.List.Elements.{All-contains}
 use Rattle.std.proofs.Math.Seq.{drop-cons}
 use Rattle.requirement_table.specs.declared.entries.Placed.{Placed}
 use Rattle.requirement_table.specs.Instance.{Instance, MaySend, instance_of, worst, worst_of}
-use Rattle.bit_sets.specs.Sets.{most_slots, sum_where}
+use Rattle.bit_sets.specs.Sets.{most_slots}
 use Rattle.requirement_table.specs.Table.{IsInRange, IsWellPlaced, instance_in, sendable, width_in, worst_in}
 use Rattle.requirement_table.proofs.Shared.{MaySend-from_instance, instance_in-sound, one_instance}
-use Rattle.bit_sets.proofs.Shared.{sum_where-costs, sum_where-most}
+use Rattle.bit_sets.proofs.Shared.{sum_where-costs, sum_where-most, sum_where-add, sum_where-one}
 use Rattle.bus_trace.specs.Logged.{cost_in}
 
 -- Sums
-
-cond-sum : (b : Bool) (x y z : ℕ) → x ≡ y + z → cond b x 0 ≡ cond b y 0 + cond b z 0
-cond-sum true x y z is = is
-cond-sum false x y z is = refl
-
-sum_where-add : (n : ℕ) (q : ℕ → Bool) (f g h : ℕ → ℕ) → ((s : ℕ) → s < n → h s ≡ f s + g s)
-    → sum_where n q h ≡ sum_where n q f + sum_where n q g
-unfolding sum_where
-sum_where-add zero q f g h each = refl
-sum_where-add (suc n) q f g h each =
-    let front = sum_where-add n q f g h (λ s below. each s (omega arith)) in
-    let here = cond-sum (q n) (h n) (f n) (g n) (each n (omega arith)) in
-    omega arith
-
-cond-none : (b : Bool) (x : ℕ) → x ≡ 0 → cond b x 0 ≡ 0
-cond-none true x none = none
-cond-none false x none = refl
-
--- the one slot that costs something
-sum_where-one : (n a x : ℕ) (q : ℕ → Bool)
-    → (n ≤ a → sum_where n q (λ s. cond (eqb a s) x 0) ≡ 0) × (a < n → sum_where n q (λ s. cond (eqb a s) x 0) ≡ cond (q a) x 0)
-unfolding sum_where
-sum_where-one zero a x q = (λ _. refl, λ below. absurd (omega arith))
-sum_where-one (suc n) a x q =
-    let front = sum_where-one n a x q in
-    let none_before = front.0 in
-    let before = front.1 in
-    elim (cases_eq a n) [
-      | inl same ↦
-          let one : cond (eqb a n) x 0 ≡ x = cond-true (eqb a n) x 0 (eq-eqb a n same) in
-          let here : cond (q n) (cond (eqb a n) x 0) 0 ≡ cond (q a) x 0 = ap (λ y. cond (q n) y 0) one ∙ ap (λ s. cond (q s) x 0) (sym same) in
-          let none = front.0 (omega arith) in
-          (λ above. absurd (omega arith), λ below. omega arith)
-      | inr other ↦
-          let one : cond (eqb a n) x 0 ≡ 0 = cond-false (eqb a n) x 0 (ne_eqb a n other) in
-          let here : cond (q n) (cond (eqb a n) x 0) 0 ≡ 0 = cond-none (q n) (cond (eqb a n) x 0) one in
-          (λ above. let none = front.0 (omega arith) in omega arith, λ below. let some = front.1 (omega arith) in omega arith)
-    ]
-
-cond-le : (b : Bool) (x m : ℕ) → x ≤ m → cond b x 0 ≤ m
-cond-le true x m few = few
-cond-le false x m few = omega arith
 
 -- Entries
 

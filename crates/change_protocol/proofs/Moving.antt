@@ -1,6 +1,5 @@
 -- The entries of a list that stay when it is pruned are moved to its end, from the last one on.
 use Rattle.std.proofs.Common.{◌≡◌, ℕ, ◌+◌, ◌-◌, ◌≤◌, Bool, ◌&&◌, ◌||◌, nat_eq, if◌then◌else◌, List, ◌∷◌, All, length, take, drop, get_or, sym, ap, ◌∙◌, subst, arith}
-use Rattle.std.proofs.lemmas.Bool.Decides.{nat_tests}
 use Rattle.std.proofs.lemmas.List.{drop_more, get_or-take, take-take}
 use Rattle.requirement_table.specs.declared.entries.Placed.{Placed}
 use Rattle.bit_sets.specs.Sets.{has_bit}

@@ -1,8 +1,8 @@
 -- From a state of a table that misses no deadline, the state behind its cycle misses none either. An empty table misses
 -- none.
-use Rattle.std.proofs.Common.{◌≡◌, ℕ, ◌+◌, ◌<◌, false, nat_eq, List, [], refl, sym, ap, ◌∙◌, subst, true≢false, arith}
+use Rattle.std.proofs.Common.{◌≡◌, ℕ, ◌+◌, ◌<◌, false, List, [], refl, sym, ap, ◌∙◌, subst, true≢false, arith}
 use Rattle.std.proofs.Math.Bool.{and-false}
-use Rattle.std.proofs.lemmas.Nat.Bits.{bit_at-zero}
+use Rattle.bit_sets.proofs.Shared.{has_bit-none}
 use Rattle.bit_sets.specs.Sets.{has_bit, most_slots, set_of}
 use Rattle.planner_policies.specs.Plan.{IsMissIn, NeverMisses, Planning, is_missed_in, left_after, pending_at, pending_before}
 use Rattle.planner_policies.proofs.Shared.{on-missed}
@@ -74,6 +74,6 @@ not_missed rules placed state No status is why safe six = omega arith
 pub from_nothing : (rules : FttRules) → IsSafe (rules_of rules) [] 0 0
 from_nothing rules = record {
   well_placed = record { in_range = λ i d within. absurd (omega arith); in_order = λ i j d order within. absurd (omega arith) };
-  held = λ slot pending. absurd (true≢false (sym pending ∙ ap (λ (bit : ℕ). nat_eq bit 1) (bit_at-zero slot)));
+  held = λ slot pending. absurd (true≢false (sym pending ∙ has_bit-none slot));
   in_time = λ m slot known. and-false (left_after (plan_from (rules_of rules) [] 0 0) (0 + m) (pending_before (plan_from (rules_of rules) [] 0 0) m) slot);
 }

@@ -2,7 +2,6 @@
 
 ghost use Rattle.std.specs.Prelude.{◌≡◌, ◌≢◌, ◌+◌, ◌≤◌, ◌↔◌, ◌⊎◌, ℕ, IfErr, IfOk, IsTrue, MatchResult, OnOk, length};
 ghost use Rattle.profile.specs.Limits.{cycles_end};
-ghost use Rattle.bit_sets.specs.Sets.{has_bit};
 ghost use Rattle.requirement_table.specs.Table.{IsWellPlaced};
 ghost use Rattle.plan_check.specs.PlanKept.{HasPending};
 ghost use Rattle.plan_check.specs.PlanText.{IsFirstWrongLine, IsPlanOf};

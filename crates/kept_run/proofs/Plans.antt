@@ -1,12 +1,12 @@
 -- What is planned of a list that never misses a deadline, from cycle 0 on.
-use Rattle.std.proofs.Common.{◌≡◌, ℕ, ◌+◌, ◌-◌, ◌<◌, ◌≤◌, ◌&&◌, Bool, true, nat_lt, List, Contains, IsSome, sym, ap, ◌∙◌, subst, arith, zero-add}
-use Rattle.std.proofs.lemmas.Bool.{and_parts, lt-ltb, false≢true}
+use Rattle.std.proofs.Common.{◌≡◌, ℕ, ◌+◌, ◌-◌, ◌<◌, ◌≤◌, Bool, true, List, Contains, IsSome, sym, ap, ◌∙◌, subst, arith, zero-add}
+use Rattle.std.proofs.lemmas.Bool.{false≢true}
 use Rattle.requirement_table.specs.declared.entries.Placed.{Placed}
 use Rattle.requirement_table.specs.Flags.{IsFlaggedOnce, IsGoodCycle}
 use Rattle.requirement_table.specs.Instance.{Exists, IsLastCycle, release_of}
 use Rattle.bit_sets.specs.Sets.{has_bit, set_of, most_slots}
 use Rattle.requirement_table.specs.Table.{IsWellPlaced, instance_in, width_in, worst_in}
-use Rattle.bit_sets.proofs.Shared.{has_bit-none, has_bit-set_of, sum_where-same}
+use Rattle.bit_sets.proofs.Shared.{has_bit-none, sum_where-same, set_of-has, set_of-passes}
 use Rattle.planner_policies.specs.Plan.{HasNoMiss, IsValid, NeverMisses, Planning, flags_of, mask_at, pending_at, planned_at, planned_in}
 use Rattle.admission_rules.specs.declared.Rules.{Rules}
 use Rattle.master_core.specs.History.{plan_of}
@@ -25,13 +25,6 @@ pub record PlanLaws : Type 0 where
   pub along : (plan : Planning) (n : ℕ) → IsWellPlaced plan.placed → IsValid plan.placed plan.from plan.pending
       → HasNoMiss plan n → IsValid plan.placed (plan.from + n) (pending_at plan n)
 
--- a set of slots that is made of a test has the slots that pass it
-pub in_set : (p : ℕ → Bool) (slot : ℕ) → slot < most_slots → has_bit (set_of most_slots p) slot ≡ p slot
-in_set p slot known = has_bit-set_of most_slots p slot ∙ ap (λ b. b && p slot) (lt-ltb slot most_slots known)
-
-pub from_set : (p : ℕ → Bool) (slot : ℕ) → has_bit (set_of most_slots p) slot ≡ true → p slot ≡ true
-from_set p slot flagged = (and_parts (nat_lt slot most_slots) (p slot) (sym (has_bit-set_of most_slots p slot) ∙ flagged)).1
-
 -- nothing is pending before cycle 0
 nothing-pending : (placed : List Placed) (c : ℕ) → IsValid placed c 0
 nothing-pending placed c slot held = absurd (false≢true (sym (has_bit-none slot) ∙ held))
@@ -44,7 +37,7 @@ module _ (laws : PlanLaws) (rules : Rules) (placed : List Placed) (well : IsWell
   pub mask-planned : (c slot : ℕ) → slot < most_slots → has_bit (mask_at plan c) slot ≡ flags_of plan c slot
   mask-planned c slot known =
       let same : c ≡ c - 0 = omega arith in
-      in_set (planned_at plan c) slot known ∙ ap (λ n. planned_at plan n slot) same
+      set_of-has most_slots (planned_at plan c) slot known ∙ ap (λ n. planned_at plan n slot) same
 
   -- each instance whose last cycle is below `n` is flagged once
   pub planned_once : (n : ℕ) (p : Placed) (k last : ℕ) → Contains placed p → Exists p (release_of p k) → IsLastCycle p k last → last < n
@@ -57,7 +50,7 @@ module _ (laws : PlanLaws) (rules : Rules) (placed : List Placed) (well : IsWell
   pub mask-sendable : (c slot : ℕ) → has_bit (mask_at plan c) slot ≡ true → IsSome (instance_in placed slot c)
   mask-sendable c slot flagged =
       let valid = laws.along plan c well (nothing-pending placed 0) (λ m s _ known. in_time m s known) in
-      let planned = from_set (planned_in plan (0 + c) (has_bit (pending_at plan c))) slot (ap (λ mask. has_bit mask slot) (laws.planned plan c) ∙ flagged) in
+      let planned = set_of-passes most_slots (planned_in plan (0 + c) (has_bit (pending_at plan c))) slot (ap (λ mask. has_bit mask slot) (laws.planned plan c) ∙ flagged) in
       subst (λ n. IsSome (instance_in placed slot n)) (zero-add c) (laws.sendable plan (0 + c) (pending_at plan c) slot well valid planned)
 
   -- the frames of the mask's slots fit the window together
@@ -68,6 +61,6 @@ module _ (laws : PlanLaws) (rules : Rules) (placed : List Placed) (well : IsWell
       let mask : mask_at plan c ≡ set_of most_slots (planned_in plan c before) = sym (laws.planned plan c) ∙ ap (λ n. set_of most_slots (planned_in plan n before)) start in
       let same : width_in placed c (has_bit (mask_at plan c)) ≡ width_in placed c (planned_in plan c before) =
       ap (λ m. width_in placed c (has_bit m)) mask
-      ∙ sum_where-same most_slots (has_bit (set_of most_slots (planned_in plan c before))) (planned_in plan c before) (worst_in placed c) (λ slot known. in_set (planned_in plan c before) slot known) in
+      ∙ sum_where-same most_slots (has_bit (set_of most_slots (planned_in plan c before))) (planned_in plan c before) (worst_in placed c) (λ slot known. set_of-has most_slots (planned_in plan c before) slot known) in
       let fits = laws.fits plan c before in
       subst (λ w. w ≤ rules.window) (sym same) fits

@@ -1,12 +1,11 @@
 -- The plan of the next cycle of a core, made from the entries that are not over.
-use Rattle.std.proofs.Common.{◌≡◌, ℕ, ◌+◌, ◌^◌, ◌<◌, ◌≤◌, ◌&&◌, Bool, true, not, Option, Some, None, IsSome, All, refl, sym, ap, ◌∙◌, subst, arith}
-use Rattle.std.proofs.lemmas.Bool.{lt-ltb}
+use Rattle.std.proofs.Common.{◌≡◌, ℕ, ◌+◌, ◌^◌, ◌<◌, ◌≤◌, Bool, true, not, Option, Some, None, IsSome, All, refl, sym, ap, ◌∙◌, subst, arith}
 use Rattle.std.proofs.lemmas.List.Elements.{All-filter}
 use Rattle.bit_sets.specs.Sets.{has_bit, set_of, most_slots}
 use Rattle.requirement_table.specs.Table.{IsWellPlaced, instance_in, is_over, not_over, width_in, worst_in}
 use Rattle.requirement_table.specs.Instance.{Instance, worst_of}
 use Rattle.requirement_table.proofs.Shared.{instance_in-not_over, not_over-well_placed, releases_in-not_over}
-use Rattle.bit_sets.proofs.Shared.{has_bit-set_of, set_of-same, sum_where-same, sum_where-costs}
+use Rattle.bit_sets.proofs.Shared.{set_of-same, sum_where-same, sum_where-costs, set_of-has}
 use Rattle.std.specs.Option.{option_map_or}
 use Rattle.planner_policies.specs.declared.state.PlanState.{PlanState}
 use Rattle.planner_policies.specs.Plan.{HasNoMissIn, IsValid, Ranking, left_after, mask_at, pending_at, pending_before, planned_in, planning_of}
@@ -100,7 +99,7 @@ module _ (core : CoreView) (since : ℕ) (ranked : Ranking) (is : IsCore core) (
       sum_where-costs most_slots planned (worst_in (not_over since core.placed) core.cycle) (worst_in core.placed core.cycle)
       (λ slot known _. ap (λ (o : Option Instance). option_map_or worst_of o 0) (instance_in-not_over since core.placed slot core.cycle ranks.passed))
       ∙ sum_where-same most_slots planned (has_bit (set_of most_slots planned)) (worst_in core.placed core.cycle)
-      (λ slot known. sym (has_bit-set_of most_slots planned slot ∙ ap (λ (b : Bool). b && planned slot) (lt-ltb slot most_slots known))))
+      (λ slot known. sym (set_of-has most_slots planned slot known)))
 
   same-instance : (slot : ℕ) → instance_in ranked.placed slot core.cycle ≡ instance_in core.placed slot core.cycle
   same-instance slot =
@@ -131,7 +130,7 @@ module _ (core : CoreView) (since : ℕ) (ranked : Ranking) (is : IsCore core) (
       → has_bit mask slot ≡ true → planned_in (planning_of ranked core.rules.window core.cycle core.pending) core.cycle (has_bit core.pending) slot ≡ true
   flagged-planned mask slot by known flagged =
       let planned : ℕ → Bool = planned_in (planning_of ranked core.rules.window core.cycle core.pending) core.cycle (has_bit core.pending) in
-      sym (ap (λ (q : ℕ). has_bit q slot) by ∙ has_bit-set_of most_slots planned slot ∙ ap (λ (b : Bool). b && planned slot) (lt-ltb slot most_slots known))
+      sym (ap (λ (q : ℕ). has_bit q slot) by ∙ set_of-has most_slots planned slot known)
       ∙ flagged
 
   -- the order of the next cycle

@@ -1,5 +1,5 @@
 -- Sets of slots as numbers: their symmetric difference, and their least slot.
-use Rattle.std.proofs.Common.{◌≡◌, ℕ, zero, suc, ◌+◌, ◌%◌, ◌<◌, Bool, nat_eq, if◌then◌else◌, Option, Some, None, MatchOption, bit_xor, refl, sym, subst, ap, ◌∙◌, arith}
+use Rattle.std.proofs.Common.{◌≡◌, ℕ, zero, suc, ◌+◌, ◌%◌, ◌<◌, Bool, nat_eq, Option, Some, None, MatchOption, bit_xor, refl, sym, ap, ◌∙◌, arith}
 use Rattle.std.specs.Int.{bit_at}
 use Rattle.std.proofs.lemmas.Nat.Bits.{bit_at-lt, bit_at_xor}
 use Rattle.bit_sets.specs.Sets.{has_bit, most_slots}

@@ -1,7 +1,7 @@
 -- The widths of opened cycles, slot by slot and event by event.
-use Rattle.std.proofs.Common.{◌≡◌, ℕ, zero, suc, ◌+◌, ◌-◌, ◌<◌, ◌≤◌, ◌==◌, ◌&&◌, not, inl, inr, Bool, true, false, cond, Option, Some, None, IfSome, List, ◌∷◌, ◌++◌, length, drop, get_or, slice_get, nat_le, refl, sym, ap, subst, ◌∙◌, arith, append_assoc, Contains}
+use Rattle.std.proofs.Common.{◌≡◌, ℕ, suc, ◌+◌, ◌-◌, ◌<◌, ◌≤◌, ◌==◌, ◌&&◌, not, true, false, cond, Option, Some, None, IfSome, List, ◌∷◌, ◌++◌, length, drop, get_or, slice_get, nat_le, refl, sym, ap, subst, ◌∙◌, arith, append_assoc, Contains}
 use Rattle.std.specs.Option.{option_map_or}
-use Rattle.std.proofs.lemmas.Bool.{cases_eq, cond-false, cond-true, eq-eqb, leb-true, le-leb, ne_eqb}
+use Rattle.std.proofs.lemmas.Bool.{eq-eqb, leb-true, le-leb, ne_eqb}
 use Rattle.std.proofs.lemmas.Nat.{mod_below}
 use Rattle.std.proofs.lemmas.Option.{slice_get-get_or}
 use Rattle.std.proofs.Math.Seq.{drop-cons}

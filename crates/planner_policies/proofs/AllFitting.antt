@@ -1,7 +1,7 @@
 -- All that is pending in a cycle, where it fits the window together.
 use Rattle.std.proofs.Common.{◌≡◌, ℕ, ◌≢◌, ◌+◌, ◌-◌, ◌<◌, ◌≤◌, ◌||◌, ◌^◌, Bool, true, false, None, Contains, IsPermutation, nat_eq, nat_le, if◌then◌else◌, List, [], ◌∷◌, ◌++◌, All, get_or, take, length, refl, sym, ap, ◌∙◌, ⊎_elim, arith}
 use Rattle.std.specs.List.{list_any}
-use Rattle.std.proofs.lemmas.Bool.{both_ways, cases_Bool, eq-eqb, eqb-true, le-leb}
+use Rattle.std.proofs.lemmas.Bool.{both_ways, cases_Bool, le-leb}
 use Rattle.std.proofs.lemmas.List.Elements.{All-cons, All-nil, All-weaker}
 use Rattle.std.proofs.lemmas.List.Sums.{sum_by-cons}
 use Rattle.requirement_table.specs.declared.entries.Placed.{Placed}
@@ -16,7 +16,6 @@ use Rattle.planner_policies.specs.Plan.{IsValid, Planning}
 use Rattle.planner_policies.proofs.Cycles.{split-of, split-planned}
 use Rattle.planner_policies.proofs.DueSlots.{IsSplit, has_slot}
 use Rattle.planner_policies.proofs.EachLoop.{HasSlots}
-use Rattle.planner_policies.proofs.Filling.{same-test}
 use Rattle.planner_policies.proofs.KeyOrder.{due_by-trans}
 use Rattle.planner_policies.proofs.Pairs.{pairs-head, pairs-tail}
 use Rattle.planner_policies.proofs.Rows.{IsLineOf, IsMore, line_of-more, line_of-none, line_of-start, whole_line-of}

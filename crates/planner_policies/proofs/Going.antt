@@ -1,10 +1,9 @@
 -- Plannings with the same instances, and plannings that go on, have the same plan.
-use Rattle.std.proofs.Common.{◌≡◌, ℕ, zero, suc, ◌+◌, ◌<◌, ◌≤◌, ◌&&◌, List, refl, sym, ap, ◌∙◌, arith}
-use Rattle.std.proofs.lemmas.Bool.{lt-ltb}
+use Rattle.std.proofs.Common.{◌≡◌, ℕ, zero, suc, ◌+◌, ◌<◌, ◌≤◌, List, refl, sym, ap, ◌∙◌, arith}
 use Rattle.requirement_table.specs.declared.entries.Placed.{Placed}
 use Rattle.bit_sets.specs.Sets.{has_bit, set_of, most_slots}
 use Rattle.requirement_table.specs.Table.{instance_in, releases_in}
-use Rattle.bit_sets.proofs.Shared.{has_bit-set_of, set_of-same}
+use Rattle.bit_sets.proofs.Shared.{set_of-same, set_of-has}
 use Rattle.planner_policies.specs.Plan.{IsMissAt, IsMissIn, Planning, is_missed_at, is_missed_in, left_after, mask_at, pending_at, pending_before, planned_at, planned_in}
 use Rattle.planner_policies.proofs.Steps.{alike-from_same, left-alike, missed-alike, planned-alike}
 use Rattle.planner_policies.proofs.Filling.{AreAlike}
@@ -20,7 +19,7 @@ before-first plan slot = refl
 -- a slot is in the set of the pending ones where it is pending
 pub pending-test : (plan : Planning) (n slot : ℕ) → slot < most_slots → has_bit (pending_at plan n) slot ≡ pending_before plan n slot
 pending-test plan n slot known =
-    has_bit-set_of most_slots (pending_before plan n) slot ∙ ap (λ b. b && pending_before plan n slot) (lt-ltb slot most_slots known)
+    set_of-has most_slots (pending_before plan n) slot known
 
 module _ (plan : Planning) (placed : List Placed) (n : ℕ)
     (same : (k slot : ℕ) → k < n → slot < most_slots → instance_in placed slot (plan.from + k) ≡ instance_in plan.placed slot (plan.from + k))

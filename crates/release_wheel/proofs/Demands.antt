@@ -1,8 +1,8 @@
 -- Where nothing is pending before a cycle, and what is released in it fits the window, nothing is pending after it.
-use Rattle.std.proofs.Common.{◌≡◌, ◌≢◌, ℕ, zero, suc, ◌+◌, ◌-◌, ◌<◌, ◌≤◌, ◌&&◌, ◌||◌, not, Bool, true, false, nat_eq, nat_lt, if◌then◌else◌, Option, Some, None, is_some, List, [], ◌∷◌, get_or, length, replicate, set, take, refl, sym, ap, subst, ◌∙◌, ⊎_elim, arith}
+use Rattle.std.proofs.Common.{◌≡◌, ◌≢◌, ℕ, ◌+◌, ◌-◌, ◌<◌, ◌≤◌, ◌&&◌, ◌||◌, not, Bool, true, false, nat_eq, nat_lt, if◌then◌else◌, Option, Some, None, is_some, List, [], ◌∷◌, get_or, length, replicate, set, take, refl, sym, ap, subst, ◌∙◌, ⊎_elim, arith}
 use Rattle.std.specs.Prelude.{sum_by}
 use Rattle.std.specs.Option.{option_map_or}
-use Rattle.std.proofs.lemmas.Bool.{and_parts, cases_eq, cases_lt, eqb-true, le-ltb, lt-ltb, ne_eqb}
+use Rattle.std.proofs.lemmas.Bool.{and_parts, cases_eq, cases_lt, eqb-true, le-ltb, lt-ltb}
 use Rattle.std.proofs.lemmas.List.{get_or-replicate, get_or-set_other, get_or-set_same, length-set, take_all}
 use Rattle.std.proofs.lemmas.List.Folds.{Any-from_list_any}
 use Rattle.std.proofs.lemmas.List.Sums.{get_or-le-sum_by, sum_by-cons, sum_by_more}
@@ -11,7 +11,7 @@ use Rattle.requirement_table.specs.Instance.{Exists, IsReleasedIn, MaySend, rele
 use Rattle.bit_sets.specs.Sets.{has_bit, most_slots, set_of, sum_where}
 use Rattle.requirement_table.specs.Table.{IsInRange, IsWellPlaced, instance_in, is_last_in, releases_in, width_in, worst_in}
 use Rattle.requirement_table.proofs.Shared.{IsReleasedIn-from_released_by, found-of}
-use Rattle.bit_sets.proofs.Shared.{has_bit-none, set_of-has_bit, set_of-same, sum_where-most}
+use Rattle.bit_sets.proofs.Shared.{sum_where-most, has_bit-empty, set_of-none, sum_where-add, sum_where-fewer, sum_where-one}
 use Rattle.planner_policies.specs.Plan.{HasNoMissIn, IsValid, Planning, Ranking, left_after, pending_in, planned_in, planning_of}
 use Rattle.planner_policies.proofs.Shared.{taken-all}
 use Rattle.release_wheel.specs.Demand.{cost_in, demand_in}
@@ -29,54 +29,23 @@ at-most false x most small = omega arith
 abbrev for_slot : ℕ → ℕ → ℕ → ℕ
 for_slot k x slot = if nat_eq k slot then x else 0
 
-sum-beyond : (n k x : ℕ) (p : ℕ → Bool) → n ≤ k → sum_where n p (λ slot. for_slot k x slot) ≤ 0
-unfolding sum_where
-sum-beyond zero k x p beyond = omega arith
-sum-beyond (suc n) k x p beyond =
-    let rest = sum-beyond n k x p (omega arith) in
-    let other : for_slot k x n ≡ 0 = ap (λ (b : Bool). if b then x else 0) (ne_eqb k n (λ (e : k ≡ n). omega arith)) in
-    let here = at-most (p n) (for_slot k x n) 0 (omega arith) in
-    omega arith
-
 sum-one : (n k x : ℕ) (p : ℕ → Bool) → sum_where n p (λ slot. for_slot k x slot) ≤ x
-unfolding sum_where
-sum-one zero k x p = omega arith
-sum-one (suc n) k x p =
+sum-one n k x p =
+    let one = sum_where-one n k x p in
     ⊎_elim
-    (λ (same : k ≡ n).
-    let before = sum-beyond n k x p (omega arith) in
-    let here = at-most (p n) (for_slot k x n) x (at-most (nat_eq k n) x x (omega arith)) in
+    (λ (known : k < n).
+    let is : sum_where n p (λ slot. for_slot k x slot) ≡ (if p k then x else 0) = one.1 known in
+    let most = at-most (p k) x x (omega arith) in
     omega arith)
-    (λ (apart : k ≢ n).
-    let before = sum-one n k x p in
-    let other : for_slot k x n ≡ 0 = ap (λ (b : Bool). if b then x else 0) (ne_eqb k n apart) in
-    let here = at-most (p n) (for_slot k x n) 0 (omega arith) in
-    omega arith)
-    (cases_eq k n)
+    (λ (beyond : n ≤ k). let none : sum_where n p (λ slot. for_slot k x slot) ≡ 0 = one.0 beyond in omega arith)
+    (cases_lt k n)
 
 sum-parts : (n : ℕ) (p : ℕ → Bool) (f g h : ℕ → ℕ) → ((slot : ℕ) → f slot ≤ g slot + h slot) → sum_where n p f ≤ sum_where n p g + sum_where n p h
-unfolding sum_where
-sum-parts zero p f g h each = omega arith
-sum-parts (suc n) p f g h each =
-    let rest = sum-parts n p f g h each in
-    let here = part (p n) (f n) (g n) (h n) (each n) in
+sum-parts n p f g h each =
+    let less : sum_where n p f ≤ sum_where n p (λ slot. g slot + h slot) = sum_where-fewer n p f (λ slot. g slot + h slot) (λ slot below passes. each slot) in
+    let sum : sum_where n p (λ slot. g slot + h slot) ≡ sum_where n p g + sum_where n p h
+    = sum_where-add n p g h (λ slot. g slot + h slot) (λ slot below. refl) in
     omega arith
-  where
-    part : (b : Bool) (x y z : ℕ) → x ≤ y + z → (if b then x else 0) ≤ (if b then y else 0) + (if b then z else 0)
-    part true x y z less = less
-    part false x y z less = omega arith
-
-sum-less : (n : ℕ) (p : ℕ → Bool) (f g : ℕ → ℕ) → ((slot : ℕ) → p slot ≡ true → f slot ≤ g slot) → sum_where n p f ≤ sum_where n p g
-unfolding sum_where
-sum-less zero p f g each = omega arith
-sum-less (suc n) p f g each =
-    let rest = sum-less n p f g each in
-    let here = part (p n) (f n) (g n) (each n) in
-    omega arith
-  where
-    part : (b : Bool) (x y : ℕ) → (b ≡ true → x ≤ y) → (if b then x else 0) ≤ (if b then y else 0)
-    part true x y less = less refl
-    part false x y less = omega arith
 
 -- What slots cost
 
@@ -91,7 +60,10 @@ share-cons p ps c slot =
 
 -- the shares of the slots are no more than all that is released
 shares-all : (placed : List Placed) (c : ℕ) (flagged : ℕ → Bool) → sum_where most_slots flagged (λ slot. share placed c slot) ≤ demand_in placed c
-shares-all [] c flagged = let none = sum_where-most most_slots 0 flagged (λ _. 0) (λ slot below. omega arith) in omega arith
+shares-all [] c flagged =
+    let none : sum_where most_slots flagged (λ _. 0) ≤ 0
+    = let few = sum_where-most most_slots 0 flagged (λ _. 0) (λ slot below. omega arith) in omega arith in
+    none
 shares-all (p ∷ ps) c flagged =
     let one = sum-one most_slots p.entry.slot (cost_in p c) flagged in
     let both = sum-parts most_slots flagged (λ slot. share (p ∷ ps) c slot) (λ slot. for_slot p.entry.slot (cost_in p c) slot) (λ slot. share ps c slot)
@@ -128,15 +100,12 @@ released-share placed c slot well test =
     (get_or-le-sum_by (λ (p : Placed). for_slot p.entry.slot (cost_in p c) slot) placed i q any.2)
 
 -- where nothing is pending before a cycle, what is pending in it is what is released in it
-none-before : (pending slot : ℕ) → pending ≡ 0 → has_bit pending slot ≡ false
-none-before pending slot none = ap (λ mask. has_bit mask slot) none ∙ has_bit-none slot
-
 width-released : (placed : List Placed) (c pending : ℕ) → IsWellPlaced placed → pending ≡ 0
     → width_in placed c (pending_in placed c (has_bit pending)) ≤ demand_in placed c
 width-released placed c pending well none =
     let flagged : ℕ → Bool = pending_in placed c (has_bit pending) in
-    let less = sum-less most_slots flagged (worst_in placed c) (λ slot. share placed c slot)
-    (λ slot is. released-share placed c slot well (sym (ap (λ b. b || releases_in placed c slot) (none-before pending slot none)) ∙ is)) in
+    let less = sum_where-fewer most_slots flagged (worst_in placed c) (λ slot. share placed c slot)
+    (λ slot below is. released-share placed c slot well (sym (ap (λ b. b || releases_in placed c slot) (has_bit-empty pending slot none)) ∙ is)) in
     let all = shares-all placed c flagged in
     omega (arith, less, all)
 
@@ -156,8 +125,7 @@ module _ (plan : Planning) (c pending : ℕ) (well : IsWellPlaced plan.placed) (
 
   left-none : set_of most_slots (left_after plan c (has_bit pending)) ≡ 0
   left-none =
-      set_of-same most_slots (left_after plan c (has_bit pending)) (has_bit 0) (λ slot known. none-left slot known ∙ sym (has_bit-none slot))
-      ∙ sym (set_of-has_bit most_slots 0 (omega arith))
+      set_of-none most_slots (left_after plan c (has_bit pending)) none-left
 
 pub leaves-none : (ranking : Ranking) (window c pending : ℕ) → IsWellPlaced ranking.placed → pending ≡ 0 → demand_in ranking.placed c ≤ window
     → LeavesSame (planning_of ranking window c pending)
@@ -169,7 +137,7 @@ leaves-none ranking window c pending well none fits = record {
 -- a state in which nothing is pending is valid
 pub none-valid : (placed : List Placed) (c pending : ℕ) → pending ≡ 0 → IsValid placed c pending
 none-valid placed c pending none slot waits =
-    let wrong : false ≡ true = sym (none-before pending slot none) ∙ waits in
+    let wrong : false ≡ true = sym (has_bit-empty pending slot none) ∙ waits in
     absurd (cc)
 
 -- What the releases of entries sum to, cycle by cycle

@@ -11,7 +11,7 @@ use Rattle.requirement_table.specs.Instance.{Exists, Instance, MaySend, deadline
 use Rattle.bit_sets.specs.Sets.{has_bit, most_slots}
 use Rattle.requirement_table.specs.Table.{IsInRange, IsWellPlaced, instance_in, is_last_in}
 use Rattle.requirement_table.proofs.Shared.{MaySend-from_instance, instance_of-sent}
-use Rattle.bit_sets.proofs.Shared.{has_bit-none, set_of-from_slots, sum_where-or}
+use Rattle.bit_sets.proofs.Shared.{has_bit-none, set_of-from_slots, sum_where-or, has_bit-empty}
 use Rattle.planner_policies.specs.declared.Policy.{Policy}
 use Rattle.planner_policies.specs.declared.Policy.TheVariants.{Edf}
 use Rattle.planner_policies.specs.declared.due.Due.{Due}
@@ -113,9 +113,6 @@ any-and-not (suc n) p r s slot b at =
         last false = refl
     step false false y b false at = refl
 
-no-row : (set' row : ℕ) → set' ≡ 0 → has_bit set' row ≡ false
-no-row set' row none = ap (λ m. has_bit m row) none ∙ has_bit-none row
-
 -- other rows wait
 room-on : (n : ℕ) (rows : Rows) (dues : Dues) (waiting : Sum) (soonest : ℕ) → HasRoom n rows dues → IsSumOf rows.entries.items n waiting
     → HasRoom n rows (record dues { waiting = waiting; soonest = soonest })
@@ -140,21 +137,21 @@ pub nothing-waits : (rows : Rows) (dues : Dues) (waiting : Sum) (soonest c quiet
     → IsTurned (record { policy = policy; turns = turns; quiet = quiet; cycle = c; rows = rows; dues = record dues { waiting = waiting; soonest = soonest } })
 nothing-waits rows dues waiting soonest c quiet policy turns room none slots cost stands later = record {
   room = room-on (length rows.entries.items) rows dues waiting soonest room (record {
-    below = λ row in'. absurd (both_ways (has_bit waiting.rows row) (no-row waiting.rows row none) in');
+    below = λ row in'. absurd (both_ways (has_bit waiting.rows row) (has_bit-empty waiting.rows row none) in');
     slots = λ slot.
         slots slot
         ∙ sym (any-none (length rows.entries.items))
         ∙ any-same (length rows.entries.items) (λ _. false) (λ row. has_bit waiting.rows row && nat_eq (slot_at rows.entries.items row) slot)
-        (λ row below. ap (λ b. b && nat_eq (slot_at rows.entries.items row) slot) (sym (no-row waiting.rows row none)));
+        (λ row below. ap (λ b. b && nat_eq (slot_at rows.entries.items row) slot) (sym (has_bit-empty waiting.rows row none)));
     cost = cost ∙ sym (ap (cost_below rows.entries.items (length rows.entries.items)) none ∙ cost-none rows.entries.items (length rows.entries.items));
   });
   each = λ row below. (
     stands row below,
     record {
-      waits_is = no-row waiting.rows row none
+      waits_is = has_bit-empty waiting.rows row none
           ∙ ap (λ b. b && is_held_in c (get_or rows.entries.items row no_entry)) (sym (slots (slot_at rows.entries.items row)));
-      last_is = λ in'. absurd (both_ways (has_bit waiting.rows row) (no-row waiting.rows row none) in');
-      soonest_is = λ in'. absurd (both_ways (has_bit waiting.rows row) (no-row waiting.rows row none) in');
+      last_is = λ in'. absurd (both_ways (has_bit waiting.rows row) (has_bit-empty waiting.rows row none) in');
+      soonest_is = λ in'. absurd (both_ways (has_bit waiting.rows row) (has_bit-empty waiting.rows row none) in');
     },
   );
   quiet_is = λ less. record { none_waiting = none; none_always = (later less).0; none_coming = (later less).1 };
@@ -179,13 +176,13 @@ turned-all before w waiting quiet soonest released none never empty =
     (λ later. (
       never later,
       λ row within exists.
-          let off = no-row w.dues.always.rows row (never later) in
+          let off = has_bit-empty w.dues.always.rows row (never later) in
           let stands = (released.each row within).0 in
           let reached = (stands.next_is off).reached exists in
           ⊎_elim
           (λ (sooner : get_or w.rows.nexts.items row 0 < quiet).
           absurd (both_ways (is_found w.rows (get_or w.rows.nexts.items row 0) row)
-          (no-row (get_or w.rows.places.items (get_or w.rows.nexts.items row 0 % 64) 0) row (empty (get_or w.rows.nexts.items row 0) reached sooner))
+          (has_bit-empty (get_or w.rows.places.items (get_or w.rows.nexts.items row 0 % 64) 0) row (empty (get_or w.rows.nexts.items row 0) reached sooner))
           (stands.on off exists)))
           (λ (after : quiet ≤ get_or w.rows.nexts.items row 0). after)
           (cases_lt (get_or w.rows.nexts.items row 0) quiet),
@@ -209,7 +206,7 @@ quiet-slots w slot t less =
     let quiet = t.quiet_is less in
     let none : (set' : ℕ) → set' ≡ 0 → any_below n (λ row. has_bit set' row && nat_eq (slot_at w.rows.entries.items row) slot) ≡ false
     = λ set' empty. any-same n (λ row. has_bit set' row && nat_eq (slot_at w.rows.entries.items row) slot) (λ _. false)
-    (λ row below. ap (λ b. b && nat_eq (slot_at w.rows.entries.items row) slot) (no-row set' row empty)) ∙ any-none n in
+    (λ row below. ap (λ b. b && nat_eq (slot_at w.rows.entries.items row) slot) (has_bit-empty set' row empty)) ∙ any-none n in
     ap (λ b. b || has_bit w.dues.always.slots slot) (t.room.waiting.slots slot ∙ none w.dues.waiting.rows quiet.none_waiting)
     ∙ t.room.always.slots slot ∙ none w.dues.always.rows quiet.none_always
 

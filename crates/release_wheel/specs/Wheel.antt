@@ -1,7 +1,7 @@
 -- A wheel of coming releases, and what waits beside it: words for contracts inside the crate.
 --
 -- A row is a placed entry, by its place in the order of the policy. Sets of rows are numbers: row i is bit i.
-use Rattle.std.specs.Prelude.{◌≡◌, ℕ, zero, suc, ◌+◌, ◌-◌, ◌*◌, ◌%◌, ◌^◌, ◌<◌, ◌≤◌, Bool, true, false, ◌&&◌, ◌||◌}
+use Rattle.std.specs.Prelude.{◌≡◌, ℕ, zero, suc, ◌+◌, ◌-◌, ◌%◌, ◌<◌, ◌≤◌, Bool, true, false, ◌&&◌, ◌||◌}
 use Rattle.std.specs.Prelude.{nat_eq, sum_by}
 use Rattle.std.specs.Prelude.{if◌then◌else◌, List, IsPermutation, None, Some, get_or, length, min, not, set}
 use Rattle.std.specs.Vec.{vec_capacity}

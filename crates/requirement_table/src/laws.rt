@@ -1,13 +1,13 @@
 //! Laws about the definitions of this crate. Each function has an empty body, and its contract is the
 //! law.
 
-ghost use Rattle.std.specs.Prelude.{◌≡◌, ℕ, ◌+◌, ◌^◌, ◌<◌, ◌≤◌, ◌↔◌, ◌&&◌};
-ghost use Rattle.std.specs.Prelude.{Bool, true, nat_lt, IsTrue, Some, IfSome, IsSomeAnd, List, Any, Contains, slice_get};
+ghost use Rattle.std.specs.Prelude.{◌≡◌, ℕ, ◌+◌, ◌<◌, ◌≤◌, ◌↔◌};
+ghost use Rattle.std.specs.Prelude.{Bool, true, IsTrue, Some, IfSome, IsSomeAnd, List, Any, Contains, slice_get};
 ghost use Rattle.requirement_table.specs.declared.entries.Placed.{Placed};
 ghost use Rattle.requirement_table.specs.Instance.{Exists, IsLastCycle, IsReleasedIn, MaySend};
 ghost use Rattle.requirement_table.specs.Instance.{instance_of, release_of, released_by};
 ghost use Rattle.requirement_table.specs.Flags.{HasWaiting, HasWaitingBefore, IsFlaggedOnce, IsGoodCycle, waits};
-ghost use Rattle.bit_sets.specs.Sets.{has_bit, set_of};
+ghost use Rattle.bit_sets.specs.Sets.{has_bit};
 ghost use Rattle.requirement_table.specs.Table.{IsWellPlaced, held_before, instance_in, near_of, not_over};
 ghost use Rattle.requirement_table.specs.Table.{released_in, releases_in};
 

@@ -1,4 +1,3 @@
-use Rattle.std.proofs.Common.{arith}
 use Rattle.bit_sets.proofs.RowsLeft.{whole-set}
 use Rattle.bit_sets.proofs.rows.rest_of.Goals as goal
 
