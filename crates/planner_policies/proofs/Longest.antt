@@ -31,7 +31,7 @@ not-in x xs apart =
 -- the sum over the slots of a list of distinct slots
 pub sum_where-list : (n : ℕ) (xs : List ℕ) (f : ℕ → ℕ) → All (λ x. x < n) xs → AllPairs (λ v w. v ≢ w) xs
     → sum_where n (has xs) f ≡ sum_by f xs
-sum_where-list n [] f below distinct = sum_where-none n (λ _. false) f (λ s below. refl)
+sum_where-list n [] f below distinct = sum_where-none n (λ _. false) f (λ s _. refl)
 sum_where-list n (x ∷ xs) f below distinct =
     sum_where-with n x (has xs) f (All-head (λ w. w < n) x xs below) (not-in x xs (pairs-head (λ v w. v ≢ w) x xs distinct))
     ∙ ap (λ m. f x + m) (sum_where-list n xs f (All-tail (λ w. w < n) x xs below) (pairs-tail (λ v w. v ≢ w) x xs distinct))
