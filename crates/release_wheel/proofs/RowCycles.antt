@@ -1,5 +1,6 @@
 -- A cycle that is planned by rows, and the wheel after it.
 use Rattle.std.proofs.Common.{◌≡◌, ◌≢◌, ℕ, zero, suc, ◌+◌, ◌%◌, ◌<◌, ◌≤◌, ◌^◌, ◌&&◌, ◌||◌, not, Bool, true, false, nat_eq, nat_le, if◌then◌else◌, Some, None, List, IsPermutation, get_or, length, take, length-take, refl, sym, ap, subst, ◌∙◌, ⊎_elim, arith}
+use Rattle.std.proofs.Math.Bool.{or-false}
 use Rattle.std.specs.List.{list_any}
 use Rattle.std.proofs.lemmas.Bool.{and_from, and_parts, both_ways, cases_lt, eq-eqb, eqb-true, false_from_ne_true, lt-ltb, ne_eqb, or_cases, or_left}
 use Rattle.std.proofs.lemmas.List.{get_or-take, take_all}
@@ -101,11 +102,7 @@ any-and-not (suc n) p r s slot b at =
         last true c = refl
         last false true = refl
         last false false = refl
-    step true false y b false at = last (not b)
-      where
-        last : (a : Bool) → (a || false) ≡ a
-        last true = refl
-        last false = refl
+    step true false y b false at = or-false (not b)
     step false true y b false at = last (not y)
       where
         last : (a : Bool) → (false || (a && false)) ≡ (false && not b)

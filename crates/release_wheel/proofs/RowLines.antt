@@ -1,6 +1,6 @@
 -- The instances of rows of a set, as a line.
 use Rattle.std.proofs.Common.{◌≡◌, ◌≢◌, ℕ, zero, suc, ◌+◌, ◌<◌, ◌≤◌, ◌&&◌, ◌||◌, not, Bool, true, false, nat_eq, nat_le, nat_lt, if◌then◌else◌, Some, None, List, [], ◌∷◌, All, AllPairs, IsPermutation, get_or, length, take, refl, sym, ap, subst, ◌∙◌, ⊎_elim, arith}
-use Rattle.std.proofs.Math.Bool.{or-false}
+use Rattle.std.proofs.Math.Bool.{or-false, or-true, or_comm}
 use Rattle.std.specs.List.{list_any}
 use Rattle.std.proofs.lemmas.Bool.{and_from, and_parts, both_ways, cases_eq, cases_lt, eq-eqb, eqb-true, false_from_ne_true, leb-true, lt-ltb, ne_eqb, or_cases}
 use Rattle.std.proofs.lemmas.Bool.Decides.{nat_tests}
@@ -71,16 +71,10 @@ module _ (plan : Planning) (c : ℕ) (before : ℕ → Bool) (entries : List Pla
             ap (list_any (has_slot slot)) put.is ∙ any-between (has_slot slot) put.front due put.back
             ∙ ap (λ b. nat_eq due.slot slot || b) (ap (list_any (has_slot slot)) (sym put.was) ∙ so_far.slots slot)
             ∙ ap (λ s. nat_eq s slot || any_below n (λ row. test row && nat_eq (slot_at entries row) slot)) (are.slot n)
-            ∙ turned (nat_eq (slot_at entries n) slot) (any_below n (λ row. test row && nat_eq (slot_at entries row) slot))
+            ∙ or_comm (nat_eq (slot_at entries n) slot) (any_below n (λ row. test row && nat_eq (slot_at entries row) slot))
             ∙ ap (λ b. any_below n (λ row. test row && nat_eq (slot_at entries row) slot) || (b && nat_eq (slot_at entries n) slot)) (sym is);
         cost = rw is (omega arith);
       }
-    where
-      turned : (a b : Bool) → (a || b) ≡ (b || a)
-      turned true true = refl
-      turned true false = refl
-      turned false true = refl
-      turned false false = refl
   line-more n within false is none so_far =
       let stands = stands-in plan.placed entries n no_entry same within in
       let next : n + 1 ≡ suc n = omega arith in
@@ -232,10 +226,6 @@ by-tie : (a b : ℕ) (t : Bool) → a ≡ b → t ≡ true → by_number (a + 1)
 by-tie a b t same is =
     ap (λ n. by_number (a + 1) (n + 1) t) (sym same) ∙ ap (λ x. nat_lt (a + 1) (a + 1) || (x && t)) (eq-eqb (a + 1) (a + 1) refl)
     ∙ ap (λ x. nat_lt (a + 1) (a + 1) || x) is ∙ or-true (nat_lt (a + 1) (a + 1))
-  where
-    or-true : (x : Bool) → (x || true) ≡ true
-    or-true true = refl
-    or-true false = refl
 
 -- by their last cycles, and then in the order that breaks ties, they are so for `Edf`
 pub by-last : (entries : List Placed) (lasts : ℕ → ℕ) → AreRanked Edf entries → (i j : ℕ) → i < length entries → j < length entries

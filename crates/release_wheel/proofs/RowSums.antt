@@ -1,7 +1,7 @@
 -- What the rows of a set cost together, which slots they have, and sums of rows.
 use Rattle.std.proofs.Common.{◌≡◌, ◌≢◌, ℕ, zero, suc, ◌+◌, ◌*◌, ◌^◌, ◌<◌, ◌≤◌, ◌&&◌, ◌||◌, Bool, true, false, nat_eq, if◌then◌else◌, List, get_or}
 use Rattle.std.proofs.Common.{length, refl, sym, ap, ◌∙◌, ⊎_elim, arith}
-use Rattle.std.proofs.Math.Bool.{and-false, and-true, or-false}
+use Rattle.std.proofs.Math.Bool.{and-false, and-true, or-false, or-true, or_assoc, or_comm}
 use Rattle.std.proofs.lemmas.Bool.{and_parts, both_ways, cases_eq, eq-eqb, eqb-true, ne_eqb, or_cases}
 use Rattle.requirement_table.specs.declared.entries.Placed.{Placed}
 use Rattle.requirement_table.specs.Instance.{worst}
@@ -59,10 +59,6 @@ any-found (suc n) row p within passes =
     (λ (same : row ≡ n). let last : p n ≡ true = ap p (sym same) ∙ passes in rw last (or-true (any_below n p)))
     (λ (other : row ≢ n). let rest = any-found n row p (omega arith) passes in rw rest refl)
     (cases_eq row n)
-  where
-    or-true : (b : Bool) → (b || true) ≡ true
-    or-true true = refl
-    or-true false = refl
 
 pub record IsOneBelow (n : ℕ) (p : ℕ → Bool) : Type 0 where
   pub row : ℕ
@@ -96,7 +92,7 @@ any-with (suc n) row p q within =
     (λ (other : row ≢ n).
     let is : nat_eq row n ≡ false = ne_eqb row n other in
     let low = any-with n row p q (omega arith) in
-    rw (is, low) (along (q row) (any_below n (λ i. p i && q i)) (p n && q n)))
+    rw (is, low) (or_assoc (q row) (any_below n (λ i. p i && q i)) (p n && q n)))
     (cases_eq row n)
   where
     turned : (a b c : Bool) → (a || b) ≡ (b || (a || (c && b)))
@@ -105,10 +101,6 @@ any-with (suc n) row p q within =
     turned false true c = refl
     turned false false true = refl
     turned false false false = refl
-
-    along : (a b c : Bool) → ((a || b) || c) ≡ (a || (b || c))
-    along true b c = refl
-    along false b c = refl
 
 pub none-below : (p : ℕ → Bool) → false ≡ any_below 0 p
 unfolding any_below
@@ -178,7 +170,7 @@ module _ (old new : List Placed) (n : ℕ) (p : Placed) (flag : Bool) (sum more 
     slots = λ slot.
         added.slots slot
         ∙ ap (λ b. (flag && b) || has_bit sum.slots slot) (turned-eq slot p.entry.slot)
-        ∙ turn (flag && nat_eq p.entry.slot slot) (has_bit sum.slots slot)
+        ∙ or_comm (flag && nat_eq p.entry.slot slot) (has_bit sum.slots slot)
         ∙ ap (λ b. b || (flag && nat_eq p.entry.slot slot)) (was.slots slot
         ∙ any-same n (λ i. has_bit sum.rows i && nat_eq (slot_at old i) slot) (λ i. has_bit more.rows i && nat_eq (slot_at new i) slot)
         (λ i less. ap (λ b. b && nat_eq (slot_at old i) slot) (sym (added-other i (apart i less)))
@@ -194,12 +186,6 @@ module _ (old new : List Placed) (n : ℕ) (p : Placed) (flag : Bool) (sum more 
         let one = added.cost in
         omega arith;
   }
-    where
-      turn : (a b : Bool) → (a || b) ≡ (b || a)
-      turn true true = refl
-      turn true false = refl
-      turn false true = refl
-      turn false false = refl
 
 -- the rows of two sets that have none in common
 pub cost-both : (entries : List Placed) (n one other both : ℕ) → ((i : ℕ) → has_bit one i ≡ true → has_bit other i ≡ false)
