@@ -10,6 +10,7 @@ use Rattle.plan_check.specs.declared.breach.Breach.TheVariants.{BadLoop, NotRele
 use Rattle.plan_check.specs.Breaches.{IsBreach, IsGoodAt, IsLeastSlot, IsMissed, IsNotClosed, IsNotReleased, IsReached, IsTooWide, is_missed, is_unreleased, width_at}
 use Rattle.plan_check.specs.Certificate.{CertificateView}
 use Rattle.plan_check.specs.PlanKept.{NoSlot, is_bad, is_open}
+use Rattle.plan_check.proofs.SlotSets.{no-least}
 
 same-least : (test : ℕ → Bool) (one other : ℕ) → IsLeastSlot test one → IsLeastSlot test other → one ≡ other
 same-least test one other first second =
@@ -19,9 +20,6 @@ same-least test one other first second =
     (λ (before : one < other). absurd (both_ways (test one) (second.least one before) first.passes))
     (λ (behind : other < one). absurd (both_ways (test other) (first.least other behind) second.passes)))
     (cases_order one other)
-
-no-least : (test : ℕ → Bool) (slot : ℕ) → NoSlot test → IsLeastSlot test slot → ⊥
-no-least test slot none least = both_ways (test slot) (none slot least.known) least.passes
 
 module _ (placed : List Placed) (window : ℕ) (certificate : CertificateView) where
   -- a listed cycle that is reached and not good

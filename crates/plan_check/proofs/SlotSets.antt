@@ -1,6 +1,7 @@
 -- Sets of slots as numbers: their symmetric difference, and their least slot.
 use Rattle.std.proofs.Common.{◌≡◌, ℕ, zero, suc, ◌+◌, ◌%◌, ◌<◌, Bool, nat_eq, Option, Some, None, MatchOption, bit_xor, refl, sym, ap, ◌∙◌, arith}
 use Rattle.std.specs.Int.{bit_at}
+use Rattle.std.proofs.lemmas.Bool.{both_ways}
 use Rattle.std.proofs.lemmas.Nat.Bits.{bit_at-lt, bit_at_xor}
 use Rattle.bit_sets.specs.Sets.{has_bit, most_slots}
 use Rattle.bit_sets.specs.Least.{least_where}
@@ -31,3 +32,7 @@ in-words test (Some least) is = record { known = is.0; passes = is.1; least = is
 pub least-found : (test : ℕ → Bool) (found : Option ℕ) → found ≡ least_where most_slots test
     → MatchOption found (NoSlot test) (λ slot. IsLeastSlot test slot)
 least-found test found is = in-words test found (least_where-of most_slots test found (sym is))
+
+-- where no slot passes there is no least one
+pub no-least : (test : ℕ → Bool) (slot : ℕ) → NoSlot test → IsLeastSlot test slot → ⊥
+no-least test slot none least = both_ways (test slot) (none slot least.known) least.passes

@@ -1,5 +1,5 @@
 -- A certificate is taken exactly where it has no breach.
-use Rattle.std.proofs.Common.{◌≡◌, ℕ, zero, suc, ◌+◌, ◌-◌, ◌<◌, ◌≤◌, Bool, true, false, not, ◌&&◌, nat_eq, Some, List, length, sym, ap, ◌∙◌, ⊎_elim, arith}
+use Rattle.std.proofs.Common.{◌≡◌, ℕ, zero, suc, ◌+◌, ◌-◌, ◌<◌, ◌≤◌, true, false, not, ◌&&◌, nat_eq, Some, List, length, sym, ap, ◌∙◌, ⊎_elim, arith}
 use Rattle.std.specs.Option.{option_map_or}
 use Rattle.std.proofs.Math.Nat.{le-max_left, le-max_right}
 use Rattle.std.proofs.lemmas.Bool.{cases_lt, eqb-true, and_parts, false_from_ne_true, not-true}
@@ -11,13 +11,11 @@ use Rattle.plan_check.specs.declared.breach.Breach.{Breach}
 use Rattle.plan_check.specs.declared.breach.Breach.TheVariants.{BadLoop, NotReleased, TooWide, Missed, NotClosed}
 use Rattle.plan_check.specs.Certificate.{CertificateView, IsCertificate, flags_of}
 use Rattle.plan_check.specs.PlanKept.{HasPending, IsOwed, IsOwedIn, IsTaken, NoSlot, is_bad, is_open}
-use Rattle.plan_check.specs.Breaches.{IsBreach, IsGoodAt, IsLeastSlot, is_flagged, is_missed, is_unreleased, is_waiting}
+use Rattle.plan_check.specs.Breaches.{IsBreach, IsGoodAt, is_flagged, is_missed, is_unreleased, is_waiting}
 use Rattle.requirement_table.proofs.Shared.{found-of}
 use Rattle.plan_check.proofs.Held.{flagged-once, holder-of, max-below, waits-of}
 use Rattle.plan_check.proofs.Repeated.{good_cycle-of, good-ever}
-
-pub passes-none : (test : ℕ → Bool) (slot : ℕ) → NoSlot test → IsLeastSlot test slot → ⊥
-passes-none test slot none least = let passes = least.passes in let nothing = none slot least.known in absurd (cc)
+use Rattle.plan_check.proofs.SlotSets.{no-least}
 
 module _ (placed : List Placed) (window : ℕ) (certificate : CertificateView) (well : IsWellPlaced placed)
     (valid : HasPending placed certificate.from (has_bit certificate.pending)) where
@@ -124,8 +122,8 @@ module _ (placed : List Placed) (window : ℕ) (certificate : CertificateView) (
 
     -- where it is taken there is no breach
     pub breach-wrong : (breach : Breach) → IsBreach placed window certificate breach → ⊥
-    breach-wrong (BadLoop slot) is = passes-none (is_bad placed certificate) slot taken.loop.rounds is
-    breach-wrong (NotReleased cycle slot) is = passes-none (is_unreleased placed certificate is.number) slot (goods is.number).released is.slot_is
+    breach-wrong (BadLoop slot) is = no-least (is_bad placed certificate) slot taken.loop.rounds is
+    breach-wrong (NotReleased cycle slot) is = no-least (is_unreleased placed certificate is.number) slot (goods is.number).released is.slot_is
     breach-wrong (TooWide cycle sum) is = let fits = (goods is.number).fits in let wide = is.wide in let same = is.sum_is in omega arith
-    breach-wrong (Missed slot release cycle) is = passes-none (is_missed placed certificate is.number) slot (goods is.number).in_time is.slot_is
-    breach-wrong (NotClosed slot) is = passes-none (is_open placed certificate) slot taken.loop.closed is.slot_is
+    breach-wrong (Missed slot release cycle) is = no-least (is_missed placed certificate is.number) slot (goods is.number).in_time is.slot_is
+    breach-wrong (NotClosed slot) is = no-least (is_open placed certificate) slot taken.loop.closed is.slot_is

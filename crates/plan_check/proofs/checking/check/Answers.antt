@@ -6,7 +6,8 @@ use Rattle.plan_check.specs.declared.breach.Breach.TheVariants.{BadLoop}
 use Rattle.plan_check.specs.Certificate.{CertificateView, IsCertificate, length_of}
 use Rattle.plan_check.specs.PlanKept.{IsTaken, differ, goes_round, is_bad, is_held, is_open}
 use Rattle.plan_check.proofs.CycleSteps.{least-same, none-same}
-use Rattle.plan_check.proofs.Taken.{breach-wrong, passes-none, taken-of}
+use Rattle.plan_check.proofs.Taken.{breach-wrong, taken-of}
+use Rattle.plan_check.proofs.SlotSets.{no-least}
 use Rattle.plan_check.proofs.checking.check.Goals as goal
 
 bad-is : (placed : List Placed) (certificate : CertificateView) (bad first length : ℕ) → first ≡ certificate.first → length ≡ length_of certificate
@@ -87,7 +88,7 @@ returns-in-Some-least-clause-ok c =
     c.in_ok-before.ensures.behind c.symmetric_difference.ensures.slots)
     c.in-Some-least.ensures.least in (
       λ wrong. absurd (cc),
-      λ taken. absurd (passes-none (is_open placed certificate) c.in-Some-least.slot taken.loop.closed least),
+      λ taken. absurd (no-least (is_open placed certificate) c.in-Some-least.slot taken.loop.closed least),
     )
 
 pub returns-in-None-clause-ok : goal.returns-in-None-clause-ok
