@@ -1,10 +1,10 @@
 //! Sets of slots. A set is two words of the processor, and no call goes from slot to slot.
 
-ghost use Rattle.std.specs.Prelude.{◌≡◌, ℕ, ◌^◌, ◌<◌, ◌||◌, ◌&&◌, ◌==◌, not, nat_eq, false, None, Some};
+ghost use Rattle.std.specs.Prelude.{◌≡◌, ℕ, ◌*◌, ◌%◌, ◌^◌, ◌<◌, ◌||◌, ◌&&◌, ◌==◌, not, nat_eq, false, None, Some};
 ghost use Rattle.bit_sets.specs.Least.{least_where};
 ghost use Rattle.bit_sets.specs.Sets.{has_bit, set_of, most_slots};
 
-use crate::words::{high_word, low_word, of_words, one_bit};
+use crate::words::{high_word, low_word, of_words};
 use std::marker::Model;
 
 /// The first slot of the higher word.
@@ -18,6 +18,19 @@ pub struct Mask {
     low: u64,
     /// The others: bit s is slot s + 64.
     high: u64,
+}
+
+/// The number of the set of one slot. The loop of a wheel takes fewer instructions than with the number that rows have
+/// (`words::one_bit`).
+fn one_slot(slot: u8) -> u128
+    requires known { slot < most_slots }
+    ensures number { result ≡ 1 * 2 ^ slot % 2 ^ 128 }
+{
+    if slot < FIRST_HIGH {
+        u128::from(1u64 << slot)
+    } else {
+        u128::from(1u64 << (slot - FIRST_HIGH)) << FIRST_HIGH
+    }
 }
 
 impl Model for Mask {
@@ -104,7 +117,7 @@ impl Mask {
         requires { slot < most_slots }
         ensures slots { (s : ℕ) → has_bit result s ≡ ((s == slot) || has_bit self s) }
     {
-        Mask::from_bits(self.bits() | one_bit(usize::from(slot)))
+        Mask::from_bits(self.bits() | one_slot(slot))
     }
 
     /// The set with the slot not in it.
@@ -113,7 +126,7 @@ impl Mask {
         requires { slot < most_slots }
         ensures slots { (s : ℕ) → has_bit result s ≡ (not (s == slot) && has_bit self s) }
     {
-        Mask::from_bits(self.bits() & !one_bit(usize::from(slot)))
+        Mask::from_bits(self.bits() & !one_slot(slot))
     }
 
     /// Law: a mask holds no slot but the known ones, and is the set of the slots that it contains.
