@@ -19,7 +19,7 @@ use Rattle.admission.specs.Judged.{IsRankedFrom}
 use Rattle.admission.specs.Period.{IsPeriodUpTo}
 use Rattle.admission.specs.Recurrence.{HasNoRecurrence, bound_of}
 use Rattle.admission.specs.Verdict.{IsDecisionOnPlan, IsMissDecision, IsPlannedUpTo, IsSafe, IsTakenWhereDue, IsVerdictOnPlan, masks_of, placed_with, plan_from, ranking_by, trail_of}
-use Rattle.admission.specs.WalkLaws.{GoesOn}
+use Rattle.admission.specs.WalkLaws.{GoesOnAlike}
 use Rattle.admission.specs.Walked.{IsWalked}
 use Rattle.admission.proofs.Complete.{StaysValid, recurs}
 use Rattle.admission.proofs.Cycles.{IsLike, like-refl, same-masks}
@@ -226,10 +226,10 @@ module _ (rules : Rules) (list : List Placed) (walked : Ranking) (from pending :
   walked-positive period period_is length found = (repeating-reduced from rules.horizon length list period well period_is found).positive
 
   pub walked-goes_on : (window bound : ℕ) (period : Option ℕ) → bound ≡ bound_of from list → IsPeriodUpTo rules.horizon list period
-      → GoesOn walked window bound period
+      → GoesOnAlike walked window bound period
   walked-goes_on window bound period bound_is period_is =
-      subst (λ b. GoesOn walked window b period) (sym bound_is)
-      (subst (λ r. GoesOn r window (bound_of from list) period) (sym walked_is)
+      subst (λ b. GoesOnAlike walked window b period) (sym bound_is)
+      (subst (λ r. GoesOnAlike r window (bound_of from list) period) (sym walked_is)
       (goes-on (ranking_of rules list from) window (bound_of from list) period
       (λ length found. repeating-reduced from rules.horizon length list period well period_is found)))
 

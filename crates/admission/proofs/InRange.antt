@@ -9,7 +9,7 @@ use Rattle.planner_policies.specs.Plan.{IsValid, Planning, mask_at, planned_at}
 use Rattle.planner_policies.specs.declared.state.PlanState.{PlanState}
 use Rattle.plan_check.specs.Certificate.{CertificateView, length_of}
 use Rattle.plan_check.specs.PlanKept.{HasPending}
-use Rattle.plan_check.specs.PlanText.{IsPlanOf, mask_bound, plan_text}
+use Rattle.plan_check.specs.PlanText.{IsTextOfPlan, mask_bound, plan_text}
 use Rattle.plan_check.specs.declared.plan_runs.Version.TheVariants.{Two}
 use Rattle.admission_rules.specs.declared.Rules.{Rules}
 use Rattle.admission.specs.Certified.{IsCertificateFrom, IsCertificateOf, end_of}
@@ -43,7 +43,7 @@ module _ (rules : Rules) (placed : List Placed) (opened : List ℕ) (state : Pla
         let near = ranges.near_horizon in
         omega arith
 
-    pub text-read : state.cycle ≤ 100000 → IsPlanOf (plan_text certificate) certificate
+    pub text-read : state.cycle ≤ 100000 → IsTextOfPlan (plan_text certificate) certificate
     text-read low =
         let start = made.start in
         let all = count in

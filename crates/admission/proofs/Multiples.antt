@@ -12,7 +12,7 @@ use Rattle.std.proofs.lemmas.Nat.{mod_below}
 use Rattle.std.proofs.lemmas.Nat.Gcd.{dvd_of_mod-eq-zero, le_of_dvd, mod-eq-zero_of_dvd}
 use Rattle.requirement_table.specs.declared.entries.Placed.{Placed}
 use Rattle.planner_policies.specs.Loop.{settled_at}
-use Rattle.admission.specs.Period.{IsLeastMultiple, IsLeastWith, IsMultipleOfBoth, IsMultipleWith, IsPeriodUpTo}
+use Rattle.admission.specs.Period.{IsLeastMultiple, IsLeastMultipleWith, IsMultipleOfBoth, IsMultipleWith, IsPeriodUpTo}
 use Rattle.admission.specs.Recurrence.{IsCommonPeriod}
 use Rattle.admission.proofs.Divided.{divided-along, parts-of}
 
@@ -78,7 +78,7 @@ swapped-least one other limit (Some n) least = (swap one other n least.0, least.
 
 -- an entry that is over asks for nothing
 pub over-least : (common limit : ℕ) (p : Placed) (e : ℕ) → p.end ≡ Some e → 0 < common → common ≤ limit
-    → IsLeastWith common p limit (Some common)
+    → IsLeastMultipleWith common p limit (Some common)
 over-least common limit p e ended positive within = (
   record { positive = positive; of_common = mod_self common; of_period = λ live. absurd (cc) },
   within,
@@ -92,7 +92,7 @@ with-live : (common m : ℕ) (p : Placed) → p.end ≡ None → IsMultipleWith 
 with-live common m p live with' = record { positive = with'.positive; of_one = with'.of_common; of_other = with'.of_period live }
 
 pub live-least : (common limit : ℕ) (p : Placed) (found : Option ℕ) → p.end ≡ None → IsLeastMultiple common p.entry.period limit found
-    → IsLeastWith common p limit found
+    → IsLeastMultipleWith common p limit found
 live-least common limit p None live least = λ m with'. least m (with-live common m p live with')
 live-least common limit p (Some n) live least =
     (live-with common n p least.0, least.1, λ m with'. least.2 m (with-live common m p live with'))
@@ -127,10 +127,10 @@ module _ (limit : ℕ) (placed : List Placed) (p : Placed) (common : ℕ) (so_fa
       let parts = front m shared in
       record { positive = shared.positive; of_common = so_far.divides m parts.0; of_period = parts.1 }
 
-  pub so_far-none : IsLeastWith common p limit None → (m : ℕ) → IsCommonPeriod (placed ++ p ∷ []) m → limit < m
+  pub so_far-none : IsLeastMultipleWith common p limit None → (m : ℕ) → IsCommonPeriod (placed ++ p ∷ []) m → limit < m
   so_far-none least m shared = least m (with-all m shared)
 
-  rest-least : (n m : ℕ) → IsLeastWith common p limit (Some n) → IsMultipleWith common p m → m % n ≡ 0
+  rest-least : (n m : ℕ) → IsLeastMultipleWith common p limit (Some n) → IsMultipleWith common p m → m % n ≡ 0
   rest-least n m least with' =
       let is = least.0 in
       let below = mod_below m n is.positive in
@@ -146,7 +146,7 @@ module _ (limit : ℕ) (placed : List Placed) (p : Placed) (common : ℕ) (so_fa
       absurd (omega arith))
       (cases_lt (m % n) 1)
 
-  pub so_far-next : (n : ℕ) → IsLeastWith common p limit (Some n) → IsPeriodSoFar limit (placed ++ p ∷ []) n
+  pub so_far-next : (n : ℕ) → IsLeastMultipleWith common p limit (Some n) → IsPeriodSoFar limit (placed ++ p ∷ []) n
   so_far-next n least = record {
     shared = record {
       positive = least.0.positive;
@@ -186,14 +186,14 @@ bound-more from placed p =
     ap (λ (ns : List ℕ). fold max from ns) (map-append settled_at placed (p ∷ [])) ∙ fold_push max from (map settled_at placed) (settled_at p)
 
 pub so_far-more : (limit i : ℕ) (placed : List Placed) (d : Placed) (common next : ℕ) → i < length placed
-    → IsPeriodSoFar limit (take i placed) common → IsLeastWith common (get_or placed i d) limit (Some next)
+    → IsPeriodSoFar limit (take i placed) common → IsLeastMultipleWith common (get_or placed i d) limit (Some next)
     → IsPeriodSoFar limit (take (i + 1) placed) next
 so_far-more limit i placed d common next within so_far least =
     subst (λ list. IsPeriodSoFar limit list next) (sym (take_more placed i d within))
     (so_far-next limit (take i placed) (get_or placed i d) common so_far next least)
 
 pub none-more : (limit i : ℕ) (placed : List Placed) (d : Placed) (common : ℕ) → i < length placed
-    → IsPeriodSoFar limit (take i placed) common → IsLeastWith common (get_or placed i d) limit None → IsPeriodUpTo limit placed None
+    → IsPeriodSoFar limit (take i placed) common → IsLeastMultipleWith common (get_or placed i d) limit None → IsPeriodUpTo limit placed None
 none-more limit i placed d common within so_far least m shared =
     let none : (n : ℕ) → IsCommonPeriod (take (i + 1) placed) n → limit < n =
     subst (λ list. (n : ℕ) → IsCommonPeriod list n → limit < n) (sym (take_more placed i d within))

@@ -13,7 +13,7 @@ use Rattle.planner_policies.specs.declared.state.PlanState.{PlanState}
 use Rattle.planner_policies.specs.Loop.{RepeatsFrom}
 use Rattle.planner_policies.specs.Plan.{HasNoMissIn, IsMissIn, IsValid, Ranking, is_missed_in, left_after, planning_of}
 use Rattle.admission.specs.Course.{is_held_from, left_from, missed_from, state_behind}
-use Rattle.admission.specs.WalkLaws.{GoesOn}
+use Rattle.admission.specs.WalkLaws.{GoesOnAlike}
 use Rattle.admission.proofs.Cycles.{Agree, IsLike, like-left, like-missed, like-sym, none-set}
 use Rattle.admission.proofs.Divided.{divided-along, divided-gap, not-by_zero}
 use Rattle.admission.proofs.Later.{IsSettled, like-behind}
@@ -81,7 +81,7 @@ module _ (ranking : Ranking) (other : List Placed) (window c d pending has : ℕ
 
 -- so a walk goes on in the same way after states that are the same
 pub goes-on : (ranking : Ranking) (window bound : ℕ) (period : Option ℕ)
-    → ((length : ℕ) → period ≡ Some length → IsRepeating bound length ranking.placed) → GoesOn ranking window bound period
+    → ((length : ℕ) → period ≡ Some length → IsRepeating bound length ranking.placed) → GoesOnAlike ranking window bound period
 goes-on ranking window bound None repeating one other same = absurd same
 goes-on ranking window bound (Some length) repeating one other same =
     let like = like-places ranking.policy bound length ranking.placed one.cycle other.cycle (repeating length refl) same.one_settled same.other_settled same.place in

@@ -23,9 +23,9 @@ pub record IsMultipleWith (common : ℕ) (p : Placed) (multiple : ℕ) : Type 0 
   pub of_period : p.end ≡ None → multiple % p.entry.period ≡ 0
 
 -- the least such number, where it is at most the limit
-abbrev pub IsLeastWith : ℕ → Placed → ℕ → Option ℕ → Type 0
-IsLeastWith common p limit None = (multiple : ℕ) → IsMultipleWith common p multiple → limit < multiple
-IsLeastWith common p limit (Some least) =
+abbrev pub IsLeastMultipleWith : ℕ → Placed → ℕ → Option ℕ → Type 0
+IsLeastMultipleWith common p limit None = (multiple : ℕ) → IsMultipleWith common p multiple → limit < multiple
+IsLeastMultipleWith common p limit (Some least) =
     IsMultipleWith common p least × (least ≤ limit)
     × ((multiple : ℕ) → IsMultipleWith common p multiple → least ≤ multiple)
 

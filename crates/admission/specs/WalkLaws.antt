@@ -31,8 +31,8 @@ same-transitive bound (Some length) one other third first second = record {
 }
 
 -- the slots that are missed and those that are left are the same after states that are the same
-abbrev pub GoesOn : Ranking → ℕ → ℕ → Option ℕ → Type 0
-GoesOn ranking window bound period = (one other : PlanState) → IsSame bound period one other
+abbrev pub GoesOnAlike : Ranking → ℕ → ℕ → Option ℕ → Type 0
+GoesOnAlike ranking window bound period = (one other : PlanState) → IsSame bound period one other
     → (missed_from ranking window one ≡ missed_from ranking window other)
     × (left_from ranking window one ≡ left_from ranking window other)
 
@@ -55,7 +55,7 @@ go-on bound period true one other same = same
 go-on bound period false one other same = tt
 
 pub kept : (ranking : Ranking) (window bound : ℕ) (period : Option ℕ)
-    → GoesOn ranking window bound period → (one other : PlanState)
+    → GoesOnAlike ranking window bound period → (one other : PlanState)
     → IsSame bound period one other
     → GoOnAlike (IsSame bound period) (state_behind ranking window one) (state_behind ranking window other)
 kept ranking window bound period goes_on one other same =

@@ -13,7 +13,7 @@ ghost use Rattle.planner_policies.specs.Plan.{HasNoMiss, IsValid, NeverMisses, P
 ghost use Rattle.planner_policies.specs.declared.state.PlanState.{PlanState};
 ghost use Rattle.plan_check.specs.Certificate.{CertificateView};
 ghost use Rattle.plan_check.specs.PlanKept.{HasPending};
-ghost use Rattle.plan_check.specs.PlanText.{IsPlanOf, plan_text};
+ghost use Rattle.plan_check.specs.PlanText.{IsTextOfPlan, plan_text};
 ghost use Rattle.admission_rules.specs.declared.Rules.{Rules};
 ghost use Rattle.admission.specs.Certified.{IsCertificateFrom, IsCertificateOf, end_of};
 ghost use Rattle.admission.specs.declared.verdict.Verdict.{Verdict};
@@ -90,7 +90,7 @@ pub fn certificates_in_range()
         (certificate : CertificateView) → IsRules rules → state.cycle ≤ 100000
         → IsCertificateOf rules placed opened state certificate
         → certificate.masks ≡ masks_of (plan_from rules placed 0 0) (end_of certificate)
-        → IsPlanOf (plan_text certificate) certificate }
+        → IsTextOfPlan (plan_text certificate) certificate }
     ensures pending_from { (rules : Rules) (placed : List Placed) (state : PlanState) (certificate : CertificateView)
         → IsCertificateFrom rules placed state certificate → IsValid placed state.cycle state.pending
         → HasPending placed certificate.from (has_bit certificate.pending) }

@@ -3,7 +3,7 @@
 ghost use Rattle.std.specs.Prelude.{◌≡◌, ◌^◌, ◌<◌, ◌≤◌};
 ghost use Rattle.requirement_table.specs.Table.{IsInRange, IsWellPlaced};
 ghost use Rattle.planner_policies.specs.Loop.{settled_at};
-ghost use Rattle.admission.specs.Period.{IsLeastMultiple, IsLeastWith, IsPeriodUpTo};
+ghost use Rattle.admission.specs.Period.{IsLeastMultiple, IsLeastMultipleWith, IsPeriodUpTo};
 ghost use Rattle.admission.specs.Recurrence.{bound_of};
 
 use requirement_table::Placed;
@@ -55,7 +55,7 @@ fn with_period(common: u64, placed: &Placed, limit: u64) -> Option<u64>
     requires in_range { IsInRange placed.now }
     requires positive { 0 < common }
     requires limit { common ≤ limit }
-    ensures least { IsLeastWith common placed.now limit result }
+    ensures least { IsLeastMultipleWith common placed.now limit result }
 {
     match placed.end {
         Some(_) => Some(common),

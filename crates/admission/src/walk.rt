@@ -4,7 +4,7 @@ ghost use Rattle.std.specs.Prelude.{◌≡◌, ◌+◌, ◌^◌, ◌<◌, ◌≤
 ghost use Rattle.profile.specs.Limits.{cycles_end, openings_end};
 ghost use Rattle.bit_sets.specs.Sets.{has_bit};
 ghost use Rattle.admission.specs.Course.{is_held_from};
-ghost use Rattle.admission.specs.WalkLaws.{GoesOn};
+ghost use Rattle.admission.specs.WalkLaws.{GoesOnAlike};
 ghost use Rattle.admission.specs.Walked.{AreKeys};
 ghost use Rattle.recurrence_check.specs.Keys.{row_places};
 ghost use Rattle.release_wheel.specs.Demand.{demand_in};
@@ -35,7 +35,7 @@ pub struct PlanWalk<'a> {
     ghost held: { (slot : ℕ) → has_bit first.pending slot ≡ true
         → is_held_from start.now.ranking.placed first.cycle slot ≡ true },
     ghost positive: { (length : ℕ) → period ≡ Some length → 0 < length },
-    ghost goes_on: { GoesOn start.now.ranking window bound period },
+    ghost goes_on: { GoesOnAlike start.now.ranking window bound period },
     ghost fits: { (c : ℕ) → first.cycle ≤ c → c < fits_until → demand_in start.now.ranking.placed c ≤ window },
     ghost fits_end: { fits_until ≤ cycles_end },
 }

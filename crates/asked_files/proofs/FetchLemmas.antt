@@ -13,7 +13,7 @@ use Rattle.asked_files.specs.declared.inputs.Inputs.{Inputs}
 use Rattle.asked_files.specs.declared.stopping.Stop.{Stop}
 use Rattle.asked_files.specs.Inputs.{AreRead, IsHeld, MayBeRead, MayHold, nothing_read, with_content}
 use Rattle.asked_files.specs.Loads.{AreAllRead, IsBarred, IsHeldUp}
-use Rattle.asked_files.specs.Sources.{StopsAt, count_behind}
+use Rattle.asked_files.specs.Sources.{StopsAtFile, count_behind}
 use Rattle.asked_files.proofs.LoadLemmas.{barred-behind}
 use Rattle.asked_files.proofs.SourceLemmas.{stopped-at, stops-behind}
 
@@ -124,7 +124,7 @@ module _ (told : Option NamedFiles) (files : List NamedFile) (old now i : ℕ) (
       (Err why, held, refl))
 
   pub held-up : (later rose : Type 0) (middle : Option NamedFiles) (next : ℕ) (why : Stop) → (later → rose) → middle ≡ told
-      → next ≡ next_count now → StopsAt middle later file why → IsBarred ⊥ later middle (λ all. IsHeld all file inputs) why
+      → next ≡ next_count now → StopsAtFile middle later file why → IsBarred ⊥ later middle (λ all. IsHeld all file inputs) why
       → IsHeldUp ⊥ rose told (λ all. AreRead all (map named files) nothing_read) (map named files) old next why
   held-up later rose middle next why more same once at barred = record {
     barred = barred-behind ⊥ later rose middle told (λ all. IsHeld all file inputs)

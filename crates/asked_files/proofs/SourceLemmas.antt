@@ -4,11 +4,11 @@ use Rattle.ftt_io.specs.Files.{IsAbsent, NamedFiles}
 use Rattle.command_words.specs.Words.{NamedSource}
 use Rattle.asked_files.specs.declared.stopping.Stop.{Stop}
 use Rattle.asked_files.specs.declared.stopping.Stop.TheVariants.{Words, Input, Read, Write, Memory}
-use Rattle.asked_files.specs.Sources.{IsStoppedAt, StoppedBehind, StopsAt, WereRead, count_behind}
+use Rattle.asked_files.specs.Sources.{IsStoppedAt, StoppedBehind, StopsAtFile, WereRead, count_behind}
 
 module _ (told : Option NamedFiles) (rose : Type 0) where
   behind : (front : List NamedSource) (last : NamedSource) → WereRead told front → (why : Stop)
-      → StopsAt told rose last why → StoppedBehind told rose why (front ++ last ∷ [])
+      → StopsAtFile told rose last why → StoppedBehind told rose why (front ++ last ∷ [])
   behind front last before (Input refusal) at =
       record { front = front; last = last; parts = refl; before = before; here = at }
   behind front last before Read at = record { front = front; last = last; parts = refl; before = before; here = at }
@@ -18,7 +18,7 @@ module _ (told : Option NamedFiles) (rose : Type 0) where
   -- the last of the files that were fetched stopped the call
   pub stopped-at : (front : List NamedSource) (last : NamedSource) (rest sources : List NamedSource) (old new : ℕ)
       (why : Stop) → sources ≡ (front ++ last ∷ []) ++ rest → new ≡ count_behind old (front ++ last ∷ [])
-      → WereRead told front → StopsAt told rose last why → IsStoppedAt told rose sources old new why
+      → WereRead told front → StopsAtFile told rose last why → IsStoppedAt told rose sources old new why
   stopped-at front last rest sources old new why parts counted before at = record {
     fetched = front ++ last ∷ [];
     rest = rest;
@@ -29,7 +29,7 @@ module _ (told : Option NamedFiles) (rose : Type 0) where
 
   -- what stops at a file behind others stops the call that fetches them all
   pub stops-behind : (later : Type 0) (middle : Option NamedFiles) (file : NamedSource) (why : Stop) → (later → rose)
-      → middle ≡ told → StopsAt middle later file why → StopsAt told rose file why
+      → middle ≡ told → StopsAtFile middle later file why → StopsAtFile told rose file why
   stops-behind later middle file Words more same at = at
   stops-behind later middle file (Input refusal) more same at = at
   stops-behind later middle file Read more same (inl fault) = inl (more fault)

@@ -10,7 +10,7 @@ use Rattle.steps_file.specs.declared.steps.Step.{Step}
 use Rattle.requests_file.specs.RequestsFile.{AreLegal}
 use Rattle.steps_file.specs.StepsFile.{AreLegalSteps}
 use Rattle.elastic.specs.declared.wish.Wish.{Wish}
-use Rattle.sporadic_poll.specs.StreamsFile.{AreLegal as AreLegalStreams}
+use Rattle.sporadic_poll.specs.StreamsFile.{AreLegalStreams}
 use Rattle.sporadic_poll.specs.declared.stream.Stream.{Stream}
 use Rattle.command_words.specs.Words.{Command}
 use Rattle.command_words.specs.declared.table.Verb.{Verb}

@@ -3,7 +3,7 @@ use Rattle.std.specs.Prelude.{◌≡◌, ℕ, ◌≤◌, All, List, [], ◌∷�
 use Rattle.std.specs.Option.{option_map_or}
 use Rattle.ftt_io.specs.Files.{NamedFiles}
 use Rattle.plan_check.specs.Certificate.{CertificateView}
-use Rattle.plan_check.specs.PlanText.{IsFirstWrongLine, IsPlanOf, IsReadable}
+use Rattle.plan_check.specs.PlanText.{IsFirstWrongLine, IsReadable, IsTextOfPlan}
 use Rattle.plan_check.specs.declared.plan_runs.Version.TheVariants.{Two}
 use Rattle.log_reader.specs.Row.{AreRowsOf, IsFirstFaultyRow}
 use Rattle.log_reader.specs.declared.row.LogRow.{LogRow}
@@ -14,7 +14,7 @@ use Rattle.requests_file.specs.RequestsFile.{AreLegal, requests_of}
 use Rattle.elastic.specs.Combination.{HasFewChoices}
 use Rattle.elastic.specs.WishesFile.{IsLegalWish, wish_of}
 use Rattle.elastic.specs.declared.wish.Wish.{Wish}
-use Rattle.sporadic_poll.specs.StreamsFile.{AreLegal as AreLegalStreams, streams_of}
+use Rattle.sporadic_poll.specs.StreamsFile.{AreLegalStreams, streams_of}
 use Rattle.command_words.specs.Words.{NamedSource, limit_of}
 use Rattle.command_words.specs.declared.table.Source.{Source}
 use Rattle.asked_files.specs.declared.inputs.Content.{Content}
@@ -75,12 +75,12 @@ pub record IsFromStart (certificate : CertificateView) : Type 0 where
 -- these bytes are the text of a plan that begins later, or with something pending
 pub record IsLaterPlan (bytes : List ℕ) : Type 0 where
   pub certificate : CertificateView
-  pub plan : IsPlanOf bytes certificate
+  pub plan : IsTextOfPlan bytes certificate
   pub later : IsFromStart certificate → ⊥
 
 -- what the bytes of a plan's file mean, for a check
 abbrev pub IsPlanMeant : List ℕ → Result Content Stop → Type 0
-IsPlanMeant bytes (Ok (Content.Plan certificate)) = IsPlanOf bytes certificate × IsFromStart certificate
+IsPlanMeant bytes (Ok (Content.Plan certificate)) = IsTextOfPlan bytes certificate × IsFromStart certificate
 IsPlanMeant bytes (Err (Input (Refusal.Plan line))) = IsFirstWrongLine bytes line
 IsPlanMeant bytes (Err (Input Refusal.LaterPlan)) = IsLaterPlan bytes
 IsPlanMeant bytes _ = ⊥

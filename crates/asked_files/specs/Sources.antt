@@ -40,15 +40,15 @@ WereRead told fetched = ForSome told (λ files. (inputs : Inputs) × AreRead fil
 -- A call may stop for this reason at this file, where `told` are the files, where they are told, and `rose` says that
 -- the shelf's count of faults rose. The file is refused; or it could not be read, and then the shelf failed or has no
 -- such file; or memory ran out
-abbrev pub StopsAt : Option NamedFiles → Type 0 → NamedSource → Stop → Type 0
-StopsAt told rose file (Input refusal) = source_of refusal ≡ file.source
-StopsAt told rose file Read = rose ⊎ IsAbsent told file.name
-StopsAt told rose file Memory = ⊤
-StopsAt told rose file _ = ⊥
+abbrev pub StopsAtFile : Option NamedFiles → Type 0 → NamedSource → Stop → Type 0
+StopsAtFile told rose file (Input refusal) = source_of refusal ≡ file.source
+StopsAtFile told rose file Read = rose ⊎ IsAbsent told file.name
+StopsAtFile told rose file Memory = ⊤
+StopsAtFile told rose file _ = ⊥
 
 -- the same of a shelf that shows its files and its faults so
 abbrev pub StopsOn : {S : Type 0} → (S → Option NamedFiles) → (S → ℕ) → S → S → NamedSource → Stop → Type 0
-StopsOn told_files faults old new file why = StopsAt (told_files old) (Rose (faults old) (faults new)) file why
+StopsOn told_files faults old new file why = StopsAtFile (told_files old) (Rose (faults old) (faults new)) file why
 
 -- of these files all but the last were read, and a call may stop for this reason at the last
 pub record EndsAt (told : Option NamedFiles) (rose : Type 0) (why : Stop) (fetched : List NamedSource) : Type 0 where
@@ -56,7 +56,7 @@ pub record EndsAt (told : Option NamedFiles) (rose : Type 0) (why : Stop) (fetch
   pub last : NamedSource
   pub parts : fetched ≡ front ++ last ∷ []
   pub before : WereRead told front
-  pub here : StopsAt told rose last why
+  pub here : StopsAtFile told rose last why
 
 -- a call that stopped for this reason made as many fetches as these files are: none where its words are no command's,
 -- and none behind the first file that is refused or could not be read. Where memory ran out it made any number

@@ -11,7 +11,7 @@ use Rattle.async_window.specs.declared.request.Request.{Request}
 use Rattle.async_window.specs.Waiting.{requests_of, unsent_after}
 use Rattle.async_window.specs.Mailbox.{Mail, IsMail, mail_after, unsent_of, taken_from, without_first, left}
 use Rattle.async_window.specs.Tournament.{Notes, TellFirsts, arrival_within, first_length}
-use Rattle.async_window.specs.Sorted.{AreKept, AreShort, IsPlaceOf, mail_of, nowhere}
+use Rattle.async_window.specs.Sorted.{AreBoxesSorted, AreShort, IsPlaceOf, mail_of, nowhere}
 use Rattle.async_window.proofs.Unsent.{AllPairs-map, Contains-later, IsMail-after, IsMail-without, taken_from-identifier, taken_from-keeps, unsent_of-among, unsent_of-elsewhere, unsent_of-without, without_first-identifiers, without_head}
 use Rattle.async_window.proofs.Order.{distinct-permutation}
 use Rattle.async_window.proofs.Table.{few-rising, no_place, place-identifier, unsent_of-at, unsent_of-nowhere}
@@ -80,7 +80,7 @@ module _ (ids sorted : List ℕ) (requests : List Request) (made : IsMade ids so
   pub AreKept-made : (i remaining : ℕ) (boxes : List Mail) (table arrivals lengths : List ℕ) → length requests ≤ i
       → HasPut sorted requests i boxes remaining → length table ≡ 2048
       → ((id place : ℕ) → id < 2048 → place < nowhere → (slice_get table id ≡ Some place) ↔ (slice_get sorted place ≡ Some id))
-      → TellFirsts (length boxes) boxes arrivals lengths → AreKept ids boxes table arrivals lengths remaining
+      → TellFirsts (length boxes) boxes arrivals lengths → AreBoxesSorted ids boxes table arrivals lengths remaining
   AreKept-made i remaining boxes table arrivals lengths all has long places firsts =
       let whole : boxes ≡ mail_after sorted requests [] = has.put ∙ ap (λ xs. mail_after sorted xs []) (take_all i requests all) in
       let view : mail_of ids boxes ≡ mail_after ids requests [] = ap (λ mail. mail_of ids mail) whole ∙ mail_of-made in
@@ -131,7 +131,7 @@ no-first [] none = refl
 no-first (request ∷ later) none = absurd (false≢true (sym none))
 
 module _ (ids : List ℕ) (boxes : List Mail) (table arrivals lengths : List ℕ) (remaining : ℕ)
-    (kept : AreKept ids boxes table arrivals lengths remaining) where
+    (kept : AreBoxesSorted ids boxes table arrivals lengths remaining) where
   pub few-boxes : length boxes ≤ 2048
   few-boxes = few-rising boxes kept.rising kept.known.greatest
 
@@ -207,7 +207,7 @@ module _ (ids : List ℕ) (boxes : List Mail) (table arrivals lengths : List ℕ
 
     pub AreKept-taken : (arrivals-now lengths-now : List ℕ) → Notes (arrival_within 8) (set boxes place new) place arrivals arrivals-now
         → Notes first_length (set boxes place new) place lengths lengths-now
-        → AreKept ids (set boxes place new) table arrivals-now lengths-now (remaining - 1)
+        → AreBoxesSorted ids (set boxes place new) table arrivals-now lengths-now (remaining - 1)
     AreKept-taken arrivals-now lengths-now arrive_now long_now = record {
       mail = subst IsMail (sym mail-taken) (IsMail-without id (mail_of ids boxes) kept.mail);
       same = λ other.

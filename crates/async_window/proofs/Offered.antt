@@ -9,7 +9,7 @@ use Rattle.stuff_bound.specs.Stuffing.{worst}
 use Rattle.cycle_layout.specs.Layout.{CycleLayout, async_open, sync_start}
 use Rattle.async_window.specs.declared.request.Request.{Request}
 use Rattle.async_window.specs.Waiting.{MayStart}
-use Rattle.async_window.specs.Mailbox.{Mail, IsMail, Offers, IsLeastWith, unsent_of, may_start, least_of, mail_offer}
+use Rattle.async_window.specs.Mailbox.{Mail, IsMail, OffersIdentifier, IsLeastWith, unsent_of, may_start, least_of, mail_offer}
 use Rattle.async_window.proofs.Unsent.{unsent_of-here, unsent_of-later}
 
 -- the test and the relation
@@ -141,14 +141,14 @@ module _ (layout : CycleLayout) (l at : ℕ) where
             rest)
       ]
 
-  pub Offers-least : (mail : List Mail) → IsMail mail → IsLeastWith (Offers layout l mail at) (mail_offer layout l mail at)
+  pub Offers-least : (mail : List Mail) → IsMail mail → IsLeastWith (OffersIdentifier layout l mail at) (mail_offer layout l mail at)
   Offers-least mail known =
-      IsLeastWith-same (Offers layout l mail at) (Passes mail) (mail_offer layout l mail at)
+      IsLeastWith-same (OffersIdentifier layout l mail at) (Passes mail) (mail_offer layout l mail at)
       (λ id. MayStart-from_test layout (at / layout.cycle) l (unsent_of mail id) at)
       (λ id may. test_from_MayStart layout (at / layout.cycle) l (unsent_of mail id) at may.0 may.1)
       (offer-least mail known.distinct)
 
-  pub Offers-among : (mail : List Mail) (id : ℕ) → Offers layout l mail at id → Contains (map (λ box. box.identifier) mail) id
+  pub Offers-among : (mail : List Mail) (id : ℕ) → OffersIdentifier layout l mail at id → Contains (map (λ box. box.identifier) mail) id
   Offers-among mail id may = Passes-among mail id (test_from_MayStart layout (at / layout.cycle) l (unsent_of mail id) at may.0 may.1)
 
 pub IsLeastWith-some : (Has : ℕ → Type 0) (least : Option ℕ) → IsLeastWith Has least → IsSome least ↔ ((n : ℕ) × Has n)

@@ -10,9 +10,9 @@ use Rattle.std.proofs.lemmas.Option.{get_or_from_slice_get, slice_get_within}
 use Rattle.stuff_bound.specs.Stuffing.{worst}
 use Rattle.cycle_layout.specs.Layout.{CycleLayout, IsLayout, async_open, sync_start}
 use Rattle.async_window.specs.declared.request.Request.{Request}
-use Rattle.async_window.specs.Mailbox.{Mail, Offers, SomeWaits, IsLeastWith, IsNextInCycle, StaysUntil, least_of, mail_offer, unsent_of}
-use Rattle.async_window.specs.Tournament.{CanStart, IsSoonest, never, nobody, arrival_within, first_bytes, first_length}
-use Rattle.async_window.specs.Sorted.{AreKept, AreShort, mail_of}
+use Rattle.async_window.specs.Mailbox.{Mail, OffersIdentifier, SomeWaits, IsLeastWith, IsNextInCycle, StaysUntil, least_of, mail_offer, unsent_of}
+use Rattle.async_window.specs.Tournament.{CanStart, IsSoonestStart, never, nobody, arrival_within, first_bytes, first_length}
+use Rattle.async_window.specs.Sorted.{AreBoxesSorted, AreShort, mail_of}
 use Rattle.async_window.proofs.Offered.{IsLeastWith-either, IsLeastWith-one, IsLeastWith-same, IsLeastWith-some, Offers-least}
 use Rattle.async_window.proofs.Table.{unsent_of-at}
 use Rattle.async_window.proofs.Unsent.{first-among}
@@ -114,7 +114,7 @@ sooner-within bytes sooner (r ∷ later) few most low =
     ]
 
 module _ (ids : List ℕ) (boxes : List Mail) (table : List ℕ) (arrivals lengths : List ℕ) (remaining : ℕ)
-    (kept : AreKept ids boxes table arrivals lengths remaining) where
+    (kept : AreBoxesSorted ids boxes table arrivals lengths remaining) where
   -- the first unsent request of an identifier is that of a mailbox
   pub record IsFirstOf (id place : ℕ) (request : Request) : Type 0 where
     pub within : place < length boxes
@@ -175,11 +175,11 @@ module _ (ids : List ℕ) (boxes : List Mail) (table : List ℕ) (arrivals lengt
       absurd (omega arith)
 
 module _ (layout : CycleLayout) (l : ℕ) (ids : List ℕ) (boxes : List Mail) (table : List ℕ) (arrivals lengths : List ℕ)
-    (remaining : ℕ) (kept : AreKept ids boxes table arrivals lengths remaining) where
+    (remaining : ℕ) (kept : AreBoxesSorted ids boxes table arrivals lengths remaining) where
   -- a mailbox whose first request has arrived and may start is offered
   pub offers-at : (at bytes place : ℕ) (d : Mail) → at < never → place < length boxes
       → arrival_within bytes (get_or boxes place d).unsent ≤ at → async_open layout (at / layout.cycle) ≤ at
-      → at + worst bytes ≤ sync_start layout (at / layout.cycle) l → Offers layout l (mail_of ids boxes) at (get_or boxes place d).identifier
+      → at + worst bytes ≤ sync_start layout (at / layout.cycle) l → OffersIdentifier layout l (mail_of ids boxes) at (get_or boxes place d).identifier
   offers-at at bytes place d time within low opened whole =
       let unsent = at_box ids boxes table arrivals lengths remaining kept place d within in
       let first = arrival-from bytes at (get_or boxes place d).unsent time low in (
@@ -200,7 +200,7 @@ module _ (layout : CycleLayout) (l : ℕ) (ids : List ℕ) (boxes : List Mail) (
     pub opened : async_open layout (at / layout.cycle) ≤ at
     pub whole : at + worst (length request.frame.bytes) ≤ sync_start layout (at / layout.cycle) l
 
-  pub offered-by : (at id : ℕ) → Offers layout l (mail_of ids boxes) at id → (place : ℕ) × (request : Request) × IsOfferOf at id place request
+  pub offered-by : (at id : ℕ) → OffersIdentifier layout l (mail_of ids boxes) at id → (place : ℕ) × (request : Request) × IsOfferOf at id place request
   offered-by at id may =
       let found = first-of ids boxes table arrivals lengths remaining kept id may.0 may.1.waiting.first in (
         found.0,
@@ -218,14 +218,14 @@ module _ (layout : CycleLayout) (l : ℕ) (ids : List ℕ) (boxes : List Mail) (
 
   -- the least identifier that is offered, by what the window and the tournament say
   pub none-fits : (at : ℕ) → ((bytes : ℕ) → bytes ≤ 8 → async_open layout (at / layout.cycle) ≤ at
-      → at + worst bytes ≤ sync_start layout (at / layout.cycle) l → ⊥) → IsLeastWith (Offers layout l (mail_of ids boxes) at) None
+      → at + worst bytes ≤ sync_start layout (at / layout.cycle) l → ⊥) → IsLeastWith (OffersIdentifier layout l (mail_of ids boxes) at) None
   none-fits at none = λ id may.
       let found = offered-by at id may in
       none (length found.1.frame.bytes) found.2.short found.2.opened found.2.whole
 
   pub none-arrived : (at room : ℕ) → ((bytes : ℕ) → bytes ≤ 8 → at + worst bytes ≤ sync_start layout (at / layout.cycle) l → bytes ≤ room)
       → ((place : ℕ) (d : Mail) → place < length boxes → at < arrival_within room (get_or boxes place d).unsent)
-      → IsLeastWith (Offers layout l (mail_of ids boxes) at) None
+      → IsLeastWith (OffersIdentifier layout l (mail_of ids boxes) at) None
   none-arrived at room fits none = λ id may.
       let found = offered-by at id may in
       let box : Mail = record { identifier = id; unsent = [] } in
@@ -240,7 +240,7 @@ module _ (layout : CycleLayout) (l : ℕ) (ids : List ℕ) (boxes : List Mail) (
       → async_open layout (at / layout.cycle) ≤ at → at + worst short ≤ sync_start layout (at / layout.cycle) l → first < length boxes
       → ((e : Mail) → arrival_within short (get_or boxes first e).unsent ≤ at)
       → ((place : ℕ) (e : Mail) → place < first → at < arrival_within room (get_or boxes place e).unsent)
-      → IsLeastWith (Offers layout l (mail_of ids boxes) at) (Some (get_or boxes first d).identifier)
+      → IsLeastWith (OffersIdentifier layout l (mail_of ids boxes) at) (Some (get_or boxes first d).identifier)
   first-offers at room short first d time fits opened whole within here before = (
     offers-at at short first d time within (here d) opened whole,
     λ id may.
@@ -272,10 +272,10 @@ module _ (layout : CycleLayout) (l : ℕ) (ids : List ℕ) (boxes : List Mail) (
       arrival-some bytes at (get_or boxes place e).unsent request
       (ap (λ (box : Mail). slice_get box.unsent 0) (get_or_default boxes place e d within) ∙ first) known.0 known.1
 
-  pub is-offer : (at : ℕ) (least : Option ℕ) → IsLeastWith (Offers layout l (mail_of ids boxes) at) least
+  pub is-offer : (at : ℕ) (least : Option ℕ) → IsLeastWith (OffersIdentifier layout l (mail_of ids boxes) at) least
       → least ≡ mail_offer layout l (mail_of ids boxes) at
   is-offer at least is =
-      IsLeastWith-one (Offers layout l (mail_of ids boxes) at) least (mail_offer layout l (mail_of ids boxes) at) is
+      IsLeastWith-one (OffersIdentifier layout l (mail_of ids boxes) at) least (mail_offer layout l (mail_of ids boxes) at) is
       (Offers-least layout l at (mail_of ids boxes) kept.mail)
 
   -- what the window and the tournament say where an identifier is offered at a time: how many data bytes there is room
@@ -292,7 +292,7 @@ module _ (layout : CycleLayout) (l : ℕ) (ids : List ℕ) (boxes : List Mail) (
     pub before : (place : ℕ) (d : Mail) → place < first → sooner ≤ arrival_within room (get_or boxes place d).unsent
 
   pub found-offers : (at room first sooner : ℕ) (d : Mail) → IsFound at room first sooner
-      → IsLeastWith (Offers layout l (mail_of ids boxes) at) (Some (get_or boxes first d).identifier)
+      → IsLeastWith (OffersIdentifier layout l (mail_of ids boxes) at) (Some (get_or boxes first d).identifier)
   found-offers at room first sooner d found =
       let time : at < 2 ^ 60 = found.time in
       first-offers at room room first d (omega arith) found.fits found.opened found.whole found.within found.here
@@ -337,10 +337,10 @@ module _ (layout : CycleLayout) (l : ℕ) (ids : List ℕ) (boxes : List Mail) (
 
   -- where no first request has arrived, nothing is offered
   pub none-waits : (at : ℕ) → ((place : ℕ) (d : Mail) → place < length boxes → at < arrival_within 8 (get_or boxes place d).unsent)
-      → IsLeastWith (Offers layout l (mail_of ids boxes) at) None
+      → IsLeastWith (OffersIdentifier layout l (mail_of ids boxes) at) None
   none-waits at none = none-arrived at 8 (λ bytes few whole. few) none
 
-  never-offered : (at : ℕ) → IsLeastWith (Offers layout l (mail_of ids boxes) at) None → IsSome (mail_offer layout l (mail_of ids boxes) at) → ⊥
+  never-offered : (at : ℕ) → IsLeastWith (OffersIdentifier layout l (mail_of ids boxes) at) None → IsSome (mail_offer layout l (mail_of ids boxes) at) → ⊥
   never-offered at none some =
       let nothing : false ≡ true = subst (λ (o : Option ℕ). IsSome o) (sym (is-offer at None none)) some in
       let impossible : ⊥ = cc (nothing) in
@@ -392,7 +392,7 @@ module _ (boxes : List Mail) (opened closed at : ℕ) (wide : closed < 2 ^ 64) w
         → ((bound : ℕ) → bound < never → soonest ≤ bound
         → (place : ℕ) × (place < length boxes) × ((d : Mail) → arrival_within 8 (get_or boxes place d).unsent ≤ bound))
         → IsLeastWith (λ later. (at < later) × (soonest ≤ later) × (opened ≤ later) × (later + worst 8 ≤ closed)) found
-        → IfSome found (λ next. IsSoonest boxes opened closed at (length boxes) (Some next))
+        → IfSome found (λ next. IsSoonestStart boxes opened closed at (length boxes) (Some next))
     IsSoonest-any None some least = tt
     IsSoonest-any (Some next) some least =
         let fits : next + worst 8 ≤ closed = least.0.3 in
@@ -416,7 +416,7 @@ module _ (boxes : List Mail) (opened closed at : ℕ) (wide : closed < 2 ^ 64) w
     pub IsSoonest-over : (shortest : ℕ)
         → ((place : ℕ) (d : Mail) → place < length boxes → shortest ≤ first_length (get_or boxes place d).unsent)
         → IsLeastWith (λ later. (at < later) × (soonest ≤ later) × (opened ≤ later) × (later + worst shortest ≤ closed)) None
-        → IsSoonest boxes opened closed at (length boxes) None
+        → IsSoonestStart boxes opened closed at (length boxes) None
     IsSoonest-over shortest least none = λ later has.
         let own = arrival-own later (get_or boxes has.0 nobody).unsent (starts-soon (get_or boxes has.0 nobody).unsent later has.2) has.2.arrived in
         let long : shortest ≤ first_length (get_or boxes has.0 nobody).unsent = least has.0 nobody has.1 in
@@ -430,7 +430,7 @@ module _ (boxes : List Mail) (opened closed at : ℕ) (wide : closed < 2 ^ 64) w
   -- where no first request has at most eight data bytes, there is none
   pub IsSoonest-empty : (shortest : ℕ)
       → ((place : ℕ) (d : Mail) → place < length boxes → shortest ≤ first_length (get_or boxes place d).unsent) → 8 < shortest
-      → IsSoonest boxes opened closed at (length boxes) None
+      → IsSoonestStart boxes opened closed at (length boxes) None
   IsSoonest-empty shortest least long = λ later has.
       let own = arrival-own later (get_or boxes has.0 nobody).unsent (starts-soon (get_or boxes has.0 nobody).unsent later has.2) has.2.arrived in
       let high : shortest ≤ first_length (get_or boxes has.0 nobody).unsent = least has.0 nobody has.1 in
@@ -453,15 +453,15 @@ pub CanStart-late : (opened closed at arrival : ℕ) (unsent : List Request) →
 CanStart-late opened closed at arrival unsent is late = λ later can. absurd (omega (arith, can.arrived, can.whole))
 
 -- one mailbox after the other
-pub IsSoonest-none : (boxes : List Mail) (opened closed at : ℕ) → IsSoonest boxes opened closed at 0 None
+pub IsSoonest-none : (boxes : List Mail) (opened closed at : ℕ) → IsSoonestStart boxes opened closed at 0 None
 IsSoonest-none boxes opened closed at = λ later found. let below : found.0 < 0 = found.1 in absurd (omega arith)
 
 pub IsSoonest-more : (boxes : List Mail) (opened closed at count : ℕ) (box : Mail) (one other next : Option ℕ) → count < length boxes
-    → box ≡ get_or boxes count box → IsSoonest boxes opened closed at count one → IsLeastWith (CanStart opened closed at box.unsent) other
-    → next ≡ least_of (option_to_list one ++ option_to_list other) → IsSoonest boxes opened closed at (count + 1) next
+    → box ≡ get_or boxes count box → IsSoonestStart boxes opened closed at count one → IsLeastWith (CanStart opened closed at box.unsent) other
+    → next ≡ least_of (option_to_list one ++ option_to_list other) → IsSoonestStart boxes opened closed at (count + 1) next
 IsSoonest-more boxes opened closed at count box one other next within read first second is_next =
     let here : box ≡ get_or boxes count nobody = read ∙ get_or_default boxes count box nobody within in
-    subst (λ x. IsSoonest boxes opened closed at (count + 1) x) (sym is_next)
+    subst (λ x. IsSoonestStart boxes opened closed at (count + 1) x) (sym is_next)
     (IsLeastWith-either
     (λ time. (place : ℕ) × (place < count) × CanStart opened closed at (get_or boxes place nobody).unsent time)
     (λ time. CanStart opened closed at box.unsent time)
@@ -481,9 +481,9 @@ IsSoonest-more boxes opened closed at count box one other next within read first
     first second)
 
 module _ (layout : CycleLayout) (l at : ℕ) (ids : List ℕ) (boxes : List Mail) (table arrivals lengths : List ℕ)
-    (remaining : ℕ) (kept : AreKept ids boxes table arrivals lengths remaining) (known : IsLayout layout) (time : at < 2 ^ 60) where
+    (remaining : ℕ) (kept : AreBoxesSorted ids boxes table arrivals lengths remaining) (known : IsLayout layout) (time : at < 2 ^ 60) where
   pub next-offer : (opened closed : ℕ) (least : Option ℕ) → opened ≡ async_open layout (at / layout.cycle)
-      → closed ≡ sync_start layout (at / layout.cycle) l → IsSoonest boxes opened closed at (length boxes) least
+      → closed ≡ sync_start layout (at / layout.cycle) l → IsSoonestStart boxes opened closed at (length boxes) least
       → IsNextInCycle layout.cycle at (λ later. IsSome (mail_offer layout l (mail_of ids boxes) later)) least
   next-offer opened closed least is_opened is_closed is =
       IsLeastWith-same
@@ -507,7 +507,7 @@ module _ (layout : CycleLayout) (l at : ℕ) (ids : List ℕ) (boxes : List Mail
       let own = arrival-own later unsent high can.arrived in (
         behind,
         same,
-        (IsLeastWith-some (Offers layout l (mail_of ids boxes) later) (mail_offer layout l (mail_of ids boxes) later)
+        (IsLeastWith-some (OffersIdentifier layout l (mail_of ids boxes) later) (mail_offer layout l (mail_of ids boxes) later)
             (Offers-least layout l later (mail_of ids boxes) kept.mail)).1 (
               (get_or boxes place nobody).identifier,
               offers-at layout l ids boxes table arrivals lengths remaining kept later bytes place nobody high within own.2
@@ -516,7 +516,7 @@ module _ (layout : CycleLayout) (l at : ℕ) (ids : List ℕ) (boxes : List Mail
             ),
       ))
       (λ later found.
-      let offer = (IsLeastWith-some (Offers layout l (mail_of ids boxes) later) (mail_offer layout l (mail_of ids boxes) later)
+      let offer = (IsLeastWith-some (OffersIdentifier layout l (mail_of ids boxes) later) (mail_offer layout l (mail_of ids boxes) later)
       (Offers-least layout l later (mail_of ids boxes) kept.mail)).0 found.2 in
       let by = offered-by layout l ids boxes table arrivals lengths remaining kept later offer.0 offer.1 in
       let bytes : ℕ = length by.1.frame.bytes in

@@ -4,7 +4,7 @@ use Rattle.std.proofs.lemmas.Bool.{cases_eq, cases_lt}
 use Rattle.std.proofs.lemmas.List.{get_or-set_other, get_or_default, length-set}
 use Rattle.async_window.specs.declared.request.Request.{Request}
 use Rattle.async_window.specs.Mailbox.{Mail, IsLeastWith}
-use Rattle.async_window.specs.Tournament.{never, nobody, IsFirstWithin, IsSoonest, Tell, Notes, TellFirsts, arrival_within, first_bytes, first_length}
+use Rattle.async_window.specs.Tournament.{never, nobody, IsFirstWithin, IsSoonestStart, Tell, Notes, TellFirsts, arrival_within, first_bytes, first_length}
 use Rattle.stuff_bound.specs.Stuffing.{worst}
 use Rattle.std.specs.Prelude.{IfSome}
 use Rattle.async_window.proofs.Soonest.{arrives-later, sooner-within}
@@ -114,7 +114,7 @@ pub soonest-starts : (boxes : List Mail) (arrivals : List ℕ) (opened closed at
     → ((other : ℕ) → other < length arrivals → soonest ≤ get_or arrivals other 0) → IsFirstWithin soonest arrivals place sooner
     → box ≡ get_or boxes place box → bytes ≡ first_bytes box.unsent
     → IsLeastWith (λ later. (at < later) × (soonest ≤ later) × (opened ≤ later) × (later + worst bytes ≤ closed)) found
-    → IfSome found (λ next. IsSoonest boxes opened closed at (length boxes) (Some next))
+    → IfSome found (λ next. IsSoonestStart boxes opened closed at (length boxes) (Some next))
 soonest-starts boxes arrivals opened closed at soonest place sooner bytes box None wide early tell low first read long least = tt
 soonest-starts boxes arrivals opened closed at soonest place sooner bytes box (Some next) wide early tell low first read long least =
     let within : place < length boxes

@@ -8,7 +8,7 @@ use Rattle.stuff_bound.specs.Stuffing.{worst}
 use Rattle.can_frame.specs.declared.data_frame.TimedFrame.{TimedFrame}
 use Rattle.cycle_layout.specs.Layout.{CycleLayout, async_open, sync_start}
 use Rattle.async_window.specs.declared.request.Request.{Request}
-use Rattle.async_window.specs.Waiting.{unsent_after, IsWaiting, MayStart}
+use Rattle.async_window.specs.Waiting.{unsent_after, IsRequestWaiting, MayStart}
 
 -- an identifier, and its requests that are not sent, in their order
 pub record Mail : Type 0 where
@@ -46,14 +46,14 @@ pub record IsMail (mail : List Mail) : Type 0 where
 
 -- the identifier is offered at this time: its first unsent request waits and may start, in the cycle of that time,
 -- whose synchronous window has the length l
-abbrev pub Offers : CycleLayout → ℕ → List Mail → ℕ → ℕ → Type 0
-Offers layout l mail at id = (request : Request) × MayStart layout (at / layout.cycle) l (unsent_of mail id) at request
+abbrev pub OffersIdentifier : CycleLayout → ℕ → List Mail → ℕ → ℕ → Type 0
+OffersIdentifier layout l mail at id = (request : Request) × MayStart layout (at / layout.cycle) l (unsent_of mail id) at request
 
 -- some request waits at this time: the first unsent one of some identifier has arrived
 pub record SomeWaits (mail : List Mail) (at : ℕ) : Type 0 where
   pub identifier : ℕ
   pub request : Request
-  pub waits : IsWaiting (unsent_of mail identifier) at request
+  pub waits : IsRequestWaiting (unsent_of mail identifier) at request
 
 -- the least number with a property, or none where no number has it
 abbrev pub IsLeastWith : (ℕ → Type 0) → Option ℕ → Type 0

@@ -29,7 +29,7 @@ AreShort requests = All (λ request. length request.frame.bytes ≤ 8) requests
 
 -- what holds of mailboxes that stand for the mail of `ids`: they are in the order of their identifiers, with a table of
 -- their places, the arrivals and lengths of their first requests, and the number of requests that are left
-pub record AreKept (ids : List ℕ) (boxes : List Mail) (table arrivals lengths : List ℕ)
+pub record AreBoxesSorted (ids : List ℕ) (boxes : List Mail) (table arrivals lengths : List ℕ)
     (remaining : ℕ) : Type 0 where
   pub mail : IsMail (mail_of ids boxes)
   pub same : (id : ℕ) → unsent_of (mail_of ids boxes) id ≡ unsent_of boxes id

@@ -87,7 +87,7 @@ pub record CanStart (opened closed at : ℕ) (unsent : List Request) (time : ℕ
   pub whole : time + worst (first_bytes unsent) ≤ closed
 
 -- the least time behind `at` at which the first request of one of the first `count` mailboxes may start in such a window
-abbrev pub IsSoonest : List Mail → ℕ → ℕ → ℕ → ℕ → Option ℕ → Type 0
-IsSoonest boxes opened closed at count least =
+abbrev pub IsSoonestStart : List Mail → ℕ → ℕ → ℕ → ℕ → Option ℕ → Type 0
+IsSoonestStart boxes opened closed at count least =
     IsLeastWith (λ time. (place : ℕ) × (place < count)
     × CanStart opened closed at (slice_index_or boxes place nobody).unsent time) least

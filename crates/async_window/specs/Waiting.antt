@@ -19,11 +19,11 @@ abbrev pub unsent_after : List Request → List TimedFrame → ℕ → List Requ
 unsent_after requests past id = drop (frames_with past id) (requests_of requests id)
 
 -- *Waiting*: of the unsent requests of one identifier, the first one waits, from its arrival on
-pub record IsWaiting (unsent : List Request) (at : ℕ) (request : Request) : Type 0 where
+pub record IsRequestWaiting (unsent : List Request) (at : ℕ) (request : Request) : Type 0 where
   pub first : slice_get unsent 0 ≡ Some request
   pub arrived : request.at ≤ at
 
 -- the request waits at this time, and is allowed to start then in cycle c, whose synchronous window has the length l
 pub record MayStart (layout : CycleLayout) (c l : ℕ) (unsent : List Request) (at : ℕ) (request : Request) : Type 0 where
-  pub waiting : IsWaiting unsent at request
+  pub waiting : IsRequestWaiting unsent at request
   pub allowed : IsAllowed layout (length request.frame.bytes) at c l

@@ -7,7 +7,7 @@ ghost use Rattle.std.specs.Option.{option_to_list};
 ghost use Rattle.profile.specs.Limits.{times_end};
 ghost use Rattle.stuff_bound.specs.Stuffing.{worst};
 ghost use Rattle.async_window.specs.Mailbox.{IsLeastWith, Mail, least_of};
-ghost use Rattle.async_window.specs.Tournament.{CanStart, IsSoonest, Notes, Tell, TellFirsts};
+ghost use Rattle.async_window.specs.Tournament.{CanStart, IsSoonestStart, Notes, Tell, TellFirsts};
 ghost use Rattle.async_window.specs.Tournament.{arrival_within, first_length, never};
 
 use crate::mailbox::{MOST_BYTES, Mailbox};
@@ -117,7 +117,7 @@ impl Firsts {
     pub fn next(&self, boxes: &[Mailbox], window: Window, at: u64) -> Option<u64>
         requires time { at < times_end }
         requires firsts { TellFirsts (length boxes.now) boxes.now self.now.arrivals self.now.lengths }
-        ensures next { IsSoonest boxes.now window.opened window.closed at (length boxes.now) result }
+        ensures next { IsSoonestStart boxes.now window.opened window.closed at (length boxes.now) result }
     {
         if self.none_fits(window, at) {
             return None;
@@ -132,7 +132,7 @@ impl Firsts {
     fn none_fits(&self, window: Window, at: u64) -> bool
         requires time { at < times_end }
         ensures none { (boxes : List Mail) → TellFirsts (length boxes) boxes self.now.arrivals self.now.lengths
-            → result ≡ true → IsSoonest boxes window.opened window.closed at (length boxes) None }
+            → result ≡ true → IsSoonestStart boxes window.opened window.closed at (length boxes) None }
     {
         let shortest = self.lengths.least();
         if shortest > u64::from(MOST_BYTES) {
@@ -149,7 +149,7 @@ impl Firsts {
         requires time { at < times_end }
         ensures next { (boxes : List Mail) → TellFirsts (length boxes) boxes self.now.arrivals self.now.lengths
             → IfSome result (λ next.
-            IsSoonest boxes window.opened window.closed at (length boxes) (Some next)) }
+            IsSoonestStart boxes window.opened window.closed at (length boxes) (Some next)) }
         ensures whole { IfSome result (λ next. (window.opened ≤ next) × (next + worst 8 ≤ window.closed)) }
     {
         window.earliest(at, self.arrivals.least(), MOST_BYTES)
@@ -159,7 +159,7 @@ impl Firsts {
     fn next_of_some(&self, boxes: &[Mailbox], window: Window, at: u64) -> Option<u64>
         requires time { at < times_end }
         requires firsts { TellFirsts (length boxes.now) boxes.now self.now.arrivals self.now.lengths }
-        ensures next { IsSoonest boxes.now window.opened window.closed at (length boxes.now) result }
+        ensures next { IsSoonestStart boxes.now window.opened window.closed at (length boxes.now) result }
     {
         match self.next_of_soonest(boxes, window, at) {
             Some(next) => Some(next),
@@ -172,7 +172,7 @@ impl Firsts {
         requires time { at < times_end }
         requires firsts { TellFirsts (length boxes.now) boxes.now self.now.arrivals self.now.lengths }
         ensures next { IfSome result (λ next.
-            IsSoonest boxes.now window.opened window.closed at (length boxes.now) (Some next)) }
+            IsSoonestStart boxes.now window.opened window.closed at (length boxes.now) (Some next)) }
     {
         let soonest = self.arrivals.least();
         if window.closed <= soonest {
@@ -231,7 +231,7 @@ fn has_short(mailbox: &Mailbox, arrival: u64, bytes: u8, at: u64) -> bool
 fn next_of(boxes: &[Mailbox], arrivals: &[u64], window: Window, at: u64) -> Option<u64>
     requires time { at < times_end }
     requires arrivals { Tell (length boxes.now) (arrival_within 8) boxes.now arrivals.now }
-    ensures next { IsSoonest boxes.now window.opened window.closed at (length boxes.now) result }
+    ensures next { IsSoonestStart boxes.now window.opened window.closed at (length boxes.now) result }
 {
     let mut least = None;
     for place in 0..boxes.len() {

@@ -7,7 +7,7 @@ ghost use Rattle.can_frame.specs.declared.data_frame.TimedFrame.{TimedFrame};
 ghost use Rattle.cycle_layout.specs.Layout.{CycleLayout};
 ghost use Rattle.async_window.specs.declared.request.Request.{Request};
 ghost use Rattle.async_window.specs.Waiting.{MayStart, unsent_after};
-ghost use Rattle.async_window.specs.Mailbox.{IsLeastWith, IsMail, Mail, Offers, mail_after};
+ghost use Rattle.async_window.specs.Mailbox.{IsLeastWith, IsMail, Mail, OffersIdentifier, mail_after};
 ghost use Rattle.async_window.specs.Mailbox.{mail_offer, may_start, unsent_of, without_first};
 
 /// What is not sent once some frames have started.
@@ -50,12 +50,12 @@ pub fn taking_laws()
 /// Which identifiers are offered, by their first requests that are not sent.
 pub fn offer_laws()
     ensures least { (layout : CycleLayout) (l : ℕ) (mail : List Mail) (at : ℕ) → IsMail mail
-        → IsLeastWith (Offers layout l mail at) (mail_offer layout l mail at) }
+        → IsLeastWith (OffersIdentifier layout l mail at) (mail_offer layout l mail at) }
     ensures some { (layout : CycleLayout) (l : ℕ) (mail : List Mail) (at : ℕ) → IsMail mail
-        → IsSome (mail_offer layout l mail at) ↔ ((id : ℕ) × Offers layout l mail at id) }
+        → IsSome (mail_offer layout l mail at) ↔ ((id : ℕ) × OffersIdentifier layout l mail at id) }
 
     // What is offered has a mailbox.
-    ensures among { (layout : CycleLayout) (l : ℕ) (mail : List Mail) (at id : ℕ) → Offers layout l mail at id
+    ensures among { (layout : CycleLayout) (l : ℕ) (mail : List Mail) (at id : ℕ) → OffersIdentifier layout l mail at id
         → Contains (map (λ box. box.identifier) mail) id }
 
     // The test is the relation.

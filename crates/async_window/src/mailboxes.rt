@@ -6,7 +6,7 @@ ghost use Rattle.std.specs.Prelude.{if◌then◌else◌, is_some, length, map, m
 ghost use Rattle.std.specs.Option.{option_map_or, option_to_list};
 ghost use Rattle.profile.specs.Limits.{arrivals_end, greatest_identifier, least_asynchronous, times_end};
 ghost use Rattle.cycle_layout.specs.Layout.{CycleLayout};
-ghost use Rattle.async_window.specs.Mailbox.{IsLeastWith, IsMail, IsNextInCycle, Mail, Offers, SomeWaits, StaysUntil};
+ghost use Rattle.async_window.specs.Mailbox.{IsLeastWith, IsMail, IsNextInCycle, Mail, OffersIdentifier, SomeWaits, StaysUntil};
 ghost use Rattle.async_window.specs.Mailbox.{least_of, left, mail_after, mail_offer, unsent_of, without_first};
 ghost use Rattle.async_window.specs.Adding.{with_request};
 ghost use Rattle.async_window.specs.Sorted.{IsPlaceTable};
@@ -61,13 +61,13 @@ pub struct Mailboxes {
 impl Model for Mailboxes {
     ghost use Rattle.std.specs.Prelude.{List};
     ghost use Rattle.async_window.specs.Mailbox.{Mail};
-    ghost use Rattle.async_window.specs.Sorted.{AreKept, mail_of};
+    ghost use Rattle.async_window.specs.Sorted.{AreBoxesSorted, mail_of};
 
     ghost Value = { List Mail };
 
     ghost view = { λ m. mail_of m.ids.items m.boxes.items };
 
-    ghost invariant = { λ m. AreKept m.ids.items m.boxes.items m.places.items m.firsts.arrivals m.firsts.lengths m.remaining };
+    ghost invariant = { λ m. AreBoxesSorted m.ids.items m.boxes.items m.places.items m.firsts.arrivals m.firsts.lengths m.remaining };
 }
 
 impl Mailboxes {
@@ -105,7 +105,7 @@ impl Mailboxes {
     pub fn offer(&self, layout: &Layout, at: u64, l: u32) -> Option<u16>
         requires window { l ≤ layout.now.window }
         requires time { at < times_end }
-        ensures least { IsLeastWith (Offers layout.now l self.now at) result }
+        ensures least { IsLeastWith (OffersIdentifier layout.now l self.now at) result }
         ensures value { result ≡ mail_offer layout.now l self.now at }
         ensures known { IsMail self.now }
     {
@@ -118,7 +118,7 @@ impl Mailboxes {
         requires window { l ≤ layout.now.window }
         requires time { at < times_end }
         requires cycle { cycle ≡ at / layout.now.cycle }
-        ensures least { IsLeastWith (Offers layout.now l self.now at) result }
+        ensures least { IsLeastWith (OffersIdentifier layout.now l self.now at) result }
         ensures value { result ≡ mail_offer layout.now l self.now at }
         ensures known { IsMail self.now }
     {
@@ -134,7 +134,7 @@ impl Mailboxes {
         requires window { l ≤ layout.now.window }
         requires time { at < times_end }
         requires cycle { cycle ≡ at / layout.now.cycle }
-        ensures least { IsLeastWith (Offers layout.now l self.now at) (option_map (λ offer. offer.id) result) }
+        ensures least { IsLeastWith (OffersIdentifier layout.now l self.now at) (option_map (λ offer. offer.id) result) }
         ensures value { option_map (λ offer. offer.id) result ≡ mail_offer layout.now l self.now at }
         ensures stays { IfSome result (λ offer. StaysUntil layout.now l self.now at offer.id offer.until) }
         ensures known { IsMail self.now }

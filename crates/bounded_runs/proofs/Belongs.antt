@@ -12,7 +12,7 @@ use Rattle.async_window.specs.Waiting.{requests_of}
 use Rattle.async_bound.specs.declared.stream.Stream.{Stream}
 use Rattle.async_bound.specs.Streams.{AreStreams, IsStream}
 use Rattle.bounded_runs.specs.Requests.{AreOfStreams, IsApart, IsOfStream}
-use Rattle.bounded_runs.specs.Strays.{Allows, Follows, IsCloseTo, Strays, arrivals_of, streams_of}
+use Rattle.bounded_runs.specs.Strays.{Allows, FollowsStreams, IsCloseTo, Strays, arrivals_of, streams_of}
 use Rattle.bounded_runs.specs.declared.of_streams.StrayWhy.{StrayWhy}
 use Rattle.bounded_runs.specs.declared.of_streams.StrayWhy.TheVariants.{Unknown, Long, Early, Close}
 use Rattle.async_bound.proofs.Shared.{Contains-any, Contains-filter, Contains-nil}
@@ -157,7 +157,7 @@ module _ (streams : List Stream) (known : AreStreams streams) (past : List Reque
       omega (arith, here, arrival-within (requests_of past id) k d within))
 
   -- a request that follows belongs to the streams too
-  pub belongs-more : AreOfStreams streams past → Follows (streams_of streams r.frame.identifier) (arrivals_of past r.frame.identifier) r
+  pub belongs-more : AreOfStreams streams past → FollowsStreams (streams_of streams r.frame.identifier) (arrivals_of past r.frame.identifier) r
       → AreOfStreams streams (past ++ r ∷ [])
   belongs-more sofar follows = record {
     known = All-push (IsOfStream streams) past r sofar.known (allowed follows.allowed);

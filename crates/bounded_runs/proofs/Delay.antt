@@ -12,10 +12,10 @@ use Rattle.cycle_layout.specs.Layout.{CycleLayout, IsLayout}
 use Rattle.requirement_table.specs.Instance.{Instance}
 use Rattle.requirement_table.specs.Opening.{Opening}
 use Rattle.async_window.specs.declared.request.Request.{Request}
-use Rattle.async_window.specs.Waiting.{IsWaiting, requests_of, unsent_after}
+use Rattle.async_window.specs.Waiting.{IsRequestWaiting, requests_of, unsent_after}
 use Rattle.bus_line.specs.Trace.{started_before}
 use Rattle.async_bound.specs.declared.stream.Stream.{Stream}
-use Rattle.bounded_runs.specs.Runs.{EndSoon, IsRunOf, is_ahead, is_inside}
+use Rattle.bounded_runs.specs.Runs.{EndSoon, IsBoundedRun, is_ahead, is_inside}
 use Rattle.async_bound.specs.Bound.{IsBound, own_before}
 use Rattle.async_bound.specs.Streams.{AreStreams, IsStream}
 use Rattle.bounded_runs.specs.Requests.{AreOfStreams, IsApart, IsOfStream}
@@ -37,7 +37,7 @@ either false true len = omega arith
 either false false len = omega arith
 
 module _ (sends : Instance → List ℕ) (layout : CycleLayout) (known : IsLayout layout) (requests : List Request) (openings : List Opening)
-    (count : ℕ) (trace : List TimedFrame) (run : IsRunOf sends layout requests openings count trace)
+    (count : ℕ) (trace : List TimedFrame) (run : IsBoundedRun sends layout requests openings count trace)
     (at_most : (frame : DataFrame) → wire_length frame ≤ worst (length frame.bytes)) (positive : (frame : DataFrame) → 0 < wire_length frame)
     (streams : List Stream) (are : AreStreams streams) (of : AreOfStreams streams requests) where
   -- the request at a place of an identifier's
@@ -137,7 +137,7 @@ module _ (sends : Instance → List ℕ) (layout : CycleLayout) (known : IsLayou
             record {
               request = head.request;
               waits = record {
-                waiting = subst (λ n. IsWaiting (unsent_after requests (started_before at trace) n) at head.request) (sym same)
+                waiting = subst (λ n. IsRequestWaiting (unsent_after requests (started_before at trace) n) at head.request) (sym same)
                     (record { first = head.is; arrived = omega (arith, head.before) });
                 short = short-of head.request own (omega (arith, same, under));
               };
@@ -158,7 +158,7 @@ module _ (sends : Instance → List ℕ) (layout : CycleLayout) (known : IsLayou
             record {
               request = head.request;
               waits = record {
-                waiting = subst (λ n. IsWaiting (unsent_after requests (started_before at trace) n) at head.request) (sym same)
+                waiting = subst (λ n. IsRequestWaiting (unsent_after requests (started_before at trace) n) at head.request) (sym same)
                     (record { first = first; arrived = omega (arith, head.sooner, late) });
                 short = short-of head.request own (omega (arith, same));
               };

@@ -16,7 +16,7 @@ use Rattle.async_window.specs.declared.request.Request.{Request}
 use Rattle.bus_line.specs.Trace.{IsLeastOffered, end_of, started_before}
 use Rattle.cycle_engine.specs.Offered.{offered}
 use Rattle.async_bound.specs.Room.{count_below, is_usable}
-use Rattle.bounded_runs.specs.Runs.{EndSoon, IsPressed, IsRunOf, WaitsAt, is_ahead, is_inside, time_of}
+use Rattle.bounded_runs.specs.Runs.{EndSoon, IsBoundedRun, IsPressed, WaitsOnBus, is_ahead, is_inside, time_of}
 use Rattle.async_bound.proofs.Shared.{Contains-any}
 use Rattle.bounded_runs.proofs.Count.{IsCovered, covered-times}
 use Rattle.bounded_runs.proofs.Free.{free-at, is-request}
@@ -41,10 +41,10 @@ count-more test low (suc k) =
     rw (add-suc low k) (omega (arith, sofar))
 
 module _ (sends : Instance → List ℕ) (layout : CycleLayout) (known : IsLayout layout) (requests : List Request) (openings : List Opening)
-    (count : ℕ) (trace : List TimedFrame) (run : IsRunOf sends layout requests openings count trace)
+    (count : ℕ) (trace : List TimedFrame) (run : IsBoundedRun sends layout requests openings count trace)
     (at_most : (frame : DataFrame) → wire_length frame ≤ worst (length frame.bytes)) where
   -- a request that waits in the room of a cycle is offered
-  offered-request : (longest at cycle : ℕ) (request : Request) → IsRoom layout longest at cycle → cycle < count → WaitsAt requests trace longest at request
+  offered-request : (longest at cycle : ℕ) (request : Request) → IsRoom layout longest at cycle → cycle < count → WaitsOnBus requests trace longest at request
       → offered sends layout requests openings (started_before at trace) at request.frame
   offered-request longest at cycle request room below waits =
       let is = run.opened cycle below in (
@@ -67,7 +67,7 @@ module _ (sends : Instance → List ℕ) (layout : CycleLayout) (known : IsLayou
     -- a request waits, and the frames that start then with an identifier up to its own pass
     pub record IsFilled (at : ℕ) : Type 0 where
       pub request : Request
-      pub waits : WaitsAt requests trace longest at request
+      pub waits : WaitsOnBus requests trace longest at request
       pub passing : (sent : TimedFrame) → Contains trace sent → sent.start ≡ at → least_asynchronous ≤ sent.frame.identifier
           → sent.frame.identifier ≤ request.frame.identifier → test sent ≡ true
 

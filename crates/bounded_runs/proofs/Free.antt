@@ -19,11 +19,11 @@ use Rattle.async_window.specs.declared.request.Request.{Request}
 use Rattle.bus_line.specs.Trace.{end_of}
 use Rattle.node_model.specs.Opening.{start_of}
 use Rattle.cycle_engine.specs.Cycle.{IsRequestFrame, IsSlotFrame, RunsCycle, cycle_of, frames_in}
-use Rattle.bounded_runs.specs.Runs.{IsRunOf}
+use Rattle.bounded_runs.specs.Runs.{IsBoundedRun}
 use Rattle.async_bound.proofs.Shared.{Contains-here, Contains-cases, Contains-filter, Contains-map}
 
 module _ (sends : Instance → List ℕ) (layout : CycleLayout) (known : IsLayout layout) (requests : List Request) (openings : List Opening)
-    (count : ℕ) (trace : List TimedFrame) (run : IsRunOf sends layout requests openings count trace)
+    (count : ℕ) (trace : List TimedFrame) (run : IsBoundedRun sends layout requests openings count trace)
     (at_most : (frame : DataFrame) → wire_length frame ≤ worst (length frame.bytes)) where
   -- a frame of a cycle ends by the cycle's end, and has ended when the asynchronous window opens, or starts from then on
   pub record IsApart (cycle : ℕ) (sent : TimedFrame) : Type 0 where

@@ -14,12 +14,12 @@ use Rattle.async_window.specs.Waiting.{requests_of}
 use Rattle.bus_line.specs.Trace.{IsLeastOffered, started_before}
 use Rattle.node_model.specs.Offered.{trigger_frames}
 use Rattle.cycle_engine.specs.Offered.{offered, offered_in}
-use Rattle.bounded_runs.specs.Runs.{IsRunOf}
+use Rattle.bounded_runs.specs.Runs.{IsBoundedRun}
 use Rattle.bounded_runs.proofs.Begun.{begun, begun-step, begun-zero}
 use Rattle.bounded_runs.proofs.Arrivals.{arrived, arrived-le, arrived-least}
 
 module _ (sends : Instance → List ℕ) (layout : CycleLayout) (requests : List Request) (openings : List Opening)
-    (count : ℕ) (trace : List TimedFrame) (run : IsRunOf sends layout requests openings count trace)
+    (count : ℕ) (trace : List TimedFrame) (run : IsBoundedRun sends layout requests openings count trace)
     (positive : (frame : DataFrame) → 0 < wire_length frame) where
   -- the frame is that of the first request of its identifier which had not started
   pub record OfRequest (sent : TimedFrame) : Type 0 where

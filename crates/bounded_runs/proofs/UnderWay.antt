@@ -13,7 +13,7 @@ use Rattle.master_core.specs.Openings.{opening_of, openings_after, openings_of}
 use Rattle.cycle_engine.specs.Cycle.{FitsWindow}
 use Rattle.kept_run.specs.Progress.{IsUnderWay}
 use Rattle.kept_run.specs.Setting.{IsSetting, Setting}
-use Rattle.bounded_runs.specs.Runs.{IsRunOf}
+use Rattle.bounded_runs.specs.Runs.{IsBoundedRun}
 use Rattle.async_bound.proofs.Shared.{Contains-here, Contains-later, Contains-cases, Contains-nil}
 
 module _ {X Y : Type 0} (f : X → Y) where
@@ -49,7 +49,7 @@ module _ (laws : RunLaws) (setting : Setting) (known : IsSetting setting) where
       (narrow-one before event (laws.front setting.rules (before ++ event ∷ []) later moved)) (narrow-after (before ++ event ∷ []) later moved)
 
   pub run-of : (history : List Event) (trace : List TimedFrame) → IsUnderWay setting history trace
-      → IsRunOf setting.sends setting.layout setting.requests (openings_of history) (next_of history) trace
+      → IsBoundedRun setting.sends setting.layout setting.requests (openings_of history) (next_of history) trace
   run-of history trace way = record {
     can_trace = way.can_trace;
     runs = way.cycles;

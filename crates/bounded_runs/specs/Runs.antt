@@ -5,7 +5,7 @@ use Rattle.can_frame.specs.declared.data_frame.TimedFrame.{TimedFrame}
 use Rattle.stuff_bound.specs.Stuffing.{worst}
 use Rattle.cycle_layout.specs.Layout.{CycleLayout}
 use Rattle.async_window.specs.declared.request.Request.{Request}
-use Rattle.async_window.specs.Waiting.{IsWaiting, frames_with, unsent_after}
+use Rattle.async_window.specs.Waiting.{IsRequestWaiting, frames_with, unsent_after}
 use Rattle.requirement_table.specs.Opening.{Opening, width_of}
 use Rattle.requirement_table.specs.Instance.{Instance}
 use Rattle.bus_line.specs.Trace.{end_of, started_before}
@@ -13,29 +13,29 @@ use Rattle.cycle_engine.specs.Offered.{IsCanTrace}
 use Rattle.cycle_engine.specs.Cycle.{RunsCycles}
 
 -- the cycle is one of the opened ones, with a synchronous window of at most the largest length
-pub record IsOpened (layout : CycleLayout) (openings : List Opening) (cycle : ℕ) : Type 0 where
+pub record IsAmongOpened (layout : CycleLayout) (openings : List Opening) (cycle : ℕ) : Type 0 where
   pub opening : Opening
   pub among : Contains openings opening
   pub number : opening.cycle ≡ cycle
   pub narrow : width_of opening ≤ layout.window
 
 -- a run of `count` cycles: its trace is that which arbitration decides, and each cycle sends what its opening says
-pub record IsRunOf (sends : Instance → List ℕ) (layout : CycleLayout) (requests : List Request) (openings : List Opening)
+pub record IsBoundedRun (sends : Instance → List ℕ) (layout : CycleLayout) (requests : List Request) (openings : List Opening)
     (count : ℕ) (trace : List TimedFrame) : Type 0 where
   pub can_trace : IsCanTrace sends layout requests openings count trace
   pub runs : RunsCycles sends layout openings trace
-  pub opened : (cycle : ℕ) → cycle < count → IsOpened layout openings cycle
+  pub opened : (cycle : ℕ) → cycle < count → IsAmongOpened layout openings cycle
 
 -- of the requests of its identifier, behind the frames that started before the time, the request waits, and its longest
 -- frame has at most so many bit times
-pub record WaitsAt (requests : List Request) (trace : List TimedFrame) (longest at : ℕ) (request : Request) : Type 0 where
-  pub waiting : IsWaiting (unsent_after requests (started_before at trace) request.frame.identifier) at request
+pub record WaitsOnBus (requests : List Request) (trace : List TimedFrame) (longest at : ℕ) (request : Request) : Type 0 where
+  pub waiting : IsRequestWaiting (unsent_after requests (started_before at trace) request.frame.identifier) at request
   pub short : worst (length request.frame.bytes) ≤ longest
 
 -- some request of an identifier below this one waits
 pub record IsPressed (requests : List Request) (trace : List TimedFrame) (longest id at : ℕ) : Type 0 where
   pub request : Request
-  pub waits : WaitsAt requests trace longest at request
+  pub waits : WaitsOnBus requests trace longest at request
   pub level : request.frame.identifier < id
 
 -- the frame starts from `low` to below `high`

@@ -47,7 +47,7 @@ Strays own arrived request (Close stream) =
     Allows own (length request.frame.bytes) × All (λ before. before ≤ request.at) arrived × IsFirstClose own arrived request.at stream
 
 -- and when it belongs to them
-pub record Follows (own : List Stream) (arrived : List ℕ) (request : Request) : Type 0 where
+pub record FollowsStreams (own : List Stream) (arrived : List ℕ) (request : Request) : Type 0 where
   pub allowed : Allows own (length request.frame.bytes)
   pub behind : All (λ before. before ≤ request.at) arrived
   pub apart : All (λ stream. IsCloseTo arrived request.at stream → ⊥) own
@@ -61,6 +61,6 @@ pub record IsFirstStray (streams : List Stream) (requests : List Request) (place
   pub strays : Strays (streams_of streams request.frame.identifier) (arrivals_of (take place requests) request.frame.identifier) request why
 
 -- want of memory says nothing of the requests
-abbrev pub Faults : List Stream → List Request → StrayFault → Type 0
-Faults streams requests (Stray place why) = IsFirstStray streams requests place why
-Faults streams requests Memory = Unit {0}
+abbrev pub IsStrayFault : List Stream → List Request → StrayFault → Type 0
+IsStrayFault streams requests (Stray place why) = IsFirstStray streams requests place why
+IsStrayFault streams requests Memory = Unit {0}

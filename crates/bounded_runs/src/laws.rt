@@ -20,7 +20,7 @@ ghost use Rattle.async_bound.specs.Streams.{AreStreams, arrivals};
 ghost use Rattle.async_bound.specs.Room.{count_below, is_usable};
 ghost use Rattle.async_bound.specs.Bound.{IsBound, IsLeastFitting};
 ghost use Rattle.bounded_runs.specs.Requests.{AreOfStreams, arrive_within};
-ghost use Rattle.bounded_runs.specs.Runs.{EndSoon, IsPressed, IsRunOf, StartsWithin, is_ahead, time_of};
+ghost use Rattle.bounded_runs.specs.Runs.{EndSoon, IsBoundedRun, IsPressed, StartsWithin, is_ahead, time_of};
 
 use async_bound::laws::fitting_is_bound;
 use bus_line::laws::{same_along, trace_laws};
@@ -43,7 +43,7 @@ pub fn few_arrive()
 pub fn waiting_fills_the_bus()
     ensures filled { (sends : Instance → List ℕ) (layout : CycleLayout) (requests : List Request)
         → (openings : List Opening) (count : ℕ) (trace : List TimedFrame) (longest id low high blocked : ℕ)
-        → IsLayout layout → IsRunOf sends layout requests openings count trace
+        → IsLayout layout → IsBoundedRun sends layout requests openings count trace
         → high ≤ count * layout.cycle → EndSoon blocked low trace
         → ((at : ℕ) → low ≤ at → at < high → IsPressed requests trace longest id at)
         → count_below (is_usable layout longest) high
@@ -58,7 +58,7 @@ pub fn requests_start_in_time()
     ensures starts { (sends : Instance → List ℕ) (layout : CycleLayout) (requests : List Request)
         → (openings : List Opening) (count : ℕ) (trace : List TimedFrame) (streams : List Stream) (stream : Stream)
         → (longest blocked span place : ℕ) (request : Request)
-        → IsLayout layout → IsRunOf sends layout requests openings count trace
+        → IsLayout layout → IsBoundedRun sends layout requests openings count trace
         → AreStreams streams → AreOfStreams streams requests → IsBound layout streams stream longest blocked span
         → slice_get (requests_of requests stream.id) place ≡ Some request
         → request.at + span ≤ count * layout.cycle → StartsWithin trace place span request }
@@ -72,7 +72,7 @@ pub fn bounds_hold()
     ensures starts { (sends : Instance → List ℕ) (layout : CycleLayout) (requests : List Request)
         → (openings : List Opening) (count : ℕ) (trace : List TimedFrame) (streams : List Stream) (stream : Stream)
         → (span place : ℕ) (request : Request)
-        → IsLayout layout → IsRunOf sends layout requests openings count trace
+        → IsLayout layout → IsBoundedRun sends layout requests openings count trace
         → AreStreams streams → AreOfStreams streams requests → Contains streams stream
         → IsLeastFitting layout streams stream span
         → slice_get (requests_of requests stream.id) place ≡ Some request
@@ -87,7 +87,7 @@ pub fn bounds_hold()
 pub fn runs_keep_bounds()
     ensures run { (setting : Setting) (history : List Event) (trace : List TimedFrame)
         → IsSetting setting → IsUnderWay setting history trace
-        → IsRunOf setting.sends setting.layout setting.requests (openings_of history) (next_of history) trace }
+        → IsBoundedRun setting.sends setting.layout setting.requests (openings_of history) (next_of history) trace }
     ensures starts { (setting : Setting) (history : List Event) (trace : List TimedFrame)
         → (streams : List Stream) (stream : Stream) (span place : ℕ) (request : Request)
         → IsSetting setting → IsUnderWay setting history trace

@@ -6,7 +6,7 @@ ghost use Rattle.async_bound.specs.Streams.{AreStreams, IsStream};
 ghost use Rattle.bounded_runs.specs.declared.of_streams.StrayFault.TheVariants.{Memory};
 ghost use Rattle.bounded_runs.specs.declared.of_streams.Traffic.{Traffic};
 ghost use Rattle.bounded_runs.specs.Requests.{AreOfStreams};
-ghost use Rattle.bounded_runs.specs.Strays.{Allows, Faults, Follows, IsCloseTo, IsFirstClose, Strays, arrivals_of, streams_of};
+ghost use Rattle.bounded_runs.specs.Strays.{Allows, FollowsStreams, IsCloseTo, IsFirstClose, IsStrayFault, Strays, arrivals_of, streams_of};
 
 use async_bound::Stream;
 use async_window::Request;
@@ -164,7 +164,7 @@ fn why_stray(traffic: &Traffic, request: &Request) -> Option<StrayWhy>
     requires known { AreStreams traffic.now.streams.items }
     requires rising { AllPairs (λ one other. one ≤ other) traffic.now.arrived.items }
     ensures stray { IfSome result (Strays traffic.now.streams.items traffic.now.arrived.items request.now) }
-    ensures none { IfNone result (Follows traffic.now.streams.items traffic.now.arrived.items request.now) }
+    ensures none { IfNone result (FollowsStreams traffic.now.streams.items traffic.now.arrived.items request.now) }
 {
     let streams = traffic.streams.as_slice();
     let arrived = traffic.arrived.as_slice();
@@ -216,7 +216,7 @@ pub fn are_of_streams(
 ) -> Result<(), StrayFault>
     requires known { AreStreams streams.now }
     ensures belong { IfOk result (λ _. AreOfStreams streams.now requests.now) }
-    ensures fault { IfErr result (Faults streams.now requests.now) }
+    ensures fault { IfErr result (IsStrayFault streams.now requests.now) }
     ensures only { IfErr result (λ fault. AreOfStreams streams.now requests.now → fault ≡ Memory) }
 {
     let mut all = by_identifier(alloc, streams)?;

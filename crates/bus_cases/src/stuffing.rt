@@ -5,7 +5,7 @@ ghost use Rattle.std.specs.Prelude.{◌+◌, ◌≤◌, IfOk};
 use crate::bits::{bits, text_of_bits};
 use cases::{Fault, Table, bytes, cut, length, small};
 use std::alloc::Global;
-use stuff_bound::{Run, Sender, bound, stuff, stuffed_len, stuffed_len_bytes, unstuff};
+use stuff_bound::{BitRun, Sender, bound, stuff, stuffed_len, stuffed_len_bytes, unstuff};
 
 /// Bits that are stuffed, and how long they are.
 #[derive(Drop)]
@@ -58,8 +58,8 @@ fn run_after(alloc: Global, field: &str) -> Result<String, Fault> {
 }
 
 /// The run of equal bits that came last.
-fn run_of(sent: &[bool]) -> Run {
-    let mut run = Run::new();
+fn run_of(sent: &[bool]) -> BitRun {
+    let mut run = BitRun::new();
     for bit in sent {
         run = run.then(*bit);
     }

@@ -11,7 +11,7 @@ use Rattle.can_frame.specs.Reading.{IsFront, ReadsFront}
 use Rattle.bus_line.specs.declared.line_fault.LineFault.{LineFault}
 use Rattle.bus_line.specs.declared.line_fault.LineFault.TheVariants.{Frame, Memory}
 use Rattle.bus_line.specs.Trace.{end_of, free_after}
-use Rattle.bus_line.specs.Recording.{IsRecording, Breaks, BreaksAt, ReadsLine, counted_from}
+use Rattle.bus_line.specs.Recording.{IsRecording, BreaksLine, BreaksAt, ReadsLine, counted_from}
 use Rattle.bus_line.proofs.Traces.{same_sent}
 use Rattle.bus_line.proofs.Recordings.{AreSent, frames_of, unrolled}
 
@@ -222,6 +222,6 @@ one_line trace from until one other h k = (unrolled from until trace one h).is �
 
 -- bits that break are the line of no trace
 pub no_trace : (bits : List Bool) → ((trace : List TimedFrame) (from until : ℕ) (line : List Bool) (start : ℕ) (fault : WireFault) → IsRecording trace from until line → BreaksAt line start fault → ⊥)
-    → (fault : LineFault) → Breaks bits fault → fault ≢ Memory → (trace : List TimedFrame) → IsRecording trace 0 (length bits) bits → ⊥
+    → (fault : LineFault) → BreaksLine bits fault → fault ≢ Memory → (trace : List TimedFrame) → IsRecording trace 0 (length bits) bits → ⊥
 no_trace bits unbroken' (Frame start fault) breaks other trace h = unbroken' trace 0 (length bits) bits start fault h breaks
 no_trace bits unbroken' Memory breaks other trace h = other refl

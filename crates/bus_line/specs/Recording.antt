@@ -34,10 +34,10 @@ pub record BreaksAt (bits : List Bool) (start : ℕ) (fault : WireFault) : Type 
   pub reads : ReadsFront (drop start bits) (Err fault)
 
 -- why a line is not read
-abbrev pub Breaks : List Bool → LineFault → Type 0
-Breaks bits (Frame start fault) = BreaksAt bits start fault
+abbrev pub BreaksLine : List Bool → LineFault → Type 0
+BreaksLine bits (Frame start fault) = BreaksAt bits start fault
 -- want of memory is told of by no bits
-Breaks bits Memory = ⊤
+BreaksLine bits Memory = ⊤
 
 -- a whole frame stands in the bits at a place
 pub record StandsAt (bits : List Bool) (start : ℕ) (sent : TimedFrame) : Type 0 where
@@ -55,7 +55,7 @@ FailsAt bits start Memory = ⊥
 -- the answer to bits, whose places are the times
 abbrev pub ReadsLine : List Bool → Result (List TimedFrame) LineFault → Type 0
 ReadsLine bits (Ok trace) = IsRecording trace 0 (length bits) bits
-ReadsLine bits (Err fault) = Breaks bits fault
+ReadsLine bits (Err fault) = BreaksLine bits fault
 
 -- the frame, with its start counted from `from`
 abbrev pub counted : ℕ → TimedFrame → TimedFrame

@@ -7,7 +7,7 @@ ghost use Rattle.can_frame.specs.DataFrame.{IsFrame};
 ghost use Rattle.can_frame.specs.Wire.{dominant, recessive, wire_of};
 ghost use Rattle.bus_line.specs.declared.line_fault.LineFault.TheVariants.{Memory};
 ghost use Rattle.bus_line.specs.Trace.{IsOrdered, end_of};
-ghost use Rattle.bus_line.specs.Recording.{Breaks, FailsAt, IsRecording, StandsAt};
+ghost use Rattle.bus_line.specs.Recording.{BreaksLine, FailsAt, IsRecording, StandsAt};
 
 use crate::laws::one_recording;
 use crate::line_fault::LineFault;
@@ -81,7 +81,7 @@ pub fn read_line(alloc: Global, bits: &[bool]) -> Result<Vec<TimedFrame>, LineFa
     ensures recorded { IfOk result (λ trace. IsRecording trace.items 0 (length bits.now) bits.now) }
     ensures only { IfOk result (λ trace. (other : List TimedFrame)
         → IsRecording other 0 (length bits.now) bits.now → trace.items ≡ other) }
-    ensures breaks { IfErr result (Breaks bits.now) }
+    ensures breaks { IfErr result (BreaksLine bits.now) }
     ensures none { IfErr result (λ fault. fault ≢ Memory → (trace : List TimedFrame)
         → IsRecording trace 0 (length bits.now) bits.now → ⊥) }
 {
@@ -92,7 +92,7 @@ pub fn read_line(alloc: Global, bits: &[bool]) -> Result<Vec<TimedFrame>, LineFa
 /// What is found in the bits, from the first on.
 fn read(alloc: Global, bits: &[bool]) -> Result<Vec<TimedFrame>, LineFault>
     ensures recorded { IfOk result (λ trace. IsRecording trace.items 0 (length bits.now) bits.now) }
-    ensures breaks { IfErr result (Breaks bits.now) }
+    ensures breaks { IfErr result (BreaksLine bits.now) }
 {
     let mut trace = Vec::new(alloc);
     let mut place = next_dominant(bits, 0);

@@ -5,7 +5,7 @@ use Rattle.std.proofs.lemmas.Bool.Decides.{nat_tests}
 use Rattle.std.proofs.lemmas.List.{length-append}
 use Rattle.std.proofs.lemmas.List.Elements.{filter-append}
 use Rattle.can_frame.specs.declared.data_frame.TimedFrame.{TimedFrame}
-use Rattle.bus_trace.specs.Log.{started_in, triggers_with}
+use Rattle.bus_trace.specs.Log.{started_in, trigger_count_with}
 use Rattle.bus_trace.specs.Logged.{is_trigger}
 
 -- one frame more has its trigger counted
@@ -14,7 +14,7 @@ counted-one true seen sent = omega arith
 counted-one false seen sent = omega arith
 
 counted-more : (front : List TimedFrame) (sent : TimedFrame) (seen : ℕ) → length (filter is_trigger front) ≡ seen
-    → length (filter is_trigger (front ++ sent ∷ [])) ≡ triggers_with seen sent
+    → length (filter is_trigger (front ++ sent ∷ [])) ≡ trigger_count_with seen sent
 counted-more front sent seen counted =
     ap length (filter-append is_trigger front (sent ∷ []))
     ∙ length-append (filter is_trigger front) (filter is_trigger (sent ∷ []))
@@ -39,11 +39,11 @@ module _ (cycle_of : TimedFrame → ℕ) (cycle : ℕ) where
   rest-by_cycle front [] seen counted counts = refl
   rest-by_cycle front (sent ∷ later) seen counted counts =
       let more = counted-more front sent seen counted in
-      let here : triggers_with seen sent ≡ cycle_of sent + 1 = sym more ∙ counts front later sent refl in
-      let test : (triggers_with seen sent == cycle + 1) ≡ (cycle_of sent == cycle)
+      let here : trigger_count_with seen sent ≡ cycle_of sent + 1 = sym more ∙ counts front later sent refl in
+      let test : (trigger_count_with seen sent == cycle + 1) ≡ (cycle_of sent == cycle)
       = ap (λ n. n == cycle + 1) here ∙ same-test (cycle_of sent) cycle in
-      let rest = rest-by_cycle (front ++ sent ∷ []) later (triggers_with seen sent) more
+      let rest = rest-by_cycle (front ++ sent ∷ []) later (trigger_count_with seen sent) more
       (λ first behind other split. counts first behind other (sym (append_assoc front (sent ∷ []) later) ∙ split)) in
-      ap (λ b. (if b then sent ∷ [] else []) ++ started_in cycle (triggers_with seen sent) later) test
+      ap (λ b. (if b then sent ∷ [] else []) ++ started_in cycle (trigger_count_with seen sent) later) test
       ∙ ap (λ l. (if cycle_of sent == cycle then sent ∷ [] else []) ++ l) rest
       ∙ put-front (cycle_of sent == cycle) sent (filter (λ other. cycle_of other == cycle) later)

@@ -19,7 +19,7 @@ use Rattle.master_core.specs.declared.event.Event.TheVariants.{Submit, Look, Ope
 use Rattle.master_core.specs.History.{AllAfter, IsLegal, IsRight, is_open, next_of, placed_after, placed_of}
 use Rattle.bus_trace.specs.Log.{event_rows, events_rows, frame_row}
 use Rattle.bus_trace.specs.EventRows.{opened_row}
-use Rattle.bus_trace.specs.Logged.{HasEntries, IsFormed, IsFormedIn, IsInTurn, IsLeft, IsNear, frames_of_event, rows_with, told_with}
+use Rattle.bus_trace.specs.Logged.{HasEntries, IsEventNear, IsFormed, IsFormedIn, IsInTurn, IsLeft, frames_of_event, rows_with, told_with}
 use Rattle.bus_trace.specs.LogRows.{event_told, events_told}
 use Rattle.log_reader.specs.Row.{IsLogRow}
 use Rattle.log_reader.specs.declared.row.LogRow.TheVariants as row
@@ -91,7 +91,7 @@ in_turn rules before (Look caller next) right = tt
 in_turn rules before (Open cycle mask) right = right.0
 
 near : (rules : Rules) (before : List Event) (event : Event) → IsRight rules before event → next_of before < 2 ^ 63
-    → IsNear event
+    → IsEventNear event
 near rules before (Submit caller change from verdict trail) right few = let opened = right.opened in omega arith
 near rules before (Look caller next) right few = tt
 near rules before (Open cycle mask) right few = tt
@@ -144,7 +144,7 @@ pub record IsWritten (trace : List TimedFrame) (before : List Event) (text : Lis
 -- the next event is in turn, and the change that it accepts can be applied
 pub record IsReady (placed : List Placed) (next : ℕ) (event : Event) : Type 0 where
   pub in_turn : IsInTurn next event
-  pub near : IsNear event
+  pub near : IsEventNear event
   pub formed : IsFormedIn placed event
 
 -- as each event of a legal history is

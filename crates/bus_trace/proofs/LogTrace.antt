@@ -5,7 +5,7 @@ use Rattle.std.proofs.lemmas.Bool.{cases_Bool, ne_eqb, eqb-true, eq-eqb, cond-tr
 use Rattle.std.proofs.lemmas.Grind.{common_steps}
 use Rattle.std.proofs.lemmas.List.{append-nil}
 use Rattle.can_frame.specs.declared.data_frame.TimedFrame.{TimedFrame}
-use Rattle.bus_trace.specs.Log.{triggers_with, started_in}
+use Rattle.bus_trace.specs.Log.{trigger_count_with, started_in}
 use Rattle.bus_trace.specs.Logged.{is_trigger, BeginsWithTrigger, IsLeft}
 
 -- the number of frames before the first trigger
@@ -21,10 +21,10 @@ until-other sent later other =
     let more : 1 + until later ≡ suc (until later) = omega arith in
     ap (λ b. cond (not b) (1 + until later) 0) {x = is_trigger sent} {y = false} other ∙ more
 
-pub triggers_with-trigger : (seen : ℕ) (sent : TimedFrame) → sent.frame.identifier ≡ 0 → triggers_with seen sent ≡ seen + 1
+pub triggers_with-trigger : (seen : ℕ) (sent : TimedFrame) → sent.frame.identifier ≡ 0 → trigger_count_with seen sent ≡ seen + 1
 triggers_with-trigger seen sent here = cond-true (is_trigger sent) (seen + 1) seen (eq-eqb _ _ here)
 
-triggers_with-other : (seen : ℕ) (sent : TimedFrame) → is_trigger sent ≡ false → triggers_with seen sent ≡ seen
+triggers_with-other : (seen : ℕ) (sent : TimedFrame) → is_trigger sent ≡ false → trigger_count_with seen sent ≡ seen
 triggers_with-other seen sent other = cond-false (is_trigger sent) (seen + 1) seen other
 
 cond_both : {A : Type 0} (b : Bool) (x : A) → cond b x x ≡ x
@@ -60,7 +60,7 @@ begins-until (sent ∷ later) =
       | inr other ↦ subst (λ n. BeginsWithTrigger (drop n (sent ∷ later))) (sym (until-other sent later other)) (begins-until later)
     ]
 
-pub triggers_with-le : (seen : ℕ) (sent : TimedFrame) → seen ≤ triggers_with seen sent
+pub triggers_with-le : (seen : ℕ) (sent : TimedFrame) → seen ≤ trigger_count_with seen sent
 triggers_with-le seen sent =
     elim (cases_Bool (is_trigger sent)) [
       | inl here ↦ omega (arith, triggers_with-trigger seen sent (eqb-true _ _ here))
@@ -77,8 +77,8 @@ started_in-past : (cycle seen : ℕ) (frames : List TimedFrame) → cycle + 1 < 
 started_in-past cycle seen [] past = refl
 started_in-past cycle seen (sent ∷ later) past =
     let more = triggers_with-le seen sent in
-    starts-elsewhere cycle (triggers_with seen sent) sent _ (λ is. omega arith)
-    ∙ started_in-past cycle (triggers_with seen sent) later (omega arith)
+    starts-elsewhere cycle (trigger_count_with seen sent) sent _ (λ is. omega arith)
+    ∙ started_in-past cycle (trigger_count_with seen sent) later (omega arith)
 
 -- nor from the next one's trigger on
 pub started_in-later : (cycle seen : ℕ) (frames : List TimedFrame) → BeginsWithTrigger frames → cycle + 1 ≤ seen
@@ -86,8 +86,8 @@ pub started_in-later : (cycle seen : ℕ) (frames : List TimedFrame) → BeginsW
 started_in-later cycle seen [] begins past = refl
 started_in-later cycle seen (sent ∷ later) begins past =
     let now = triggers_with-trigger seen sent begins in
-    starts-elsewhere cycle (triggers_with seen sent) sent _ (λ is. omega arith)
-    ∙ started_in-past cycle (triggers_with seen sent) later (omega arith)
+    starts-elsewhere cycle (trigger_count_with seen sent) sent _ (λ is. omega arith)
+    ∙ started_in-past cycle (trigger_count_with seen sent) later (omega arith)
 
 -- Cycle by cycle
 

@@ -74,19 +74,19 @@ end_row next = codes "end," ++ decimal next ++ codes "\n"
 
 -- the number of triggers up to a frame, itself included, where `seen` came before it. A trigger is here the first
 -- trigger frame of a cycle, which alone has identifier 0
-abbrev pub triggers_with : ℕ → TimedFrame → ℕ
-triggers_with seen sent = if sent.frame.identifier == 0 then seen + 1 else seen
+abbrev pub trigger_count_with : ℕ → TimedFrame → ℕ
+trigger_count_with seen sent = if sent.frame.identifier == 0 then seen + 1 else seen
 
 -- the number of triggers among frames
 abbrev pub triggers_in : List TimedFrame → ℕ
-triggers_in frames = fold triggers_with 0 frames
+triggers_in frames = fold trigger_count_with 0 frames
 
 -- the frames of a trace that start in a cycle: those up to which, themselves included, just cycle + 1 frames have the
 -- trigger's identifier 0, where `seen` such frames came before
 abbrev pub started_in : ℕ → ℕ → List TimedFrame → List TimedFrame
 started_in cycle seen [] = []
 started_in cycle seen (sent ∷ later) =
-    (if triggers_with seen sent == cycle + 1 then sent ∷ [] else []) ++ started_in cycle (triggers_with seen sent) later
+    (if trigger_count_with seen sent == cycle + 1 then sent ∷ [] else []) ++ started_in cycle (trigger_count_with seen sent) later
 
 -- the rows of an event, after the events before it: a change that is refused for a miss is followed by its plan up to
 -- the miss, and an opening by the frames of its cycle

@@ -48,10 +48,10 @@ frames_of_event trace (Open cycle mask) = started_in cycle 0 trace
 -- The rows
 
 -- where the event answers a change, the cycle from which it was planned is no large number
-abbrev pub IsNear : Event → Type 0
-IsNear (Submit caller change from verdict trail) = from < 2 ^ 63
-IsNear (Look caller next) = Unit {0}
-IsNear (Open cycle mask) = Unit {0}
+abbrev pub IsEventNear : Event → Type 0
+IsEventNear (Submit caller change from verdict trail) = from < 2 ^ 63
+IsEventNear (Look caller next) = Unit {0}
+IsEventNear (Open cycle mask) = Unit {0}
 
 -- the length of the synchronous window of the cycle that an event opens, by the entries whose instances may be sent in
 -- it, or 0 where it opens none

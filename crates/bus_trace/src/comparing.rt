@@ -6,7 +6,7 @@
 ghost use Rattle.std.specs.Prelude.{◌∷◌, [], IfSome};
 ghost use Rattle.bus_trace.specs.Compared.{BeginsWith};
 ghost use Rattle.bus_trace.specs.EventRows.{told_at};
-ghost use Rattle.bus_trace.specs.Logged.{IsNear};
+ghost use Rattle.bus_trace.specs.Logged.{IsEventNear};
 ghost use Rattle.log_reader.specs.declared.row.LogRow.TheVariants.{End};
 
 use crate::gathering::Gathered;
@@ -27,7 +27,7 @@ pub fn behind_event<'a>(
     width: u32,
     frames: &[TimedFrame],
 ) -> Option<&'a [u8]>
-    requires near { IsNear event.now }
+    requires near { IsEventNear event.now }
     ensures rows { IfSome result (λ rest. BeginsWith text.now (told_at width event.now frames.now) rest.now) }
 {
     room.text.clear();

@@ -11,7 +11,7 @@ ghost use Rattle.master_core.specs.History.{IsLegal, is_open, placed_after};
 ghost use Rattle.bus_trace.specs.Log.{log_text};
 ghost use Rattle.bus_trace.specs.LogRows.{log_rows};
 ghost use Rattle.bus_trace.specs.Logged.{HasEntries, IsFormedIn, IsInTurn, IsLeft};
-ghost use Rattle.bus_trace.specs.Logged.{IsNear, frames_of_event, rows_with, told_with, width_with};
+ghost use Rattle.bus_trace.specs.Logged.{IsEventNear, frames_of_event, rows_with, told_with, width_with};
 ghost use Rattle.log_reader.specs.Row.{IsLogRow};
 
 use crate::entries::Entries;
@@ -57,7 +57,7 @@ fn push_event(
     event: &Event,
     frames: &[TimedFrame],
 ) -> Result<(), AllocError>
-    requires near { IsNear event.now }
+    requires near { IsEventNear event.now }
     requires left { IsWellPlaced entries.now.left.items }
     ensures ok { OnOk result
         (rows.new.text.items ≡ rows.old.text.items ++ rows_with entries.now.left.items frames.now event.now) }

@@ -9,7 +9,7 @@ ghost use Rattle.bus_trace.specs.EventRows.{HasItsFrames, HasWidth, rows_at, row
 ghost use Rattle.bus_trace.specs.EventRows.{opened_row, width_told_in};
 ghost use Rattle.bus_trace.specs.Log.{end_row, frame_row, plan_rows};
 ghost use Rattle.bus_trace.specs.LogRows.{plan_told};
-ghost use Rattle.bus_trace.specs.Logged.{IsNear};
+ghost use Rattle.bus_trace.specs.Logged.{IsEventNear};
 ghost use Rattle.log_reader.specs.Row.{IsLogRow};
 ghost use Rattle.log_reader.specs.declared.row.LogRow.TheVariants.{Frame as FrameRow, Open as OpenRow, End};
 
@@ -60,7 +60,7 @@ pub fn event_rows(
     frames: &[TimedFrame],
     out: &mut Vec<u8>,
 ) -> Result<(), AllocError>
-    requires near { IsNear event.now }
+    requires near { IsEventNear event.now }
     requires frames { HasItsFrames event.now frames.now }
     ensures rows { OnOk result (out.new.items ≡ out.old.items ++ rows_of_event event.now frames.now) }
     ensures memory { OnErr result (out.new.items ≡ out.old.items) }
@@ -155,7 +155,7 @@ pub fn put_rows<O: Sink>(
     width: u32,
     frames: &[TimedFrame],
 ) -> Result<(), Failed>
-    requires near { IsNear event.now }
+    requires near { IsEventNear event.now }
     ensures faults_never_fall { O.faults out.old ≤ O.faults out.new }
     ensures all { OnOk result
         (Puts (O.told_bytes out.old) (O.told_bytes out.new) (rows_at width event.now frames.now)) }
@@ -194,7 +194,7 @@ pub fn put_event_rows<O: Sink>(
     event: &Event,
     frames: &[TimedFrame],
 ) -> Result<(), Failed>
-    requires near { IsNear event.now }
+    requires near { IsEventNear event.now }
     requires frames { HasItsFrames event.now frames.now }
     ensures faults_never_fall { O.faults out.old ≤ O.faults out.new }
     ensures all { OnOk result

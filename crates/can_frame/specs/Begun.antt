@@ -27,12 +27,12 @@ pub record HaveOneFront (one other : DataFrame) : Type 0 where
   pub front : take (length one.bytes - 1) one.bytes ≡ take (length one.bytes - 1) other.bytes
 
 -- a frame with a data byte, and what is known of it before its last one
-pub record Known : Type 0 where
+pub record FrontView : Type 0 where
   pub frame : DataFrame
   pub sum : ℕ
   pub sender : Counted
 
 -- what is kept is that of the frame
-pub record IsKnown (known : Known) : Type 0 where
+pub record IsKnownFront (known : FrontView) : Type 0 where
   pub some : 0 < length known.frame.bytes
   pub begun : HasBegun known.frame (length known.frame.bytes - 1) known.sum known.sender

@@ -5,7 +5,7 @@ ghost use Rattle.std.specs.Prelude.{◌≡◌, ◌+◌, ◌-◌, ◌*◌, ◌<�
 ghost use Rattle.std.specs.Int.{bytes_high_first};
 ghost use Rattle.profile.specs.Limits.{shortest_frame};
 ghost use Rattle.stuff_bound.specs.Stuffing.{worst};
-ghost use Rattle.can_frame.specs.Begun.{HasBegun, HaveOneFront, IsKnown};
+ghost use Rattle.can_frame.specs.Begun.{HasBegun, HaveOneFront, IsKnownFront};
 ghost use Rattle.can_frame.specs.Wire.{wire_length};
 
 use crate::data_frame::Frame;
@@ -26,13 +26,13 @@ pub struct KnownFront {
 }
 
 impl Model for KnownFront {
-    ghost use Rattle.can_frame.specs.Begun.{IsKnown, Known};
+    ghost use Rattle.can_frame.specs.Begun.{FrontView, IsKnownFront};
 
-    ghost Value = { Known };
+    ghost Value = { FrontView };
 
     ghost view = { λ k. record { frame = k.frame; sum = k.sum; sender = k.sender } };
 
-    ghost invariant = { λ k. IsKnown (record { frame = k.frame; sum = k.sum; sender = k.sender }) };
+    ghost invariant = { λ k. IsKnownFront (record { frame = k.frame; sum = k.sum; sender = k.sender }) };
 
     ghost inverse = { λ v. record { frame = v.frame; sum = v.sum; sender = v.sender } };
 }
@@ -50,7 +50,7 @@ impl KnownFront {
     fn of(frame: &Frame) -> KnownFront
         requires some { 0 < length frame.now.bytes }
         ensures frame { result.frame ≡ frame.now }
-        ensures known { IsKnown result }
+        ensures known { IsKnownFront result }
     {
         let Begun { sum, sender } = begin_anew(frame, usize::from(frame.dlc()) - 1);
         KnownFront {
@@ -65,7 +65,7 @@ impl KnownFront {
         requires some { 0 < length frame.now.bytes }
         requires number { bytes_high_first (length frame.now.bytes) number ≡ frame.now.bytes }
         ensures same { result ≡ true → HaveOneFront self.now.frame frame.now }
-        ensures known { IsKnown self.now }
+        ensures known { IsKnownFront self.now }
     {
         self.frame.dlc() == frame.dlc()
             && self.frame.id() == frame.id()

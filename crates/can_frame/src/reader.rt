@@ -19,7 +19,7 @@ use crate::wire_bits::TRAILER;
 use crate::wire_fault::WireFault;
 use std::alloc::Global;
 use std::marker::Model;
-use stuff_bound::Run;
+use stuff_bound::BitRun;
 
 /// Seven recessive bits, with which no identifier begins.
 const ALL_RECESSIVE: u16 = 0x7F;
@@ -32,7 +32,7 @@ const MAX_CODE: u16 = 8;
 struct Reader<'a> {
     bits: &'a [bool],
     place: usize,
-    run: Run,
+    run: BitRun,
 }
 
 impl<'a> Model for Reader<'a> {
@@ -55,7 +55,7 @@ impl<'a> Reader<'a> {
         Reader {
             bits,
             place: 0,
-            run: Run::new(),
+            run: BitRun::new(),
         }
     }
 

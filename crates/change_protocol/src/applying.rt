@@ -16,12 +16,12 @@ ghost use Rattle.change_protocol.specs.declared.malformed.ApplyFault.TheVariants
 use crate::malformed::ApplyFault;
 use crate::operations::{Change, Op};
 use crate::rules::{check_change, check_operations};
-use crate::slots::Table;
+use crate::slots::SlotTable;
 use requirement_table::{Entry, Placed, copy_with_room};
 use std::alloc::Global;
 
 /// The place of the live entry that the operation ends, where it ends one.
-fn ended_place(table: &Table, op: &Op) -> Option<usize>
+fn ended_place(table: &SlotTable, op: &Op) -> Option<usize>
     requires { slot_of op.now < most_slots }
     ensures only { FindsOnly (ended_by op.now) table.now.placed.now result }
 {
@@ -45,7 +45,7 @@ fn set_end(list: &mut Vec<Placed>, place: Option<usize>, start: u64)
 }
 
 /// Sets the ends that the operations set in a copy of the table's entries.
-fn set_ends(list: &mut Vec<Placed>, table: &Table, start: u64, ops: &[Op])
+fn set_ends(list: &mut Vec<Placed>, table: &SlotTable, start: u64, ops: &[Op])
     requires slots { All (λ op. slot_of op < most_slots) ops.now }
     requires copy { list.old.items ≡ table.now.placed.now }
     ensures list { list.new.items ≡ map (ended start ops.now) table.now.placed.now }
@@ -68,7 +68,7 @@ fn live(entry: Entry, origin: u64) -> Placed
 }
 
 /// The origin of the entry that follows the live entry of the slot, which ends at `start`.
-fn origin_behind(table: &Table, start: u64, slot: u8) -> u64
+fn origin_behind(table: &SlotTable, start: u64, slot: u8) -> u64
     requires slot { slot < most_slots }
     requires start { start < starts_end }
     ensures origin { result ≡ origin_behind table.now.placed.now start slot }
@@ -83,7 +83,7 @@ fn origin_behind(table: &Table, start: u64, slot: u8) -> u64
 }
 
 /// The entry that an operation places.
-fn placed_by(table: &Table, start: u64, op: &Op) -> Option<Placed>
+fn placed_by(table: &SlotTable, start: u64, op: &Op) -> Option<Placed>
     requires slot { slot_of op.now < most_slots }
     requires start { start < starts_end }
     ensures placed { result ≡ placed_by table.now.placed.now start op.now }
@@ -108,7 +108,12 @@ fn put(list: &mut Vec<Placed>, p: Option<Placed>) -> Result<(), ApplyFault>
 }
 
 /// Puts the entries behind the list that the operations place.
-fn place(list: &mut Vec<Placed>, table: &Table, start: u64, ops: &[Op]) -> Result<(), ApplyFault>
+fn place(
+    list: &mut Vec<Placed>,
+    table: &SlotTable,
+    start: u64,
+    ops: &[Op],
+) -> Result<(), ApplyFault>
     requires slots { All (λ op. slot_of op < most_slots) ops.now }
     requires start { start < starts_end }
     ensures list { OnOk result
@@ -150,7 +155,7 @@ pub fn apply(
 {
     let ops = change.ops.as_slice();
     check_change(change.start, ops)?;
-    let table = Table::of(placed);
+    let table = SlotTable::of(placed);
     check_operations(&table, nodes, slots, change.start, ops)?;
     let mut list = copy_with_room(alloc, placed, ops.len())?;
     set_ends(&mut list, &table, change.start, ops);

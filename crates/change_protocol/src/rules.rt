@@ -13,7 +13,7 @@ ghost use Rattle.change_protocol.specs.declared.malformed.Why.{Why};
 
 use crate::malformed::{ApplyFault, Why};
 use crate::operations::Op;
-use crate::slots::Table;
+use crate::slots::SlotTable;
 use profile::STARTS_END;
 
 /// A change has at most this many operations.
@@ -149,7 +149,7 @@ fn deadline_range(op: &Op) -> Result<(), Why>
 }
 
 /// For an added entry: no entry of the slot is live, and all are free at the start.
-fn add_busy(table: &Table, start: u64, slot: u8) -> Result<(), Why>
+fn add_busy(table: &SlotTable, start: u64, slot: u8) -> Result<(), Why>
     requires { slot < most_slots }
     ensures ok { OnOk result (add_busy table.now.placed.now start slot ≡ []) }
     ensures fault { IfErr result (IsFirst (add_busy table.now.placed.now start slot)) }
@@ -167,7 +167,7 @@ fn add_busy(table: &Table, start: u64, slot: u8) -> Result<(), Why>
 }
 
 /// For a removal or a change: the slot's live entry begins at or before the start, where there is one.
-fn end_busy(table: &Table, start: u64, slot: u8) -> Result<(), Why>
+fn end_busy(table: &SlotTable, start: u64, slot: u8) -> Result<(), Why>
     requires { slot < most_slots }
     ensures ok { OnOk result (end_busy table.now.placed.now start slot ≡ []) }
     ensures fault { IfErr result (IsFirst (end_busy table.now.placed.now start slot)) }
@@ -184,7 +184,7 @@ fn end_busy(table: &Table, start: u64, slot: u8) -> Result<(), Why>
 }
 
 /// The slot is not in use at the start.
-fn slot_busy(table: &Table, start: u64, op: &Op) -> Result<(), Why>
+fn slot_busy(table: &SlotTable, start: u64, op: &Op) -> Result<(), Why>
     requires { slot_of op.now < most_slots }
     ensures ok { OnOk result (slot_busy table.now.placed.now start op.now ≡ []) }
     ensures fault { IfErr result (IsFirst (slot_busy table.now.placed.now start op.now)) }
@@ -197,7 +197,7 @@ fn slot_busy(table: &Table, start: u64, op: &Op) -> Result<(), Why>
 }
 
 /// The slot has a live entry that can be ended.
-fn slot_empty(table: &Table, op: &Op) -> Result<(), Why>
+fn slot_empty(table: &SlotTable, op: &Op) -> Result<(), Why>
     requires { slot_of op.now < most_slots }
     ensures ok { OnOk result (slot_empty table.now.placed.now op.now ≡ []) }
     ensures fault { IfErr result (IsFirst (slot_empty table.now.placed.now op.now)) }
@@ -211,7 +211,7 @@ fn slot_empty(table: &Table, op: &Op) -> Result<(), Why>
 
 /// The rules of one operation; `earlier` are the operations of the change before it.
 fn check_operation(
-    table: &Table,
+    table: &SlotTable,
     nodes: u8,
     slots: u8,
     start: u64,
@@ -235,7 +235,7 @@ fn check_operation(
 
 /// The rules of all operations.
 pub fn check_operations(
-    table: &Table,
+    table: &SlotTable,
     nodes: u8,
     slots: u8,
     start: u64,

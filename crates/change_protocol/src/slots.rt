@@ -38,7 +38,7 @@ fn use_by(p: &Placed) -> SlotUse
 
 /// The placed entries, and where the last one of each slot stands.
 #[derive(Drop)]
-pub struct Table<'a> {
+pub struct SlotTable<'a> {
     pub placed: &'a [Placed],
     // For each slot how many entries there are up to its last one, which is counted, and 0 where it has none.
     up_to_last: [usize; MOST_SLOTS as usize],
@@ -46,9 +46,9 @@ pub struct Table<'a> {
     ghost counted: { AreUpToLast placed.now up_to_last },
 }
 
-impl<'a> Table<'a> {
+impl<'a> SlotTable<'a> {
     /// The table of these placed entries.
-    pub fn of(placed: &'a [Placed]) -> Table<'a>
+    pub fn of(placed: &'a [Placed]) -> SlotTable<'a>
         requires { IsWellPlaced placed.now }
         ensures { result.placed.now ≡ placed.now }
     {
@@ -56,7 +56,7 @@ impl<'a> Table<'a> {
         for (place, p) in placed.iter().enumerate() {
             up_to_last[usize::from(p.entry.slot)] = place + 1;
         }
-        Table { placed, up_to_last }
+        SlotTable { placed, up_to_last }
     }
 
     /// The place of the slot's last entry, where it has one.

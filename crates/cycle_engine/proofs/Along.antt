@@ -22,7 +22,7 @@ use Rattle.trigger_kind.proofs.Shared.{opening-low}
 use Rattle.node_model.specs.Node.{IsNode, NodeState, after_hearing, identifiers_of, node_offer}
 use Rattle.node_model.specs.Offered.{OffersRequest, trigger_frames}
 use Rattle.async_window.specs.Owners.{AreOwners}
-use Rattle.node_model.specs.Own.{OffersLeastOwn, OffersOwn, Stands, StandsIn}
+use Rattle.node_model.specs.Own.{OffersLeastOwn, OffersOwn, StandsIn, StandsOnBus}
 use Rattle.cycle_engine.specs.Nodes.{IsNumber, IsOwned, heard_by}
 use Rattle.cycle_engine.specs.Offered.{offered_in}
 use Rattle.cycle_engine.specs.Stations.{Stationed, all_hear, announced, cycle_line}
@@ -43,7 +43,7 @@ pub record NodeLaws : Type 0 where
       → AreOwners owners → IsLayout layout → width_of opening ≤ layout.window → opening.mask < 2 ^ layout.slots
       → All (λ earlier. earlier.start < start_of layout opening) past
       → map (λ one. one.frame) sent ≡ trigger_frames layout opening
-      → Stands layout owners requests opening.placed past opening.cycle node
+      → StandsOnBus layout owners requests opening.placed past opening.cycle node
       → StandsIn layout owners requests opening (past ++ sent) (fold after_hearing node sent)
   pub later : (layout : CycleLayout) (owners : List Owner) (requests : List Request) (opening : Opening) (past : List TimedFrame) (sent : TimedFrame) (node : NodeState)
       → AreOwners owners → IsWellPlaced opening.placed → 1 < sent.frame.identifier → start_of layout opening ≤ sent.start
@@ -189,7 +189,7 @@ pub record Waiting (layout : CycleLayout) (owners : List Owner) (requests : List
   pub mask : opening.mask < 2 ^ layout.slots
   pub before : All (λ sent. sent.start < start_of layout opening) past
   pub are : All IsNode nodes
-  pub stand : All (Stands layout owners requests opening.placed past opening.cycle) nodes
+  pub stand : All (StandsOnBus layout owners requests opening.placed past opening.cycle) nodes
   pub senders : HaveSenders nodes opening
   pub owned : All (IsOwned owners nodes) requests
 
@@ -211,7 +211,7 @@ module _ (laws : NodeLaws) (layout : CycleLayout) (owners : List Owner) (request
   Standing-trigger sent is known = record {
     are = known;
     stand = All-map (StandsIn layout owners requests opening (past ++ sent)) (λ node. fold after_hearing node sent) nodes
-        (All-weaker (Stands layout owners requests opening.placed past opening.cycle) (λ node. StandsIn layout owners requests opening (past ++ sent) (fold after_hearing node sent))
+        (All-weaker (StandsOnBus layout owners requests opening.placed past opening.cycle) (λ node. StandsIn layout owners requests opening (past ++ sent) (fold after_hearing node sent))
         (λ node. laws.trigger layout owners requests opening past sent node are_owners waiting.is_layout waiting.width waiting.mask waiting.before is) nodes waiting.stand);
     senders = HaveSenders-heard opening sent nodes waiting.senders;
     owned = All-weaker (IsOwned owners nodes) (IsOwned owners (heard_by sent nodes)) (IsOwned-heard owners sent nodes) requests waiting.owned;

@@ -16,9 +16,9 @@ use Rattle.async_window.specs.Waiting.{frames_with, requests_of, unsent_after}
 use Rattle.requirement_table.specs.Opening.{Opening}
 use Rattle.node_model.specs.Offered.{OffersRequest, OffersSlot}
 use Rattle.node_model.specs.Node.{NodeState, entries_of, identifiers_of}
-use Rattle.node_model.specs.Own.{OffersOwn, Stands}
+use Rattle.node_model.specs.Own.{OffersOwn, StandsOnBus}
 use Rattle.node_model.proofs.Shared.{instance-of_all}
-use Rattle.cycle_engine.specs.Nodes.{IsKnown, IsNumber, IsOwned}
+use Rattle.cycle_engine.specs.Nodes.{IsNumber, IsOwned, IsSlotKnown}
 use Rattle.cycle_engine.proofs.Lists.{Contains-slice_get, Contains-map, Contains-from_map, Contains-filter}
 
 -- the first unsent request of an identifier is one of the requests
@@ -47,13 +47,13 @@ some_instance None some = absurd (false≢true some)
 
 -- what a node knows of its slots stands in the list that it learnt
 pub known-senders : (layout : CycleLayout) (owners : List Owner) (requests : List Request) (past : List TimedFrame) (next : ℕ) (opening : Opening) (nodes : List NodeState)
-    → IsWellPlaced opening.placed → All (Stands layout owners requests opening.placed past next) nodes
-    → ((slot : ℕ) → slot < most_slots → has_bit opening.mask slot ≡ true → IsKnown nodes opening.cycle slot) → HaveSenders nodes opening
+    → IsWellPlaced opening.placed → All (StandsOnBus layout owners requests opening.placed past next) nodes
+    → ((slot : ℕ) → slot < most_slots → has_bit opening.mask slot ≡ true → IsSlotKnown nodes opening.cycle slot) → HaveSenders nodes opening
 known-senders layout owners requests past next opening nodes well stand known slot within flagged =
     let is = known slot within flagged in
     let node : NodeState = is.1 in
     let has : Contains nodes node = (is.0, is.2, is.3) in
-    let stands = All-contains (Stands layout owners requests opening.placed past next) nodes node stand has in
+    let stands = All-contains (StandsOnBus layout owners requests opening.placed past next) nodes node stand has in
     let found = some_instance (instance_in node.entries slot opening.cycle) is.4 in
     let own : instance_in (entries_of node.number opening.placed) slot opening.cycle ≡ Some found.0 =
     ap (λ entries. instance_in entries slot opening.cycle) (sym stands.own_entries) ∙ found.1 in

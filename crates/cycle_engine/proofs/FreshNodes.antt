@@ -13,7 +13,7 @@ use Rattle.node_model.specs.Node.{NodeState, identifiers_of}
 use Rattle.async_window.specs.Mailbox.{Mail, mail_after, unsent_of}
 use Rattle.async_window.specs.Waiting.{unsent_after}
 use Rattle.async_window.specs.Owners.{AreOwners}
-use Rattle.node_model.specs.Own.{Stands}
+use Rattle.node_model.specs.Own.{StandsOnBus}
 use Rattle.node_model.specs.Node.{fresh_node}
 use Rattle.cycle_engine.specs.Joint.{IsJoint, identifiers_in, joint_owners, part_of, parts_of}
 use Rattle.cycle_engine.specs.Nodes.{IsBus, IsNumber, IsOwned, states_of}
@@ -27,9 +27,9 @@ no_entries = record { in_range = All-nil IsInRange; in_order = λ i j d before w
 
 module _ (layout : CycleLayout) (owners : List Owner) (requests : List Request) (nodes : List NodeState) (count : ℕ) (long : length nodes ≡ count)
     (each : (k : ℕ) (d : NodeState) → k < count → get_or nodes k d ≡ fresh_node layout owners requests k) where
-  stands : (k : ℕ) (d : NodeState) → k < count → Stands layout owners requests [] [] 0 (get_or nodes k d)
+  stands : (k : ℕ) (d : NodeState) → k < count → StandsOnBus layout owners requests [] [] 0 (get_or nodes k d)
   stands k d within =
-      subst (Stands layout owners requests [] [] 0) (sym (each k d within)) (record { same_layout = refl; own_entries = refl; own_mail = refl; next_cycle = refl })
+      subst (StandsOnBus layout owners requests [] [] 0) (sym (each k d within)) (record { same_layout = refl; own_entries = refl; own_mail = refl; next_cycle = refl })
 
   numbered : (k : ℕ) (d : NodeState) → k < count → (get_or nodes k d).number ≡ k
   numbered k d within = ap (λ node. node.number) (each k d within)

@@ -21,7 +21,7 @@ use Rattle.async_window.specs.Owners.{AreOwners}
 use Rattle.async_window.specs.Waiting.{MayStart, unsent_after}
 use Rattle.node_model.specs.Node.{NodeState, Opened, entries_of, identifiers_of}
 use Rattle.node_model.specs.Offered.{bytes_sent}
-use Rattle.node_model.specs.Own.{Stands}
+use Rattle.node_model.specs.Own.{StandsOnBus}
 use Rattle.node_model.proofs.Shared.{instance-of_all}
 use Rattle.cycle_engine.specs.Joint.{IsJoint, identifiers_in, joint_entries, joint_owner, joint_owners, part_of}
 use Rattle.cycle_engine.specs.Nodes.{IsBefore, IsBus, IsNumber, IsOwned}
@@ -135,8 +135,8 @@ module _ (owners : List Owner) (placed : List Placed) (count : ℕ) (joint : Nod
   abbrev part : ℕ → NodeState
   part number = part_with owners placed number joint (opened number)
 
-  stands-at : (number : ℕ) → number < count → Stands layout whose requests others past order.cycle (part number)
-  stands-at = at-number (Stands layout whose requests others past order.cycle) part count before.bus.stand
+  stands-at : (number : ℕ) → number < count → StandsOnBus layout whose requests others past order.cycle (part number)
+  stands-at = at-number (StandsOnBus layout whose requests others past order.cycle) part count before.bus.stand
 
   -- the identifiers of a node, and what is unsent of them
   mail-at : (number : ℕ) → number < count
@@ -151,7 +151,7 @@ module _ (owners : List Owner) (placed : List Placed) (count : ℕ) (joint : Nod
       let below = All-contains (λ owner. owner.node < count) owners its.0 is.numbers its.1 in
       (mail-at its.0.node below).1 id (subst (Contains (identifiers_of its.0.node owners)) its.2 (Contains-identifiers its.0.node owners its.0 its.1 refl))
 
-  joint-stands : Stands layout (joint_owners owners) requests (joint_entries placed) past order.cycle joint
+  joint-stands : StandsOnBus layout (joint_owners owners) requests (joint_entries placed) past order.cycle joint
   joint-stands =
       let first = stands-at 0 (omega (arith, is.some)) in
       record {
@@ -206,7 +206,7 @@ module _ (owners : List Owner) (placed : List Placed) (count : ℕ) (joint : Nod
     bus = record {
       well_placed = joint-well_placed placed is.well_placed;
       are_owners = joint-are_owners owners is.are_owners;
-      stand = one_alone (Stands layout (joint_owners owners) requests (joint_entries placed) past order.cycle) joint joint-stands;
+      stand = one_alone (StandsOnBus layout (joint_owners owners) requests (joint_entries placed) past order.cycle) joint joint-stands;
       owned = All-weaker (IsOwned whose (map part (range_with_len 0 count))) (IsOwned (joint_owners owners) (joint ∷ [])) joint-owned requests before.bus.owned;
     };
     fits = record {
@@ -227,7 +227,7 @@ module _ (owners : List Owner) (placed : List Placed) (count : ℕ) (joint : Nod
       → IsBus layout (joint_owners owners) requests (joint_entries placed) (past ++ frames) (order.cycle + 1) (after ∷ [])
       → IsBus layout whose requests others (past ++ frames) (order.cycle + 1) (map (part_of owners placed after) (range_with_len 0 count))
   parts-stand after frames among numbered bus =
-      let Standing : NodeState → Type 0 = Stands layout (joint_owners owners) requests (joint_entries placed) (past ++ frames) (order.cycle + 1) in
+      let Standing : NodeState → Type 0 = StandsOnBus layout (joint_owners owners) requests (joint_entries placed) (past ++ frames) (order.cycle + 1) in
       let stands : Standing after = All-head Standing after [] bus.stand in
       let mail : after.mail ≡ mail_after (identifiers_in owners) requests (past ++ frames) =
       stands.own_mail ∙ ap (λ n. mail_after (identifiers_of n (joint_owners owners)) requests (past ++ frames)) numbered
@@ -235,7 +235,7 @@ module _ (owners : List Owner) (placed : List Placed) (count : ℕ) (joint : Nod
       record {
         well_placed = before.bus.well_placed;
         are_owners = before.bus.are_owners;
-        stand = all-numbers (Stands layout whose requests others (past ++ frames) (order.cycle + 1)) (part_of owners placed after) count (λ number within. record {
+        stand = all-numbers (StandsOnBus layout whose requests others (past ++ frames) (order.cycle + 1)) (part_of owners placed after) count (λ number within. record {
           same_layout = stands.same_layout;
           own_entries = (stands-at number within).own_entries;
           own_mail = mail-by (identifiers_of number owners) after.mail requests (past ++ frames) (λ id has.

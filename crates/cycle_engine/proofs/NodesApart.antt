@@ -13,7 +13,7 @@ use Rattle.trigger_kind.specs.Kind.{opening_identifier}
 use Rattle.node_model.specs.Node.{IsNode, NodeState, after_hearing, learnt, node_offer}
 use Rattle.trigger_codec.specs.Bytes.{triggers_with}
 use Rattle.node_model.specs.Own.{AreApart}
-use Rattle.cycle_engine.specs.Stations.{AreDue, AreNodes, AreStations, DueTrigger, Stationed, all_hear, cycle_line, due_from, offered_by_nodes, offered_trigger, triggers_after}
+use Rattle.cycle_engine.specs.Stations.{AreDueTriggers, AreNodes, AreStations, DueTrigger, Stationed, all_hear, cycle_line, due_from, offered_by_nodes, offered_trigger, triggers_after}
 use Rattle.cycle_engine.specs.SyncWindow.{nodes_alone}
 use Rattle.cycle_engine.proofs.Lists.{AllPairs-cons, AllPairs-filter_map, AllPairs-head, AllPairs-map, AllPairs-tail}
 use Rattle.cycle_engine.proofs.Hearing.{layout_kept, next_kept, number_kept}
@@ -121,20 +121,20 @@ module _ (in_range : (node : NodeState) (at id : ℕ) → IsNode node → node_o
 
 -- what is left of the trigger frames behind one frame
 module _ (layout : CycleLayout) where
-  left-due : (due : DueTrigger) (later : List DueTrigger) (id : ℕ) (b : Bool) → (due.frame.identifier == id) ≡ b → AreDue layout (due ∷ later)
-      → AreDue layout (cond b later (due ∷ later))
+  left-due : (due : DueTrigger) (later : List DueTrigger) (id : ℕ) (b : Bool) → (due.frame.identifier == id) ≡ b → AreDueTriggers layout (due ∷ later)
+      → AreDueTriggers layout (cond b later (due ∷ later))
   left-due due later id true is are = record {
     low = All-tail (λ x. x.frame.identifier ≤ 1) due later are.low;
     last = AllPairs-tail (λ one other. one.frame.identifier ≢ opening_identifier layout.slots) due later are.last;
   }
   left-due due later id false is are = are
 
-  pub AreDue-after : (triggers : List DueTrigger) (id : ℕ) → AreDue layout triggers → AreDue layout (triggers_after id triggers)
+  pub AreDue-after : (triggers : List DueTrigger) (id : ℕ) → AreDueTriggers layout triggers → AreDueTriggers layout (triggers_after id triggers)
   AreDue-after [] id are = are
   AreDue-after (due ∷ later) id are = left-due due later id (due.frame.identifier == id) refl are
 
   -- a trigger frame is left only where another one than the last was sent, and that one opens no cycle
-  left-some : (due : DueTrigger) (later : List DueTrigger) (id : ℕ) → due.frame.identifier ≡ id → AreDue layout (due ∷ later)
+  left-some : (due : DueTrigger) (later : List DueTrigger) (id : ℕ) → due.frame.identifier ≡ id → AreDueTriggers layout (due ∷ later)
       → triggers_after id (due ∷ later) ≢ [] → id ≢ opening_identifier layout.slots
   left-some due later id same are some opens =
       let left : triggers_after id (due ∷ later) ≡ later = ap (λ b. cond b later (due ∷ later)) (eq-eqb due.frame.identifier id same) in
@@ -184,14 +184,14 @@ module _ (layout : CycleLayout) where
           (are.next (some-before triggers sent.frame.identifier some))
       | inr low ↦
           let first = is_first in_range triggers nodes sent.start sent.frame.identifier are.nodes.are has low in
-          let other = left-some first.0 first.1 sent.frame.identifier first.3 (subst (AreDue layout) first.2 are.triggers)
+          let other = left-some first.0 first.1 sent.frame.identifier first.3 (subst (AreDueTriggers layout) first.2 are.triggers)
           (subst (λ ts. triggers_after sent.frame.identifier ts ≢ []) first.2 some) in
           next-kept_all nodes sent are.nodes.layouts other (are.next (some-before triggers sent.frame.identifier some))
     ];
   }
 
 -- the trigger frames of a cycle may be the next ones
-pub AreDue-triggers : (layout : CycleLayout) (at cycle l mask : ℕ) → AreDue layout (due_from at (triggers_with layout.slots cycle l mask))
+pub AreDue-triggers : (layout : CycleLayout) (at cycle l mask : ℕ) → AreDueTriggers layout (due_from at (triggers_with layout.slots cycle l mask))
 AreDue-triggers layout at cycle l mask = record {
   low = All-map (λ (due : DueTrigger). due.frame.identifier ≤ 1) (λ frame. record { at = at; frame = frame }) (triggers_with layout.slots cycle l mask) (low_ids layout.slots cycle l mask);
   last = AllPairs-map (λ (one other : DueTrigger). one.frame.identifier ≢ opening_identifier layout.slots) (λ frame. record { at = at; frame = frame })

@@ -14,7 +14,7 @@ use Rattle.async_window.specs.declared.request.Request.{Request}
 use Rattle.bus_line.specs.Trace.{Follows}
 use Rattle.bus_line.specs.Stations.{offers_of}
 use Rattle.node_model.specs.Node.{IsNode, NodeState}
-use Rattle.node_model.specs.Own.{Stands, StandsIn}
+use Rattle.node_model.specs.Own.{StandsIn, StandsOnBus}
 use Rattle.cycle_engine.specs.Joint.{BeginsWithTriggers}
 use Rattle.cycle_engine.specs.Nodes.{IsBefore, IsBus, heard_by, opening_of}
 use Rattle.cycle_engine.specs.Offered.{offered_in}
@@ -101,7 +101,7 @@ module _ (laws : NodeLaws) (layout : CycleLayout) (order : Order) (nodes : List 
       record {
         well_placed = before.bus.well_placed;
         are_owners = before.bus.are_owners;
-        stand = All-weaker (StandsIn layout owners requests opening (past ++ frames)) (Stands layout owners requests placed (past ++ frames) (order.cycle + 1))
+        stand = All-weaker (StandsIn layout owners requests opening (past ++ frames)) (StandsOnBus layout owners requests placed (past ++ frames) (order.cycle + 1))
             (λ node stands. stands.stands) (heard_by frames nodes) standing.stand;
         owned = standing.owned;
       }

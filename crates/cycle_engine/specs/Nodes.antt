@@ -13,7 +13,7 @@ use Rattle.requirement_table.specs.Opening.{Opening, width_of}
 use Rattle.async_window.specs.Mailbox.{left}
 use Rattle.node_model.specs.Node.{NodeState, NodeView, after_hearing, learnt}
 use Rattle.async_window.specs.Owners.{AreOwners}
-use Rattle.node_model.specs.Own.{Stands}
+use Rattle.node_model.specs.Own.{StandsOnBus}
 
 -- the layout of a bus, and its nodes
 pub record NodesView : Type 0 where
@@ -66,18 +66,18 @@ pub record IsBus (layout : CycleLayout) (owners : List Owner) (requests : List R
     (past : List TimedFrame) (next : ℕ) (nodes : List NodeState) : Type 0 where
   pub well_placed : IsWellPlaced placed
   pub are_owners : AreOwners owners
-  pub stand : All (Stands layout owners requests placed past next) nodes
+  pub stand : All (StandsOnBus layout owners requests placed past next) nodes
   pub owned : All (IsOwned owners nodes) requests
 
 -- one of the nodes knows an instance of the slot that may be sent in the cycle
-abbrev pub IsKnown : List NodeState → ℕ → ℕ → Type 0
-IsKnown nodes cycle slot = Any (λ node. IsSome (instance_in node.entries slot cycle)) nodes
+abbrev pub IsSlotKnown : List NodeState → ℕ → ℕ → Type 0
+IsSlotKnown nodes cycle slot = Any (λ node. IsSome (instance_in node.entries slot cycle)) nodes
 
 -- of each flagged slot one of the nodes knows an instance that may be sent in the cycle, and the window has the length
 -- of their frames
 pub record FitsOrder (l : ℕ) (opening : Opening) (nodes : List NodeState) : Type 0 where
   pub width : l ≡ width_of opening
-  pub present : (slot : ℕ) → slot < most_slots → has_bit opening.mask slot ≡ true → IsKnown nodes opening.cycle slot
+  pub present : (slot : ℕ) → slot < most_slots → has_bit opening.mask slot ≡ true → IsSlotKnown nodes opening.cycle slot
 
 -- the cycle that an order opens, where this list is placed
 abbrev pub opening_of : Order → List Placed → Opening

@@ -12,7 +12,7 @@ use Rattle.bus_line.specs.Stations.{Line}
 use Rattle.node_model.specs.Node.{IsNode, NodeState, NodeView, after_hearing, node_frame, node_offer}
 use Rattle.trigger_kind.specs.Kind.{opening_identifier}
 use Rattle.node_model.specs.Own.{AreApart}
-use Rattle.cycle_engine.specs.declared.stations.Due.{Due}
+use Rattle.cycle_engine.specs.declared.stations.DueTriggerFrames.{DueTriggerFrames}
 
 -- a trigger frame, and the time from which on it is offered
 pub record DueTrigger : Type 0 where
@@ -39,7 +39,7 @@ abbrev pub due_from : ℕ → List DataFrame → List DueTrigger
 due_from at frames = map (λ frame. record { at = at; frame = frame }) frames
 
 -- the trigger frames that the stations keep
-abbrev pub due_list : Option Due → List DueTrigger
+abbrev pub due_list : Option DueTriggerFrames → List DueTrigger
 due_list None = []
 due_list (Some due) = due_from due.at (due.next ∷ cons_option due.second [])
 
@@ -103,14 +103,14 @@ pub record AreNodes (layout : CycleLayout) (nodes : List NodeState) : Type 0 whe
 
 -- what holds of trigger frames that are not yet sent: they have identifiers below those of nodes, and none but the last
 -- one opens a cycle
-pub record AreDue (layout : CycleLayout) (triggers : List DueTrigger) : Type 0 where
+pub record AreDueTriggers (layout : CycleLayout) (triggers : List DueTrigger) : Type 0 where
   pub low : All (λ due. due.frame.identifier ≤ 1) triggers
   pub last : AllPairs (λ one other. one.frame.identifier ≢ opening_identifier layout.slots) triggers
 
 -- what holds of the stations: the nodes can hear the trigger frames that are not yet sent
 pub record AreStations (stations : Stationed) : Type 0 where
   pub nodes : AreNodes stations.layout stations.nodes
-  pub triggers : AreDue stations.layout stations.triggers
+  pub triggers : AreDueTriggers stations.layout stations.triggers
   pub next : stations.triggers ≢ [] → All (λ node. node.next < cycles_end) stations.nodes
 
 -- nodes before trigger frames are sent that are offered from a time on

@@ -10,7 +10,7 @@ ghost use Rattle.node_model.specs.Window.{IsInWindow};
 ghost use Rattle.async_window.specs.Mailbox.{left};
 ghost use Rattle.arbitration.specs.Arbitration.{AreDistinct};
 ghost use Rattle.bus_line.specs.Stations.{IsWake, sooner};
-ghost use Rattle.cycle_engine.specs.Stations.{AreDue, AreNodes, announced, due_from, due_list, frame_by_nodes};
+ghost use Rattle.cycle_engine.specs.Stations.{AreDueTriggers, AreNodes, announced, due_from, due_list, frame_by_nodes};
 ghost use Rattle.cycle_engine.specs.Stations.{offered_by_nodes, offered_trigger, triggers_after};
 ghost use Rattle.cycle_engine.specs.SyncWindow.{IsSentBy};
 
@@ -28,7 +28,7 @@ use std::marker::Model;
 
 /// The trigger frames of a cycle that are not sent yet: one, and the one behind it, where there are two.
 #[derive(Clone, Copy)]
-pub struct Due {
+pub struct DueTriggerFrames {
     /// The time from which on they are offered, in bit times.
     pub at: u64,
     /// The frame that is offered next.
@@ -42,7 +42,7 @@ pub struct Due {
 pub struct NodeStations {
     layout: Layout,
     node: Node,
-    due: Option<Due>,
+    due: Option<DueTriggerFrames>,
     /// For each slot what is known of the first bits of its frames.
     fronts: Fronts,
 }
@@ -121,7 +121,7 @@ impl NodeStations {
 
     /// Makes trigger frames the next ones, from a time on: one, and another one behind it, where there are two.
     pub fn announce(&mut self, at: u64, first: Frame, second: Option<Frame>)
-        requires due { AreDue self.old.layout (due_from at (first ∷ cons_option second [])) }
+        requires due { AreDueTriggers self.old.layout (due_from at (first ∷ cons_option second [])) }
         requires next { self.old.node.state.next < cycles_end }
         ensures announced { self.new ≡ record {
           layout = self.old.layout;
@@ -130,7 +130,7 @@ impl NodeStations {
         } }
         ensures known { AreNodes self.new.layout (self.new.node.state ∷ []) }
     {
-        self.due = Some(Due {
+        self.due = Some(DueTriggerFrames {
             at,
             next: first,
             second,
@@ -239,7 +239,7 @@ fn sooner(one: Option<u64>, other: Option<u64>) -> Option<u64>
 }
 
 /// Adds the identifier of the first of the trigger frames to no contenders, where it is offered at this time.
-fn push_trigger(due: &Option<Due>, at: u64, ids: &mut Contenders)
+fn push_trigger(due: &Option<DueTriggerFrames>, at: u64, ids: &mut Contenders)
     requires empty { ids.old ≡ [] }
     ensures pushed { ids.new ≡ offered_trigger (due_list due.now) at }
 {
@@ -251,7 +251,7 @@ fn push_trigger(due: &Option<Due>, at: u64, ids: &mut Contenders)
 }
 
 /// The least time behind `at` at which the first of the trigger frames is offered while nothing is sent.
-fn wake_of_trigger(due: &Option<Due>, at: u64) -> Option<u64>
+fn wake_of_trigger(due: &Option<DueTriggerFrames>, at: u64) -> Option<u64>
     requires time { at < times_end }
     ensures wake { IsWake (offered_trigger (due_list due.now)) at result }
 {
@@ -260,7 +260,7 @@ fn wake_of_trigger(due: &Option<Due>, at: u64) -> Option<u64>
 }
 
 /// Takes the first of the trigger frames away where it has the identifier of a frame that was sent.
-fn take_due(due: &mut Option<Due>, id: u16)
+fn take_due(due: &mut Option<DueTriggerFrames>, id: u16)
     ensures left { due_list due.new ≡ triggers_after id (due_list due.old) }
 {
     if let Some(first) = due {
@@ -271,11 +271,11 @@ fn take_due(due: &mut Option<Due>, id: u16)
 }
 
 /// The trigger frames that are left once the first of them was sent.
-fn behind(due: &Due) -> Option<Due>
+fn behind(due: &DueTriggerFrames) -> Option<DueTriggerFrames>
     ensures left { due_list result ≡ due_from due.now.at (cons_option due.now.second []) }
 {
     match due.second {
-        Some(second) => Some(Due {
+        Some(second) => Some(DueTriggerFrames {
             at: due.at,
             next: second,
             second: None,

@@ -5,11 +5,11 @@ use Rattle.cycle_layout.specs.declared.LayoutFault.{LayoutFault}
 use Rattle.cycle_layout.specs.declared.LayoutFault.TheVariants.{CycleRange, TurnRange, WindowRange, TooNarrow}
 
 -- the numbers are judged in this order, and the first wrong one decides
-abbrev pub Refuses : ℕ → ℕ → ℕ → ℕ → LayoutFault → Type 0
-Refuses cycle turnaround window slots CycleRange = IsCycleLength cycle → ⊥
-Refuses cycle turnaround window slots TurnRange = IsCycleLength cycle × (IsTurnaround turnaround → ⊥)
-Refuses cycle turnaround window slots WindowRange =
+abbrev pub RefusesLayout : ℕ → ℕ → ℕ → ℕ → LayoutFault → Type 0
+RefusesLayout cycle turnaround window slots CycleRange = IsCycleLength cycle → ⊥
+RefusesLayout cycle turnaround window slots TurnRange = IsCycleLength cycle × (IsTurnaround turnaround → ⊥)
+RefusesLayout cycle turnaround window slots WindowRange =
     IsCycleLength cycle × IsTurnaround turnaround × (IsWindow window → ⊥)
-Refuses cycle turnaround window slots (TooNarrow need have) =
+RefusesLayout cycle turnaround window slots (TooNarrow need have) =
     IsCycleLength cycle × IsTurnaround turnaround × IsWindow window
     × (need ≡ needed turnaround window slots) × (have ≡ cycle) × (have < need)

@@ -6,7 +6,7 @@ ghost use Rattle.std.specs.Prelude.{◌≡◌, ℕ, ◌+◌, ◌*◌, ◌/◌, �
 ghost use Rattle.profile.specs.Limits.{cycles_end};
 ghost use Rattle.trigger_kind.specs.Kind.{IsSlots, triggers_of};
 ghost use Rattle.cycle_layout.specs.Layout.{IsAllowed, IsLayout, async_open, sync_start, trigger_part};
-ghost use Rattle.cycle_layout.specs.LayoutFault.{Refuses};
+ghost use Rattle.cycle_layout.specs.LayoutFault.{RefusesLayout};
 
 use profile::{LONGEST_CYCLE, LONGEST_TURNAROUND, LONGEST_WINDOW, SHORTEST_CYCLE, SHORTEST_WINDOW};
 use std::error::Error;
@@ -82,7 +82,7 @@ impl Layout {
         ensures layout { IfOk result
             (λ l. l ≡ record { cycle = e; turnaround = r; window = w; slots = slots }) }
         ensures known { IfOk result IsLayout }
-        ensures fault { IfErr result (Refuses e r w slots) }
+        ensures fault { IfErr result (RefusesLayout e r w slots) }
     {
         if !(SHORTEST_CYCLE..=LONGEST_CYCLE).contains(&e) {
             return Err(LayoutFault::CycleRange);

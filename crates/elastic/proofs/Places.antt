@@ -4,7 +4,7 @@ use Rattle.std.proofs.Math.Nat.{div-add-mod', mod-eq_of_lt, mod-lt, mul-add-div_
 use Rattle.std.proofs.lemmas.Nat.{div-mul-add}
 use Rattle.std.proofs.lemmas.Bool.{cases_order}
 use Rattle.std.proofs.lemmas.List.Elements.{All-head, All-tail}
-use Rattle.elastic.specs.Combination.{AreChoices, GoesBefore, HasChoice, choices, combinations, operations_at, operations_in, places_in}
+use Rattle.elastic.specs.Combination.{AreChoices, HasChoice, IsLexicallyBefore, choices, combinations, operations_at, operations_in, places_in}
 use Rattle.elastic.specs.declared.wish.WishOp.{WishOp}
 use Rattle.elastic.specs.declared.wish.WishOp.TheVariants.{Add, Remove}
 use Rattle.elastic.proofs.Products.{some_other}
@@ -87,7 +87,7 @@ first_digit number bound base under =
     ]
 
 -- greater numbers take later choices
-pub in_order : (ops : List WishOp) (number other : ℕ) → number < other → other < combinations ops → GoesBefore (places_in number ops) (places_in other ops)
+pub in_order : (ops : List WishOp) (number other : ℕ) → number < other → other < combinations ops → IsLexicallyBefore (places_in number ops) (places_in other ops)
 in_order [] number other less under = absurd (omega (arith, less, under))
 in_order (op ∷ ops) number other less under =
     let count = choices op in

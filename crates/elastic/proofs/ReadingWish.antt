@@ -3,14 +3,14 @@ use Rattle.std.proofs.Common.{◌≡◌, ◌⊎◌, inl, inr, ap, ℕ, ◌+◌, 
 use Rattle.std.proofs.lemmas.List.{nil_from_length}
 use Rattle.std.proofs.lemmas.List.Elements.{All-nil, All-push}
 use Rattle.std.specs.Result.{IsErrAnd}
-use Rattle.text_fields.specs.RecordReading.{Reads, ReadsOne}
+use Rattle.text_fields.specs.RecordReading.{ReadsOneRecord, ReadsRecords}
 use Rattle.text_fields.specs.declared.records.RecordReader.{RecordReader}
 use Rattle.text_fields.specs.CsvRows.{records_of, rows_of, trimmed}
 use Rattle.text_fields.specs.RowByRow.{AreItems}
 use Rattle.text_fields.proofs.Shared.{trimmed-more, trimmed-split}
 use Rattle.elastic.specs.Combination.{HasFewChoices}
 use Rattle.elastic.specs.WishRow.{Start, Operation, meaning, operation_of}
-use Rattle.elastic.specs.WishesFile.{Faults, HasFileChoices, IsFaultOfRow, ReadsStart, SayWish, wish_of}
+use Rattle.elastic.specs.WishesFile.{HasFileChoices, IsFaultOfRow, IsWishFault, ReadsStart, SayWish, wish_of}
 use Rattle.elastic.specs.declared.wish.Wish.{Wish}
 use Rattle.elastic.specs.declared.wish.WishOp.{WishOp}
 use Rattle.elastic.specs.declared.wish_fault.WishWhy.TheVariants.{Word}
@@ -20,7 +20,7 @@ use Rattle.elastic.proofs.WishLines.{bad_operation, fault_computed, more_lines, 
 
 pub record ReadsWish (bytes : List ℕ) (reader : RecordReader) (start : ℕ) (ops : List WishOp) : Type 0 where
   pub before : List (List (List ℕ))
-  pub reads : Reads bytes reader before
+  pub reads : ReadsRecords bytes reader before
   pub says : AreItems meaning (map (map trimmed) before) (Start start ∷ map Operation ops)
   pub few : length ops ≤ 16
   pub each : All HasFileChoices ops
@@ -38,7 +38,7 @@ reads_first bytes reader start first =
 module _ (bytes : List ℕ) (before below : List (List (List ℕ))) (fields : List (List ℕ)) (start : ℕ) (ops : List WishOp)
     (says : AreItems meaning (map (map trimmed) before) (Start start ∷ map Operation ops)) (split : records_of bytes ≡ before ++ fields ∷ below) where
   pub fault_of_row : (above : ℕ) (fault : WishFault) → above ≡ length ops
-      → IsFaultOfRow (above + 2) (operation_of above (map trimmed fields)) fault → Faults (rows_of bytes) fault
+      → IsFaultOfRow (above + 2) (operation_of above (map trimmed fields)) fault → IsWishFault (rows_of bytes) fault
   fault_of_row above (Row number why) is faulty =
       rw faulty.0 (rw is (bad_operation (rows_of bytes) (map (map trimmed) before) (map (map trimmed) below) start ops (map trimmed fields) why says
       (trimmed-split before fields bytes below split) (rw is at faulty.1)))
@@ -46,7 +46,7 @@ module _ (bytes : List ℕ) (before below : List (List (List ℕ))) (fields : Li
 
 -- a wish with an operation more
 pub reads_more : (bytes : List ℕ) (old new : RecordReader) (start above : ℕ) (ops : List WishOp) (op : WishOp) (fields : List (List ℕ))
-    → (so_far : ReadsWish bytes old start ops) → ReadsOne bytes old new so_far.before fields → above ≡ length ops
+    → (so_far : ReadsWish bytes old start ops) → ReadsOneRecord bytes old new so_far.before fields → above ≡ length ops
     → operation_of above (map trimmed fields) ≡ Ok op → above < 16 → HasFileChoices op
     → ReadsWish bytes new start (ops ++ op ∷ [])
 reads_more bytes old new start above ops op fields so_far read is says few choices =
@@ -62,7 +62,7 @@ reads_more bytes old new start above ops op fields so_far read is says few choic
 
 module _ (bytes : List ℕ) (before : List (List (List ℕ))) (start : ℕ) (ops : List WishOp)
     (says : AreItems meaning (map (map trimmed) before) (Start start ∷ map Operation ops)) (all : records_of bytes ≡ before) where
-  pub none_read : length ops ≡ 0 → Faults (rows_of bytes) (Row 2 Word)
+  pub none_read : length ops ≡ 0 → IsWishFault (rows_of bytes) (Row 2 Word)
   none_read none =
       let same : ops ≡ [] = nil_from_length ops none in
       let rows : rows_of bytes ≡ map (map trimmed) before = ap (map (map trimmed)) all in
@@ -77,7 +77,7 @@ few_choices ops all = λ k d inside. omega (arith, (all k d inside).1)
 
 -- what is computed of a file
 
-pub fault_is : (bytes : List ℕ) (fault : WishFault) → Faults (rows_of bytes) fault → (fault ≡ Memory) ⊎ (wish_of bytes ≡ Err fault)
+pub fault_is : (bytes : List ℕ) (fault : WishFault) → IsWishFault (rows_of bytes) fault → (fault ≡ Memory) ⊎ (wish_of bytes ≡ Err fault)
 unfolding wish_of
 fault_is bytes (Row number why) faulty = inr (fault_computed (rows_of bytes) number why faulty)
 fault_is bytes Memory faulty = inl refl
@@ -93,6 +93,6 @@ passes_on (Ok value) P fault is holds = absurd is
 passes_on (Err e) P fault is holds = subst P (sym is) holds
 
 pub passes_value : {T : Type 0} (Q : T → Type 0) (bytes : List ℕ) (result : Result T WishFault) (fault : WishFault) → IsErrAnd result (λ e. e ≡ fault)
-    → Faults (rows_of bytes) fault → MatchResult result Q (λ e. (e ≡ Memory) ⊎ (wish_of bytes ≡ Err e))
+    → IsWishFault (rows_of bytes) fault → MatchResult result Q (λ e. (e ≡ Memory) ⊎ (wish_of bytes ≡ Err e))
 passes_value Q bytes (Ok value) fault is faulty = absurd is
-passes_value Q bytes (Err e) fault is faulty = fault_is bytes e (subst (Faults (rows_of bytes)) (sym is) faulty)
+passes_value Q bytes (Err e) fault is faulty = fault_is bytes e (subst (IsWishFault (rows_of bytes)) (sym is) faulty)

@@ -6,7 +6,7 @@ use Rattle.csv.specs.Records.{field_at}
 use Rattle.text_fields.specs.RowByRow.{AreItems, IsFirstFault, items_below}
 use Rattle.text_fields.proofs.Shared.{all_items, first_fault, more_items, no_items}
 use Rattle.elastic.specs.WishFields.{verb_of}
-use Rattle.elastic.specs.WishRow.{Line, Start, Operation, meaning, operation_of, start_of}
+use Rattle.elastic.specs.WishRow.{WishLine, Start, Operation, meaning, operation_of, start_of}
 use Rattle.elastic.specs.WishesFile.{SayWish, lacking, lines_of, operations_said, wish_of_rows, wish_or_fault}
 use Rattle.elastic.specs.declared.wish.Wish.{Wish}
 use Rattle.elastic.specs.declared.wish.WishOp.{WishOp}
@@ -42,7 +42,7 @@ first_lacks : meaning [] [] ≡ Err Word
 unfolding meaning start_of field_at
 first_lacks = refl
 
-other_lacks : (line : Line) → meaning (line ∷ []) [] ≡ Err Word
+other_lacks : (line : WishLine) → meaning (line ∷ []) [] ≡ Err Word
 unfolding meaning operation_of verb_of field_at
 other_lacks line = refl
 

@@ -105,7 +105,7 @@ operations_at (op ∷ ops) [] = []
 operations_at (op ∷ ops) (place ∷ places) = operation_at place op ∷ operations_at ops places
 
 -- where two lists of places differ first, the one has the lesser place
-abbrev pub GoesBefore : List ℕ → List ℕ → Type 0
-GoesBefore [] others = ⊥
-GoesBefore (place ∷ places) [] = ⊥
-GoesBefore (place ∷ places) (other ∷ others) = (place < other) ⊎ ((place ≡ other) × GoesBefore places others)
+abbrev pub IsLexicallyBefore : List ℕ → List ℕ → Type 0
+IsLexicallyBefore [] others = ⊥
+IsLexicallyBefore (place ∷ places) [] = ⊥
+IsLexicallyBefore (place ∷ places) (other ∷ others) = (place < other) ⊎ ((place ≡ other) × IsLexicallyBefore places others)

@@ -7,8 +7,8 @@ use Rattle.requirement_table.specs.declared.entries.Entry.{Entry}
 use Rattle.text_fields.specs.CsvRows.{number_at}
 use Rattle.elastic.specs.declared.wish.WishOp.{WishOp}
 use Rattle.elastic.specs.declared.wish.WishOp.TheVariants as wished
-use Rattle.elastic.specs.declared.wish_rows.Verb.{Verb}
-use Rattle.elastic.specs.declared.wish_rows.Verb.TheVariants.{Add, Remove}
+use Rattle.elastic.specs.declared.wish_rows.WishVerb.{WishVerb}
+use Rattle.elastic.specs.declared.wish_rows.WishVerb.TheVariants.{Add, Remove}
 
 infixl 10 ◌>>=◌
 -- what the second gives for the value of the first, where both are there
@@ -20,19 +20,19 @@ abbrev pub begins : List (List ℕ) → Bool
 begins row = bytes_eq (unwrap_or (field_at row 0) []) (codes "start")
 
 -- what an operation does, by its word
-abbrev pub verb_of_word : List ℕ → Option Verb
+abbrev pub verb_of_word : List ℕ → Option WishVerb
 verb_of_word word =
     if bytes_eq word (codes "add") then Some Add
     else if bytes_eq word (codes "remove") then Some Remove
     else None
 
 -- what the operation of a row does, by the first field
-unfoldable pub verb_of : List (List ℕ) → Option Verb
+unfoldable pub verb_of : List (List ℕ) → Option WishVerb
 verb_of row = option_and_then verb_of_word (field_at row 0)
 
 -- whether a row has so many fields: `add`, SLOT, NODE, LENGTH, PHASE, DEADLINE, PRIORITY and 1 to 8 periods, or
 -- `remove` and SLOT
-abbrev pub has_fields : Verb → ℕ → Bool
+abbrev pub has_fields : WishVerb → ℕ → Bool
 has_fields Add fields = nat_le 8 fields && nat_le fields 15
 has_fields Remove fields = fields == 2
 
@@ -74,6 +74,6 @@ adding row = do
   Some (wished.Add entry periods)
 
 -- the operation that a row says
-unfoldable pub said_as : Verb → List (List ℕ) → Option WishOp
+unfoldable pub said_as : WishVerb → List (List ℕ) → Option WishOp
 said_as Add row = adding row
 said_as Remove row = option_map wished.Remove (number_at row 1 0 255)

@@ -8,9 +8,9 @@ use Rattle.elastic.specs.declared.wish_fault.WishWhy.{WishWhy}
 use Rattle.elastic.specs.declared.wish_fault.WishWhy.TheVariants.{Word, Fields, Number, Many}
 
 -- what a row says: the start of the wish, or one of its operations
-pub data Line : Type 0 where
-  Start : ℕ → Line
-  Operation : WishOp → Line
+pub data WishLine : Type 0 where
+  Start : ℕ → WishLine
+  Operation : WishOp → WishLine
 
 -- the start that a first row says, or the first why, in this order, for which it says none
 unfoldable pub start_of : List (List ℕ) → Result ℕ WishWhy
@@ -28,6 +28,6 @@ operation_of above row = do
   where_holds (nat_lt above 16) op Many
 
 -- what a row says below what the rows above it say: the first one says the start, and each other one an operation
-unfoldable pub meaning : List Line → List (List ℕ) → Result Line WishWhy
+unfoldable pub meaning : List WishLine → List (List ℕ) → Result WishLine WishWhy
 meaning [] row = start_of row >>= λ start. Ok (Start start)
 meaning (first ∷ ops) row = operation_of (length ops) row >>= λ op. Ok (Operation op)

@@ -2,11 +2,11 @@
 use Rattle.std.specs.Prelude.{◌≡◌, ℕ, ◌+◌, ◌≤◌, List, [], ◌∷◌, ◌++◌, if◌then◌else◌, nat_lt, length, map}
 use Rattle.std.specs.Prelude.{Result, Ok, Err, All, ⊤}
 use Rattle.text_fields.specs.CsvRows.{rows_of, trimmed}
-use Rattle.text_fields.specs.RecordReading.{Reads}
+use Rattle.text_fields.specs.RecordReading.{ReadsRecords}
 use Rattle.text_fields.specs.declared.records.RecordReader.{RecordReader}
 use Rattle.text_fields.specs.RowByRow.{AreItems, Faulty, IsFirstFault, items_below}
 use Rattle.elastic.specs.Combination.{choices}
-use Rattle.elastic.specs.WishRow.{Line, Start, Operation, meaning, start_of}
+use Rattle.elastic.specs.WishRow.{WishLine, Start, Operation, meaning, start_of}
 use Rattle.elastic.specs.declared.wish.Wish.{Wish}
 use Rattle.elastic.specs.declared.wish.WishOp.{WishOp}
 use Rattle.elastic.specs.declared.wish_fault.WishWhy.{WishWhy}
@@ -14,7 +14,7 @@ use Rattle.elastic.specs.declared.wish_fault.WishFault.{WishFault}
 use Rattle.elastic.specs.declared.wish_fault.WishFault.TheVariants.{Row, Memory}
 
 -- the lines that say a wish: its start, and its operations in their order
-abbrev pub lines_of : Wish → List Line
+abbrev pub lines_of : Wish → List WishLine
 lines_of wish = Start wish.start ∷ map Operation wish.ops
 
 -- the rows say this wish, one row each line, and it has an operation
@@ -28,24 +28,24 @@ lacking rows = if nat_lt (length rows) 2 then [] ∷ [] else []
 
 -- the fault that rows give: the first that says nothing, be it the one that is lacking. Want of memory says nothing of
 -- them
-abbrev pub Faults : List (List (List ℕ)) → WishFault → Type 0
-Faults rows (Row number why) = IsFirstFault meaning (rows ++ lacking rows) number why
-Faults rows Memory = ⊤
+abbrev pub IsWishFault : List (List (List ℕ)) → WishFault → Type 0
+IsWishFault rows (Row number why) = IsFirstFault meaning (rows ++ lacking rows) number why
+IsWishFault rows Memory = ⊤
 
 -- the operations that lines say
-abbrev pub operations_said : List Line → List WishOp
+abbrev pub operations_said : List WishLine → List WishOp
 operations_said [] = []
 operations_said (Start start ∷ lines) = operations_said lines
 operations_said (Operation op ∷ lines) = op ∷ operations_said lines
 
 -- the start that lines say
-abbrev pub start_said : List Line → ℕ
+abbrev pub start_said : List WishLine → ℕ
 start_said [] = 0
 start_said (Start start ∷ lines) = start
 start_said (Operation op ∷ lines) = 0
 
 -- the wish of lines, or the fault of a row
-abbrev pub wish_or_fault : Result (List Line) (Faulty WishWhy) → Result Wish WishFault
+abbrev pub wish_or_fault : Result (List WishLine) (Faulty WishWhy) → Result Wish WishFault
 wish_or_fault (Ok lines) = Ok (record { start = start_said lines; ops = operations_said lines })
 wish_or_fault (Err fault) = Err (Row fault.number fault.why)
 
@@ -75,5 +75,5 @@ IsFaultOfRow place meant Memory = ⊤
 -- the first row was read, and says this start
 pub record ReadsStart (bytes : List ℕ) (reader : RecordReader) (start : ℕ) : Type 0 where
   pub fields : List (List ℕ)
-  pub reads : Reads bytes reader (fields ∷ [])
+  pub reads : ReadsRecords bytes reader (fields ∷ [])
   pub says : start_of (map trimmed fields) ≡ Ok start

@@ -11,7 +11,7 @@ ghost use Rattle.master_core.specs.declared.event.Event.{Event};
 ghost use Rattle.master_core.specs.declared.event.Event.TheVariants.{Submit};
 ghost use Rattle.master_core.specs.History.{IsLegal, next_of, placed_of, plan_of};
 ghost use Rattle.elastic.specs.Choice.{IsChoice, IsElasticFault};
-ghost use Rattle.elastic.specs.Combination.{AreChoices, GoesBefore, HasChoice, change_of, combinations, operations_at};
+ghost use Rattle.elastic.specs.Combination.{AreChoices, HasChoice, IsLexicallyBefore, change_of, combinations, operations_at};
 ghost use Rattle.elastic.specs.Combination.{operations_in, places_in};
 ghost use Rattle.elastic.specs.declared.choice.Choice.{Choice};
 ghost use Rattle.elastic.specs.declared.choice.ElasticFault.{ElasticFault};
@@ -30,7 +30,7 @@ pub fn combinations_in_order()
     ensures each { (ops : List WishOp) (places : List ℕ) → AreChoices ops places
         → (number : ℕ) × (number < combinations ops) × (places_in number ops ≡ places) }
     ensures in_order { (ops : List WishOp) (number other : ℕ) → number < other → other < combinations ops
-        → GoesBefore (places_in number ops) (places_in other ops) }
+        → IsLexicallyBefore (places_in number ops) (places_in other ops) }
 {}
 
 /// Whoever judges the change of a chosen combination by the same rules, for the same list and from the same state,

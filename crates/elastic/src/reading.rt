@@ -4,9 +4,9 @@
 
 ghost use Rattle.std.specs.Prelude.{◌≡◌, ◌⊎◌, ◌≤◌, ℕ, All, List, [], length, IfOk, IfErr, MatchResult, Ok, Err};
 ghost use Rattle.text_fields.specs.CsvRows.{rows_of};
-ghost use Rattle.text_fields.specs.RecordReading.{Reads};
+ghost use Rattle.text_fields.specs.RecordReading.{ReadsRecords};
 ghost use Rattle.elastic.specs.Combination.{HasFewChoices};
-ghost use Rattle.elastic.specs.WishesFile.{Faults, IsLegalWish, ReadsStart, SayWish, wish_of};
+ghost use Rattle.elastic.specs.WishesFile.{IsLegalWish, IsWishFault, ReadsStart, SayWish, wish_of};
 ghost use Rattle.elastic.specs.declared.wish_fault.WishFault.TheVariants.{Memory};
 
 use crate::wish::{Wish, WishOps};
@@ -17,10 +17,10 @@ use text_fields::{Record, RecordReader, begin_reading, next_record};
 
 /// Reads the first row, which says the start.
 fn read_first<'a>(reader: &mut RecordReader<'a>, row: &mut Record<'a>) -> Result<u64, WishFault>
-    ensures start { IfOk result (λ start. (bytes : List ℕ) → Reads bytes reader.old []
+    ensures start { IfOk result (λ start. (bytes : List ℕ) → ReadsRecords bytes reader.old []
         → ReadsStart bytes reader.new start) }
-    ensures fault { IfErr result (λ fault. (bytes : List ℕ) → Reads bytes reader.old []
-        → Faults (rows_of bytes) fault) }
+    ensures fault { IfErr result (λ fault. (bytes : List ℕ) → ReadsRecords bytes reader.old []
+        → IsWishFault (rows_of bytes) fault) }
 {
     if !next_record(reader, row)? {
         return Err(WishFault::Row {
@@ -42,7 +42,7 @@ fn read_first<'a>(reader: &mut RecordReader<'a>, row: &mut Record<'a>) -> Result
 /// operation is lacking, it is the row that is lacking, with `Word`.
 pub fn read_wish(alloc: Global, bytes: &[u8]) -> Result<Wish, WishFault>
     ensures ok { IfOk result (SayWish (rows_of bytes.now)) }
-    ensures fault { IfErr result (Faults (rows_of bytes.now)) }
+    ensures fault { IfErr result (IsWishFault (rows_of bytes.now)) }
     ensures legal { IfOk result IsLegalWish }
     ensures few_ops { IfOk result (λ wish. length wish.ops ≤ 256) }
     ensures few_periods { IfOk result (λ wish. All HasFewChoices wish.ops) }

@@ -29,7 +29,7 @@ const FIRST_PERIOD: usize = 7;
 
 /// What an operation does.
 #[derive(Clone, Copy, Debug, PartialEq, Eq)]
-pub enum Verb {
+pub enum WishVerb {
     /// It adds an entry.
     Add,
     /// It removes a slot's entry.
@@ -68,13 +68,13 @@ pub fn read_start(row: &Record<'_>) -> Result<u64, WishWhy>
 }
 
 /// What an operation does, by its word.
-fn verb_of_word(word: &[u8]) -> Option<Verb>
+fn verb_of_word(word: &[u8]) -> Option<WishVerb>
     ensures value { result ≡ verb_of_word word.now }
 {
     if word == b"add".as_slice() {
-        Some(Verb::Add)
+        Some(WishVerb::Add)
     } else if word == b"remove".as_slice() {
-        Some(Verb::Remove)
+        Some(WishVerb::Remove)
     } else {
         None
     }
@@ -82,7 +82,7 @@ fn verb_of_word(word: &[u8]) -> Option<Verb>
 
 /// What the operation of a row does, by the first field.
 #[tactic(auto, unfolding(crate::specs::WishFields::verb_of))]
-fn read_verb(row: &Record<'_>) -> Option<Verb>
+fn read_verb(row: &Record<'_>) -> Option<WishVerb>
     ensures value { result ≡ verb_of (map trimmed (fields_in row.now)) }
 {
     let word = field_of(row, 0)?;
@@ -90,12 +90,12 @@ fn read_verb(row: &Record<'_>) -> Option<Verb>
 }
 
 /// Whether a row of this operation has so many fields.
-fn has_fields(verb: Verb, fields: usize) -> bool
+fn has_fields(verb: WishVerb, fields: usize) -> bool
     ensures value { result ≡ has_fields verb fields }
 {
     match verb {
-        Verb::Add => FIRST_PERIOD < fields && fields <= FIRST_PERIOD + 8,
-        Verb::Remove => fields == 2,
+        WishVerb::Add => FIRST_PERIOD < fields && fields <= FIRST_PERIOD + 8,
+        WishVerb::Remove => fields == 2,
     }
 }
 
@@ -139,13 +139,13 @@ fn read_periods(alloc: Global, row: &Record<'_>) -> Result<Option<Periods>, Allo
 
 /// The operation that a row says, where each field is a number in its range.
 #[tactic(auto, unfolding(crate::specs::WishFields::said_as))]
-fn read_said(alloc: Global, verb: Verb, row: &Record<'_>) -> Result<Option<WishOp>, AllocError>
+fn read_said(alloc: Global, verb: WishVerb, row: &Record<'_>) -> Result<Option<WishOp>, AllocError>
     requires fields { has_fields verb (length (fields_in row.now)) ≡ true }
     ensures value { IfOk result (λ read. read ≡ said_as verb (map trimmed (fields_in row.now))) }
     ensures choices { IfOk result (λ read. IfSome read HasFileChoices) }
 {
     match verb {
-        Verb::Add => {
+        WishVerb::Add => {
             let Some(entry) = read_entry(row) else {
                 return Ok(None);
             };
@@ -154,7 +154,7 @@ fn read_said(alloc: Global, verb: Verb, row: &Record<'_>) -> Result<Option<WishO
                 None => Ok(None),
             }
         }
-        Verb::Remove => match number(row, 1, 0..=255) {
+        WishVerb::Remove => match number(row, 1, 0..=255) {
             Some(slot) => Ok(Some(WishOp::Remove { slot: slot as u8 })),
             None => Ok(None),
         },

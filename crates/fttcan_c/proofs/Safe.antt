@@ -13,7 +13,7 @@ use Rattle.fttcan_c.specs.declared.plain.FttRules.{FttRules}
 use Rattle.fttcan_c.specs.declared.plain.FttState.{FttState}
 use Rattle.fttcan_c.specs.declared.refusal.Refusal.{Refusal}
 use Rattle.fttcan_c.specs.declared.refusal.Refusal.TheVariants.{Memory, Argument, Table, State, Room, Miss, Closed, Open, Text, No}
-use Rattle.fttcan_c.specs.Admit.{IsOpened, RefusesOpening, plan_at}
+use Rattle.fttcan_c.specs.Admit.{IsStateOpened, RefusesOpening, plan_at}
 use Rattle.fttcan_c.specs.Plain.{mask_of, rules_of, table_of}
 use Rattle.fttcan_c.specs.Refused.{status_of}
 
@@ -27,7 +27,7 @@ missed-first : (plan : Planning) → NeverMisses plan → (slot : ℕ) → slot 
 unfolding pending_before
 missed-first plan never slot known = never 0 slot known
 
-pub kept_safe : (rules : FttRules) (placed : List FttPlaced) (old new : FttState) (plan : FttPlan) → IsOpened rules placed old new plan
+pub kept_safe : (rules : FttRules) (placed : List FttPlaced) (old new : FttState) (plan : FttPlan) → IsStateOpened rules placed old new plan
     → IsSafe (rules_of rules) (table_of placed) old.cycle (mask_of old.pending)
     → IsSafe (rules_of rules) (table_of placed) new.cycle (mask_of new.pending)
 kept_safe rules placed old new plan opened safe =

@@ -5,7 +5,7 @@ use Rattle.bit_sets.specs.Sets.{has_bit}
 use Rattle.requirement_table.specs.Table.{IsWellPlaced}
 use Rattle.plan_check.specs.Certificate.{CertificateView}
 use Rattle.plan_check.specs.PlanKept.{HasPending, IsTaken}
-use Rattle.plan_check.specs.PlanText.{IsPlanOf, IsTextFault, plan_text}
+use Rattle.plan_check.specs.PlanText.{IsTextFault, IsTextOfPlan, plan_text}
 use Rattle.plan_check.specs.declared.text_fault.PlanTextFault.{PlanTextFault}
 use Rattle.plan_check.specs.declared.text_fault.PlanTextFault.TheVariants.{Line}
 use Rattle.admission.specs.Certified.{IsCertificateFrom, end_of}
@@ -35,7 +35,7 @@ only_memory placed No why well = absurd why
 
 -- the text of a plan has no wrong line
 pub no_line : (text : List ℕ) (fault : PlanTextFault) (number : ℕ) (certificate : CertificateView) → fault ≡ Line number
-    → IsTextFault text fault → IsPlanOf text certificate → ⊥
+    → IsTextFault text fault → IsTextOfPlan text certificate → ⊥
 no_line text fault number certificate is line read =
     (subst (λ (f : PlanTextFault). IsTextFault text f) is line).other certificate read
 
@@ -54,10 +54,10 @@ last-cycle from first count end after some within = omega arith
 -- the text of the certificate of a core
 pub text_of_core : (text : List ℕ) (core : CoreView) (certificate : CertificateView) → IsCore core
     → IsCertificateFrom core.rules core.placed (state_of core) certificate → IsTaken core.placed core.rules.window certificate
-    → end_of certificate ≤ cycles_end → IsPlanOf (plan_text certificate) certificate → text ≡ plan_text certificate
+    → end_of certificate ≤ cycles_end → IsTextOfPlan (plan_text certificate) certificate → text ≡ plan_text certificate
     → IsPlanTextOf text core
 text_of_core text core certificate is onward taken near read same =
-    let read_so : IsPlanOf text certificate = subst (λ (t : List ℕ). IsPlanOf t certificate) (sym same) read in
+    let read_so : IsTextOfPlan text certificate = subst (λ (t : List ℕ). IsTextOfPlan t certificate) (sym same) read in
     let waiting : HasPending core.placed certificate.from (has_bit core.pending) =
     subst (λ (c : ℕ). HasPending core.placed c (has_bit core.pending)) (sym onward.start) is.safe.safe.held in
     record {

@@ -23,20 +23,20 @@ use Rattle.fttcan_c.specs.Plain.{AreRules, IsMask, IsOp, change_of, mask_of, rul
 use Rattle.fttcan_c.specs.Told.{table_told, told}
 
 -- the plan of a list of placed entries goes on from the state
-pub record IsStanding (placed : List Placed) (state : FttState) : Type 0 where
+pub record IsPlanState (placed : List Placed) (state : FttState) : Type 0 where
   pub mask : IsMask state.pending
   pub near : state.cycle ≤ openings_end
   pub held : IsValid placed state.cycle (mask_of state.pending)
 
-abbrev pub IsStateOf : List FttPlaced → FttState → Type 0
-IsStateOf placed state = IsStanding (table_of placed) state
+abbrev pub IsFttState : List FttPlaced → FttState → Type 0
+IsFttState placed state = IsPlanState (table_of placed) state
 
 -- why a table and a state are refused; want of memory says nothing of them
 abbrev pub RefusesStanding : List FttPlaced → FttState → Refusal → Type 0
 RefusesStanding placed state Memory = Unit {0}
 RefusesStanding placed state Argument = ⊥
 RefusesStanding placed state Table = IsWellPlaced (table_of placed) → ⊥
-RefusesStanding placed state State = IsWellPlaced (table_of placed) × (IsStateOf placed state → ⊥)
+RefusesStanding placed state State = IsWellPlaced (table_of placed) × (IsFttState placed state → ⊥)
 RefusesStanding placed state Room = ⊥
 RefusesStanding placed state Miss = ⊥
 RefusesStanding placed state Closed = ⊥
@@ -69,7 +69,7 @@ pub record IsDecidedOn (rules : Rules) (list : List Placed) (state : PlanState) 
 pub record IsDecided (rules : FttRules) (placed : List FttPlaced) (state : FttState) (start : ℕ) (ops : List FttOp)
     (verdict : FttVerdict) (made : List FttPlaced) : Type 0 where
   pub well_placed : IsWellPlaced (table_of placed)
-  pub state_is : IsStateOf placed state
+  pub state_is : IsFttState placed state
   pub answer : IsDecidedOn (rules_of rules) (table_of placed) (state_of state) (change_of start ops) verdict made
 
 -- why a change is not decided: a rule or an operation is out of range; or none is, and the table or the state is refused,
@@ -79,7 +79,7 @@ RefusesChange rules placed state ops Memory = AreAsked rules ops
 RefusesChange rules placed state ops Argument = AreAsked rules ops → ⊥
 RefusesChange rules placed state ops Table = AreAsked rules ops × (IsWellPlaced (table_of placed) → ⊥)
 RefusesChange rules placed state ops State =
-    AreAsked rules ops × IsWellPlaced (table_of placed) × (IsStateOf placed state → ⊥)
+    AreAsked rules ops × IsWellPlaced (table_of placed) × (IsFttState placed state → ⊥)
 RefusesChange rules placed state ops Room = ⊥
 RefusesChange rules placed state ops Miss = ⊥
 RefusesChange rules placed state ops Closed = ⊥
@@ -89,12 +89,12 @@ RefusesChange rules placed state ops No = ⊥
 
 -- the state can be planned from, and its cycle may be opened
 pub record CanOpen (placed : List FttPlaced) (state : FttState) : Type 0 where
-  pub state_is : IsStateOf placed state
+  pub state_is : IsFttState placed state
   pub next : state.cycle < openings_end
 
 -- the cycle of a state was planned, which may be opened: the flagged slots and the length of their window, and the state
 -- behind it. No deadline is missed in it
-pub record IsOpened (rules : FttRules) (placed : List FttPlaced) (old new : FttState) (plan : FttPlan) : Type 0 where
+pub record IsStateOpened (rules : FttRules) (placed : List FttPlaced) (old new : FttState) (plan : FttPlan) : Type 0 where
   pub well_placed : IsWellPlaced (table_of placed)
   pub from : CanOpen placed old
   pub cycle : new.cycle ≡ old.cycle + 1

@@ -14,7 +14,7 @@ use Rattle.fttcan_c.specs.declared.plain.FttOp.{FttOp}
 use Rattle.fttcan_c.specs.declared.plain.FttVerdict.{FttVerdict}
 use Rattle.fttcan_c.specs.declared.refusal.Refusal.{Refusal}
 use Rattle.fttcan_c.specs.declared.refusal.Refusal.TheVariants as refused
-use Rattle.fttcan_c.specs.Mastering.{IsCaller, IsMaster}
+use Rattle.fttcan_c.specs.Mastering.{HoldsMaster, IsCaller}
 use Rattle.fttcan_c.specs.Plain.{IsOp}
 use Rattle.fttcan_c.specs.Told.{told}
 
@@ -38,7 +38,7 @@ pub record IsSnapshot (held : Held) : Type 0 where
   pub snapshot : SnapshotOf
   pub is : held ≡ Snapshot snapshot
 
-pub record IsPlanned (held : Held) : Type 0 where
+pub record HoldsPlanned (held : Held) : Type 0 where
   pub planned : CorePlannedView
   pub is : held ≡ Planned planned
 
@@ -87,7 +87,7 @@ pub record IsCoreSettled (caller : ℕ) (planned : CorePlannedView) (old new : C
       → IsStateOf (history ++ Submit caller planned.change answered.from answered.verdict answered.trail ∷ []) new
 
 -- a master settled what another handle held, C is told the verdict, and the trail is kept
-pub record IsSettled (caller : ℕ) (verdict : FttVerdict) (from old new : Held) : Type 0 where
+pub record IsHeldSettled (caller : ℕ) (verdict : FttVerdict) (from old new : Held) : Type 0 where
   pub planned : CorePlannedView
   pub core : CoreView
   pub trail : List ℕ
@@ -100,20 +100,20 @@ pub record IsSettled (caller : ℕ) (verdict : FttVerdict) (from old new : Held)
   pub verdict_is : verdict ≡ told answered.verdict
 
 -- a master can settle what another handle holds
-pub record CanSettle (master from : Held) : Type 0 where
-  pub master_is : IsMaster master
-  pub planned_is : IsPlanned from
+pub record CanSettleHeld (master from : Held) : Type 0 where
+  pub master_is : HoldsMaster master
+  pub planned_is : HoldsPlanned from
 
 -- why nothing is settled: one of the handles holds something else; they do not, and the operator is out of range; or
 -- neither, and there is no memory
 abbrev pub RefusesSettle : ℕ → Held → Held → Refusal → Type 0
-RefusesSettle caller held from refused.Memory = CanSettle held from × IsCaller caller
-RefusesSettle caller held from refused.Argument = CanSettle held from × (IsCaller caller → ⊥)
+RefusesSettle caller held from refused.Memory = CanSettleHeld held from × IsCaller caller
+RefusesSettle caller held from refused.Argument = CanSettleHeld held from × (IsCaller caller → ⊥)
 RefusesSettle caller held from refused.Table = ⊥
 RefusesSettle caller held from refused.State = ⊥
 RefusesSettle caller held from refused.Room = ⊥
 RefusesSettle caller held from refused.Miss = ⊥
-RefusesSettle caller held from refused.Closed = CanSettle held from → ⊥
+RefusesSettle caller held from refused.Closed = CanSettleHeld held from → ⊥
 RefusesSettle caller held from refused.Open = ⊥
 RefusesSettle caller held from refused.Text = ⊥
 RefusesSettle caller held from refused.No = ⊥

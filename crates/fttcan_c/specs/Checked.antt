@@ -8,7 +8,7 @@ use Rattle.plan_check.specs.declared.breach.Breach.{Breach}
 use Rattle.plan_check.specs.Breaches.{IsBreach}
 use Rattle.plan_check.specs.Certificate.{CertificateView}
 use Rattle.plan_check.specs.PlanKept.{HasPending, IsTaken}
-use Rattle.plan_check.specs.PlanText.{IsFirstWrongLine, IsPlanOf}
+use Rattle.plan_check.specs.PlanText.{IsFirstWrongLine, IsTextOfPlan}
 use Rattle.fttcan_c.specs.declared.checked.Finding.{Finding}
 use Rattle.fttcan_c.specs.declared.checked.Finding.TheVariants.{Kept, Broken, Unread}
 use Rattle.fttcan_c.specs.declared.plain.FttBreach.{FttBreach}
@@ -27,7 +27,7 @@ pub record BeginsRight (placed : List Placed) (certificate : CertificateView) : 
 pub record IsPlanTaken (placed : List Placed) (window : ℕ) (text : List ℕ) : Type 0 where
   pub well_placed : IsWellPlaced placed
   pub certificate : CertificateView
-  pub read : IsPlanOf text certificate
+  pub read : IsTextOfPlan text certificate
   pub begins : BeginsRight placed certificate
   pub taken : IsTaken placed window certificate
 
@@ -35,21 +35,21 @@ pub record IsPlanTaken (placed : List Placed) (window : ℕ) (text : List ℕ) :
 pub record IsPlanBroken (placed : List Placed) (window : ℕ) (text : List ℕ) (told : FttBreach) : Type 0 where
   pub well_placed : IsWellPlaced placed
   pub certificate : CertificateView
-  pub read : IsPlanOf text certificate
+  pub read : IsTextOfPlan text certificate
   pub begins : BeginsRight placed certificate
   pub breach : Breach
   pub found : IsBreach placed window certificate breach
   pub told_is : told ≡ breach_told breach
 
-abbrev pub IsFound : List Placed → ℕ → List ℕ → Finding → Type 0
-IsFound placed window text Kept = IsPlanTaken placed window text
-IsFound placed window text (Broken breach) = IsPlanBroken placed window text breach
-IsFound placed window text (Unread number) = IsWellPlaced placed × IsFirstWrongLine text number
+abbrev pub IsFinding : List Placed → ℕ → List ℕ → Finding → Type 0
+IsFinding placed window text Kept = IsPlanTaken placed window text
+IsFinding placed window text (Broken breach) = IsPlanBroken placed window text breach
+IsFinding placed window text (Unread number) = IsWellPlaced placed × IsFirstWrongLine text number
 
 -- the text is that of a plan that begins wrongly
 pub record IsPlanAstray (placed : List Placed) (text : List ℕ) : Type 0 where
   pub certificate : CertificateView
-  pub read : IsPlanOf text certificate
+  pub read : IsTextOfPlan text certificate
   pub astray : BeginsRight placed certificate → ⊥
 
 -- why nothing is found; want of memory says nothing

@@ -28,12 +28,12 @@ use Rattle.fttcan_c.specs.declared.plain.FttOp.{FttOp}
 use Rattle.fttcan_c.specs.declared.plain.FttVerdict.{FttVerdict}
 use Rattle.fttcan_c.specs.declared.refusal.Refusal.{Refusal}
 use Rattle.fttcan_c.specs.declared.refusal.Refusal.TheVariants as refused
-use Rattle.fttcan_c.specs.Mastering.{IsAsked, IsCoreSubmitted}
+use Rattle.fttcan_c.specs.Mastering.{IsCoreSubmitted, MayAsk}
 use Rattle.fttcan_c.specs.Plain.{IsFrameIn, change_of, frames_of}
 use Rattle.fttcan_c.specs.Told.{mask_told, told}
 
 -- a standby is held
-pub record IsStandby (held : Held) : Type 0 where
+pub record HoldsStandby (held : Held) : Type 0 where
   pub core : CoreView
   pub is : held ≡ Standby core
 
@@ -44,7 +44,7 @@ pub record IsExpected (cycle : ℕ) (held : Held) : Type 0 where
   pub cycle_is : cycle ≡ core.cycle
 
 -- a master goes on with the core of a standby; no change was answered by it yet
-pub record IsTakenOver (standby master : Held) : Type 0 where
+pub record IsStandbyTakenOver (standby master : Held) : Type 0 where
   pub core : CoreView
   pub of : standby ≡ Standby core
   pub is : master ≡ Master core []
@@ -97,13 +97,13 @@ pub record IsDueChange (change : TableChange) (held : Held) : Type 0 where
 -- why a standby does not judge a change: none is held; one is, and what is asked for is out of range; or neither, and
 -- there is no memory
 abbrev pub RefusesChangeTold : ℕ → List FttOp → Held → Refusal → Type 0
-RefusesChangeTold caller ops held refused.Memory = IsStandby held × IsAsked caller ops
-RefusesChangeTold caller ops held refused.Argument = IsStandby held × (IsAsked caller ops → ⊥)
+RefusesChangeTold caller ops held refused.Memory = HoldsStandby held × MayAsk caller ops
+RefusesChangeTold caller ops held refused.Argument = HoldsStandby held × (MayAsk caller ops → ⊥)
 RefusesChangeTold caller ops held refused.Table = ⊥
 RefusesChangeTold caller ops held refused.State = ⊥
 RefusesChangeTold caller ops held refused.Room = ⊥
 RefusesChangeTold caller ops held refused.Miss = ⊥
-RefusesChangeTold caller ops held refused.Closed = IsStandby held → ⊥
+RefusesChangeTold caller ops held refused.Closed = HoldsStandby held → ⊥
 RefusesChangeTold caller ops held refused.Open = ⊥
 RefusesChangeTold caller ops held refused.Text = ⊥
 RefusesChangeTold caller ops held refused.No = ⊥
@@ -157,7 +157,7 @@ fault_told (Window l sum) =
     record { heard = mask_told 0; planned = mask_told 0; first = l; second = sum; kind = 2 }
 
 -- a standby whose next cycle may be opened heard trigger frames
-pub record IsHeard (frames : List DataFrame) (astray : Option Astray) (old new : Held) : Type 0 where
+pub record IsTriggerHeard (frames : List DataFrame) (astray : Option Astray) (old new : Held) : Type 0 where
   pub core : CoreView
   pub next : CoreView
   pub before : old ≡ Standby core
@@ -184,7 +184,7 @@ pub record IsNotFollowed (frames : List DataFrame) (fault : FttFollow) (held : H
   pub fault_is : fault ≡ fault_told astray
 
 -- the frames are the trigger of the next cycle of a standby
-pub record AreDue (frames : List DataFrame) (held : Held) : Type 0 where
+pub record AreDueFrames (frames : List DataFrame) (held : Held) : Type 0 where
   pub core : CoreView
   pub is : held ≡ Standby core
   pub due : frames ≡ due_frames core
@@ -214,12 +214,12 @@ RefusesFrames frames core refused.No = ⊥
 -- why a standby does not judge them: none is held; or one is, and its core does not
 abbrev pub RefusesHearing : List FttFrame → Held → Refusal → Type 0
 RefusesHearing frames held refused.Memory = ⊥
-RefusesHearing frames held refused.Argument = IsStandby held × (All IsFrameIn frames → ⊥)
+RefusesHearing frames held refused.Argument = HoldsStandby held × (All IsFrameIn frames → ⊥)
 RefusesHearing frames held refused.Table = ⊥
-RefusesHearing frames held refused.State = IsStandby held × All IsFrameIn frames × (CanFollowMore held → ⊥)
+RefusesHearing frames held refused.State = HoldsStandby held × All IsFrameIn frames × (CanFollowMore held → ⊥)
 RefusesHearing frames held refused.Room = ⊥
 RefusesHearing frames held refused.Miss = ⊥
-RefusesHearing frames held refused.Closed = IsStandby held → ⊥
+RefusesHearing frames held refused.Closed = HoldsStandby held → ⊥
 RefusesHearing frames held refused.Open = ⊥
 RefusesHearing frames held refused.Text = ⊥
 RefusesHearing frames held refused.No = ⊥

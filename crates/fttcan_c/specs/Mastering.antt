@@ -24,7 +24,7 @@ use Rattle.fttcan_c.specs.Plain.{AreRules, IsOp, change_of, mask_of, rules_of}
 use Rattle.fttcan_c.specs.Told.{told}
 
 -- a master is held
-pub record IsMaster (held : Held) : Type 0 where
+pub record HoldsMaster (held : Held) : Type 0 where
   pub core : CoreView
   pub trail : List ℕ
   pub is : held ≡ Master core trail
@@ -62,15 +62,15 @@ abbrev pub IsCaller : ℕ → Type 0
 IsCaller caller = (1 ≤ caller) × (caller ≤ 8)
 
 -- what an operator may ask for
-pub record IsAsked (caller : ℕ) (ops : List FttOp) : Type 0 where
+pub record MayAsk (caller : ℕ) (ops : List FttOp) : Type 0 where
   pub some_caller : 1 ≤ caller
   pub few_callers : caller ≤ 8
   pub kinds : All IsOp ops
 
 -- why a core does not answer a change: what is asked for is out of range; or it is not, and there is no memory
 abbrev pub RefusesAsked : ℕ → List FttOp → Refusal → Type 0
-RefusesAsked caller ops refused.Memory = IsAsked caller ops
-RefusesAsked caller ops refused.Argument = IsAsked caller ops → ⊥
+RefusesAsked caller ops refused.Memory = MayAsk caller ops
+RefusesAsked caller ops refused.Argument = MayAsk caller ops → ⊥
 RefusesAsked caller ops refused.Table = ⊥
 RefusesAsked caller ops refused.State = ⊥
 RefusesAsked caller ops refused.Room = ⊥
@@ -83,13 +83,13 @@ RefusesAsked caller ops refused.No = ⊥
 -- why a master does not answer it: none is held; one is, and what is asked for is out of range; or neither, and there is
 -- no memory
 abbrev pub RefusesSubmit : ℕ → List FttOp → Held → Refusal → Type 0
-RefusesSubmit caller ops held refused.Memory = IsMaster held × IsAsked caller ops
-RefusesSubmit caller ops held refused.Argument = IsMaster held × (IsAsked caller ops → ⊥)
+RefusesSubmit caller ops held refused.Memory = HoldsMaster held × MayAsk caller ops
+RefusesSubmit caller ops held refused.Argument = HoldsMaster held × (MayAsk caller ops → ⊥)
 RefusesSubmit caller ops held refused.Table = ⊥
 RefusesSubmit caller ops held refused.State = ⊥
 RefusesSubmit caller ops held refused.Room = ⊥
 RefusesSubmit caller ops held refused.Miss = ⊥
-RefusesSubmit caller ops held refused.Closed = IsMaster held → ⊥
+RefusesSubmit caller ops held refused.Closed = HoldsMaster held → ⊥
 RefusesSubmit caller ops held refused.Open = ⊥
 RefusesSubmit caller ops held refused.Text = ⊥
 RefusesSubmit caller ops held refused.No = ⊥
@@ -128,10 +128,10 @@ abbrev pub RefusesOpen : Held → Refusal → Type 0
 RefusesOpen held refused.Memory = ⊥
 RefusesOpen held refused.Argument = ⊥
 RefusesOpen held refused.Table = ⊥
-RefusesOpen held refused.State = IsMaster held × (CanOpenMaster held → ⊥)
+RefusesOpen held refused.State = HoldsMaster held × (CanOpenMaster held → ⊥)
 RefusesOpen held refused.Room = ⊥
 RefusesOpen held refused.Miss = ⊥
-RefusesOpen held refused.Closed = IsMaster held → ⊥
+RefusesOpen held refused.Closed = HoldsMaster held → ⊥
 RefusesOpen held refused.Open = ⊥
 RefusesOpen held refused.Text = ⊥
 RefusesOpen held refused.No = ⊥

@@ -4,7 +4,7 @@ use Rattle.profile.specs.Limits.{openings_end}
 use Rattle.planner_policies.specs.Plan.{mask_at}
 use Rattle.plan_check.specs.Certificate.{CertificateView}
 use Rattle.plan_check.specs.PlanKept.{IsTaken}
-use Rattle.plan_check.specs.PlanText.{IsPlanOf, plan_text}
+use Rattle.plan_check.specs.PlanText.{IsTextOfPlan, plan_text}
 use Rattle.admission.specs.Certified.{IsCertificateFrom}
 use Rattle.master_core.specs.declared.event.Event.{Event}
 use Rattle.master_core.specs.declared.event.Event.TheVariants.{Look}
@@ -17,7 +17,7 @@ use Rattle.fttcan_c.specs.declared.plain.FttRules.{FttRules}
 use Rattle.fttcan_c.specs.declared.refusal.Refusal.{Refusal}
 use Rattle.fttcan_c.specs.declared.refusal.Refusal.TheVariants as refused
 use Rattle.fttcan_c.specs.Checked.{IsPlanTaken}
-use Rattle.fttcan_c.specs.Mastering.{IsCaller, IsMaster}
+use Rattle.fttcan_c.specs.Mastering.{HoldsMaster, IsCaller}
 use Rattle.fttcan_c.specs.Plain.{mask_of}
 use Rattle.fttcan_c.specs.Told.{mask_told, put_of, rules_told}
 
@@ -73,7 +73,7 @@ pub record IsPlanTextOf (text : List ℕ) (core : CoreView) : Type 0 where
   pub onward : IsCertificateFrom core.rules core.placed (state_of core) certificate
   pub taken : IsTaken core.placed core.rules.window certificate
   pub text_is : text ≡ plan_text certificate
-  pub read : IsPlanOf text certificate
+  pub read : IsTextOfPlan text certificate
   pub safe : IsCore core
   pub checked : IsPlanTaken core.placed core.rules.window text
 
@@ -86,13 +86,13 @@ pub record HasPlanText (text : List ℕ) (held : Held) : Type 0 where
 
 -- why a master is not read: none is held; or one is, and there is no memory
 abbrev pub RefusesRead : Held → Refusal → Type 0
-RefusesRead held refused.Memory = IsMaster held
+RefusesRead held refused.Memory = HoldsMaster held
 RefusesRead held refused.Argument = ⊥
 RefusesRead held refused.Table = ⊥
 RefusesRead held refused.State = ⊥
 RefusesRead held refused.Room = ⊥
 RefusesRead held refused.Miss = ⊥
-RefusesRead held refused.Closed = IsMaster held → ⊥
+RefusesRead held refused.Closed = HoldsMaster held → ⊥
 RefusesRead held refused.Open = ⊥
 RefusesRead held refused.Text = ⊥
 RefusesRead held refused.No = ⊥
@@ -100,12 +100,12 @@ RefusesRead held refused.No = ⊥
 -- why an operator does not look at a master: none is held; or one is, and the operator is out of range
 abbrev pub RefusesLook : ℕ → Held → Refusal → Type 0
 RefusesLook caller held refused.Memory = ⊥
-RefusesLook caller held refused.Argument = IsMaster held × (IsCaller caller → ⊥)
+RefusesLook caller held refused.Argument = HoldsMaster held × (IsCaller caller → ⊥)
 RefusesLook caller held refused.Table = ⊥
 RefusesLook caller held refused.State = ⊥
 RefusesLook caller held refused.Room = ⊥
 RefusesLook caller held refused.Miss = ⊥
-RefusesLook caller held refused.Closed = IsMaster held → ⊥
+RefusesLook caller held refused.Closed = HoldsMaster held → ⊥
 RefusesLook caller held refused.Open = ⊥
 RefusesLook caller held refused.Text = ⊥
 RefusesLook caller held refused.No = ⊥

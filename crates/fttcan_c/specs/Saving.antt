@@ -16,7 +16,7 @@ pub record AreBytesOfCore (bytes : List ℕ) (core : CoreView) : Type 0 where
   pub only : (other : CoreView) → IsCore other → AreBytesOf (saved_of other) bytes → other ≡ core
 
 -- so they are those of a master
-pub record HasBytes (bytes : List ℕ) (held : Held) : Type 0 where
+pub record HasMasterBytes (bytes : List ℕ) (held : Held) : Type 0 where
   pub core : CoreView
   pub trail : List ℕ
   pub is : held ≡ Master core trail

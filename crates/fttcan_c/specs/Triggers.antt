@@ -16,7 +16,7 @@ abbrev pub frames_told : ℕ → FttTrigger → List DataFrame
 frames_told slots trigger = triggers_with slots trigger.cycle trigger.window (mask_of trigger.flags)
 
 -- the trigger is what these frames say of a cycle, which is known modulo 256
-pub record IsTold (slots : ℕ) (frames : List DataFrame) (trigger : FttTrigger) : Type 0 where
+pub record IsTriggerTold (slots : ℕ) (frames : List DataFrame) (trigger : FttTrigger) : Type 0 where
   pub low : trigger.cycle < 256
   pub heard : heard_of slots trigger.cycle frames
       ≡ Some (record { l = trigger.window; mask = mask_of trigger.flags })

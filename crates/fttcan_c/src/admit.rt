@@ -9,10 +9,10 @@ ghost use Rattle.fttcan_c.specs.declared.plain.FttPlaced.{FttPlaced as FttPlaced
 ghost use Rattle.fttcan_c.specs.declared.plain.FttVerdict.{FttVerdict as FttVerdictOf};
 ghost use Rattle.fttcan_c.specs.declared.refusal.Refusal.{Refusal as RefusalOf};
 ghost use Rattle.fttcan_c.specs.declared.refusal.Refusal.TheVariants.{State};
-ghost use Rattle.fttcan_c.specs.Admit.{AreAsked, IsDecided, IsDecidedOn, IsOpened, IsStanding, RefusesChange, RefusesOpening, RefusesStanding};
+ghost use Rattle.fttcan_c.specs.Admit.{AreAsked, IsDecided, IsDecidedOn, IsPlanState, IsStateOpened, RefusesChange, RefusesOpening, RefusesStanding};
 ghost use Rattle.fttcan_c.specs.Plain.{AreRules, mask_of, rules_of, state_of, table_of};
 ghost use Rattle.fttcan_c.specs.Refused.{status_of};
-ghost use Rattle.fttcan_c.specs.Room.{IsFilled, IsShort};
+ghost use Rattle.fttcan_c.specs.Room.{IsRoomFilled, IsRoomShort};
 ghost use Rattle.fttcan_c.specs.Told.{table_told};
 
 use crate::plain::{FttOp, FttPlaced, FttPlan, FttRules, FttState, FttVerdict};
@@ -22,7 +22,7 @@ use crate::refusal::{OK, Refusal};
 use crate::room::put;
 use admission::{Decision, Rules, decide};
 use change_protocol::Change;
-use planner_policies::{PlanState, Planned, Ranked, plan_with_width, rank, valid};
+use planner_policies::{PlanState, PlannedCycle, Ranked, plan_with_width, rank, valid};
 use profile::OPENINGS_END;
 use requirement_table::Placed;
 use std::alloc::{AllocError, Global};
@@ -49,7 +49,7 @@ fn standing_in(
     ensures ranked { IfOk result (λ standing. standing.ranked ≡ ranking_by standing.rules standing.list.items) }
     ensures state { IfOk result (λ standing. standing.state ≡ state_of state.now) }
     ensures known { IfOk result (λ standing. IsRules standing.rules) }
-    ensures standing { IfOk result (λ standing. IsStanding standing.list.items state.now) }
+    ensures standing { IfOk result (λ standing. IsPlanState standing.list.items state.now) }
     ensures well_placed { IfOk result (λ standing. IsWellPlaced standing.list.items) }
     ensures near { IfOk result (λ standing. standing.state.cycle ≤ openings_end) }
     ensures held { IfOk result
@@ -72,8 +72,8 @@ fn state_in(ranked: &Ranked, state: &FttState) -> Result<PlanState, Refusal>
     ensures state { IfOk result (λ made. made ≡ state_of state.now) }
     ensures near { IfOk result (λ made. made.cycle ≤ openings_end) }
     ensures held { IfOk result (λ made. IsValid ranked.now.placed made.cycle made.pending) }
-    ensures standing { IfOk result (λ _. IsStanding ranked.now.placed state.now) }
-    ensures refused { IfErr result (λ refusal. (refusal ≡ State) × (IsStanding ranked.now.placed state.now → ⊥)) }
+    ensures standing { IfOk result (λ _. IsPlanState ranked.now.placed state.now) }
+    ensures refused { IfErr result (λ refusal. (refusal ≡ State) × (IsPlanState ranked.now.placed state.now → ⊥)) }
 {
     if state.cycle > OPENINGS_END || !is_mask(state.pending) {
         return Err(Refusal::State);
@@ -162,10 +162,10 @@ pub extern "C" fn fttcan_decide(
 ) -> u32
     ensures decided { result ≡ 0 → (list : List FttPlacedOf)
         × IsDecided rules.now placed.now state.now start ops.now verdict.new list
-        × IsFilled list room.old room.new count.new }
+        × IsRoomFilled list room.old room.new count.new }
     ensures short { result ≡ 5 → (told : FttVerdictOf) × (list : List FttPlacedOf)
         × IsDecided rules.now placed.now state.now start ops.now told list
-        × IsShort list room.old room.new count.new × (verdict.new ≡ verdict.old) }
+        × IsRoomShort list room.old room.new count.new × (verdict.new ≡ verdict.old) }
     ensures known { result ≡ 0 → AreAsked rules.now ops.now }
     ensures known_too { result ≡ 5 → AreAsked rules.now ops.now }
     ensures refused { result ≢ 0 → result ≢ 5 → (verdict.new ≡ verdict.old) × (room.new ≡ room.old)
@@ -192,7 +192,7 @@ fn planned(
     placed: &[FttPlaced],
     state: &FttState,
 ) -> Result<(FttPlan, FttState), Refusal>
-    ensures opened { IfOk result (λ r. IsOpened rules.now placed.now state.now r.1 r.0) }
+    ensures opened { IfOk result (λ r. IsStateOpened rules.now placed.now state.now r.1 r.0) }
     ensures known { IfOk result (λ _. AreRules rules.now) }
     ensures refused { IfErr result (RefusesOpening rules.now placed.now state.now) }
 {
@@ -219,7 +219,7 @@ pub extern "C" fn fttcan_open(
     state: &mut FttState,
     plan: &mut FttPlan,
 ) -> u32
-    ensures opened { result ≡ 0 → IsOpened rules.now placed.now state.old state.new plan.new }
+    ensures opened { result ≡ 0 → IsStateOpened rules.now placed.now state.old state.new plan.new }
     ensures known { result ≡ 0 → AreRules rules.now }
     ensures safe { result ≡ 0
         → IsSafe (rules_of rules.now) (table_of placed.now) state.old.cycle (mask_of state.old.pending)
@@ -242,7 +242,7 @@ pub extern "C" fn fttcan_open(
 }
 
 /// What a cycle sends.
-fn plan_out(planned: &Planned) -> FttPlan
+fn plan_out(planned: &PlannedCycle) -> FttPlan
     ensures flags { mask_of result.flags ≡ planned.now.mask }
     ensures window { result.window ≡ planned.now.width }
 {

@@ -4,7 +4,7 @@ ghost use Rattle.std.specs.Prelude.{◌≡◌, ◌≢◌, ◌≤◌, ◌↔◌, 
 ghost use Rattle.master_handle.specs.declared.held.Held.{Held as HeldOf};
 ghost use Rattle.fttcan_c.specs.declared.refusal.Refusal.{Refusal as RefusalOf};
 ghost use Rattle.fttcan_c.specs.declared.refusal.Refusal.TheVariants.{Closed};
-ghost use Rattle.fttcan_c.specs.Apart.{IsPlanned, IsPlannedApart, IsPlannedTold, IsSnapshot, IsSnapshotOf, RefusesApart, RefusesPlanning};
+ghost use Rattle.fttcan_c.specs.Apart.{HoldsPlanned, IsPlannedApart, IsPlannedTold, IsSnapshot, IsSnapshotOf, RefusesApart, RefusesPlanning};
 ghost use Rattle.fttcan_c.specs.Mastering.{Holds};
 ghost use Rattle.fttcan_c.specs.Plain.{IsOp, change_of};
 ghost use Rattle.fttcan_c.specs.Reading.{RefusesRead};
@@ -164,7 +164,7 @@ pub extern "C" fn fttcan_plan_apart(
 /// What was decided of a planned change when its snapshot was taken.
 fn verdict_in(held: &Held) -> Result<FttVerdict, Refusal>
     ensures verdict { IfOk result (λ verdict. IsPlannedTold verdict held.now) }
-    ensures refused { IfErr result (λ refusal. (refusal ≡ Closed) × (IsPlanned held.now → ⊥)) }
+    ensures refused { IfErr result (λ refusal. (refusal ≡ Closed) × (HoldsPlanned held.now → ⊥)) }
 {
     match held {
         Held::Planned { planned } => Ok(verdict_out(&planned.verdict())),
@@ -182,7 +182,7 @@ pub extern "C" fn fttcan_planned_verdict(
     ensures same { p.new.value ≡ p.old.value }
     ensures verdict { result ≡ 0 → Holds p.old.value (IsPlannedTold verdict.new) }
     ensures refused { result ≢ 0 → (verdict.new ≡ verdict.old) × (result ≡ 7) }
-    ensures why { result ≢ 0 → (held : HeldOf) → p.old.value ≡ Some held → IsPlanned held → ⊥ }
+    ensures why { result ≢ 0 → (held : HeldOf) → p.old.value ≡ Some held → HoldsPlanned held → ⊥ }
     ensures empty { p.old.value ≡ None → result ≡ 7 }
 {
     let Some(held) = mem::replace(p, FttHandle::none()).into_box(alloc) else {

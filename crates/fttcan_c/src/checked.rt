@@ -4,12 +4,12 @@ ghost use Rattle.std.specs.Prelude.{◌≡◌, ◌≢◌, ◌+◌, ◌≤◌, �
 ghost use Rattle.profile.specs.Limits.{cycles_end};
 ghost use Rattle.requirement_table.specs.Table.{IsWellPlaced};
 ghost use Rattle.plan_check.specs.PlanKept.{HasPending};
-ghost use Rattle.plan_check.specs.PlanText.{IsFirstWrongLine, IsPlanOf};
+ghost use Rattle.plan_check.specs.PlanText.{IsFirstWrongLine, IsTextOfPlan};
 ghost use Rattle.plan_check.specs.declared.text_fault.PlanTextFault.{PlanTextFault as PlanTextFaultOf};
 ghost use Rattle.fttcan_c.specs.declared.checked.Finding.TheVariants.{Kept};
 ghost use Rattle.fttcan_c.specs.declared.refusal.Refusal.{Refusal as RefusalOf};
 ghost use Rattle.fttcan_c.specs.declared.refusal.Refusal.TheVariants.{Memory};
-ghost use Rattle.fttcan_c.specs.Checked.{BeginsRight, IsFound, IsPlanBroken, IsPlanTaken, RefusesPlan, RefusesPlanOf};
+ghost use Rattle.fttcan_c.specs.Checked.{BeginsRight, IsFinding, IsPlanBroken, IsPlanTaken, RefusesPlan, RefusesPlanOf};
 ghost use Rattle.fttcan_c.specs.Plain.{table_of};
 ghost use Rattle.fttcan_c.specs.Refused.{status_of};
 
@@ -59,7 +59,7 @@ fn begins_right(
 /// What is found of the text of a plan of a table, within a window of so many bit times.
 #[tactic(auto, using(crate::proofs::Taken::only_memory))]
 fn found(alloc: Global, placed: &[FttPlaced], window: u32, text: &[u8]) -> Result<Finding, Refusal>
-    ensures found { IfOk result (IsFound (table_of placed.now) window text.now) }
+    ensures found { IfOk result (IsFinding (table_of placed.now) window text.now) }
     ensures complete { IsPlanTaken (table_of placed.now) window text.now
         → MatchResult result (λ finding. finding ≡ Kept) (λ refusal. refusal ≡ Memory) }
     ensures refused { IfErr result (RefusesPlan placed.now text.now) }
@@ -71,7 +71,7 @@ fn found(alloc: Global, placed: &[FttPlaced], window: u32, text: &[u8]) -> Resul
 /// What is found of the text of a plan of a well placed list.
 fn found_in(alloc: Global, list: &[Placed], window: u32, text: &[u8]) -> Result<Finding, Refusal>
     requires well_placed { IsWellPlaced list.now }
-    ensures found { IfOk result (IsFound list.now window text.now) }
+    ensures found { IfOk result (IsFinding list.now window text.now) }
     ensures complete { IsPlanTaken list.now window text.now
         → MatchResult result (λ finding. finding ≡ Kept) (λ refusal. refusal ≡ Memory) }
     ensures refused { IfErr result (RefusesPlanOf list.now text.now) }

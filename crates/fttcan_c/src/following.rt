@@ -7,8 +7,8 @@ ghost use Rattle.master_handle.specs.declared.held.Held.{Held as HeldOf};
 ghost use Rattle.master_handle.specs.declared.held.Held.TheVariants.{Standby};
 ghost use Rattle.fttcan_c.specs.declared.refusal.Refusal.{Refusal as RefusalOf};
 ghost use Rattle.fttcan_c.specs.declared.refusal.Refusal.TheVariants.{Closed};
-ghost use Rattle.fttcan_c.specs.Following.{IsChangeTold, IsDue, IsDueChange, IsExpected, IsInEffect, IsStandby, IsTakenOver, RefusesChangeTold, TakesEffect};
-ghost use Rattle.fttcan_c.specs.Mastering.{Holds, IsAsked, IsCoreSubmitted, RefusesAsked, RefusesNew};
+ghost use Rattle.fttcan_c.specs.Following.{HoldsStandby, IsChangeTold, IsDue, IsDueChange, IsExpected, IsInEffect, IsStandbyTakenOver, RefusesChangeTold, TakesEffect};
+ghost use Rattle.fttcan_c.specs.Mastering.{Holds, IsCoreSubmitted, MayAsk, RefusesAsked, RefusesNew};
 ghost use Rattle.fttcan_c.specs.Plain.{AreRules, change_of, rules_of};
 ghost use Rattle.fttcan_c.specs.Refused.{status_of};
 
@@ -94,7 +94,7 @@ fn answered_to(
         → IsInEffect (change_of start ops.now) core.old) }
     ensures due { IsDue (change_of start ops.now) core.old
         → IfOk result (λ answered. is_accepted answered.verdict ≡ true) }
-    ensures known { OnOk result (IsAsked caller ops.now) }
+    ensures known { OnOk result (MayAsk caller ops.now) }
     ensures same { OnErr result (core.new ≡ core.old) }
     ensures refused { IfErr result (RefusesAsked caller ops.now) }
 {
@@ -118,7 +118,7 @@ fn changed(
     ensures unfollowed { IfOk result (λ reply. reply.accepted ≡ false → held.new ≡ held.old) }
     ensures effect { IfOk result (λ reply. reply.accepted ≡ true → TakesEffect (change_of start ops.now) held.old) }
     ensures due { IsDueChange (change_of start ops.now) held.old → IfOk result (λ reply. reply.accepted ≡ true) }
-    ensures known { OnOk result (IsAsked caller ops.now) }
+    ensures known { OnOk result (MayAsk caller ops.now) }
     ensures same { OnErr result (held.new ≡ held.old) }
     ensures refused { IfErr result (RefusesChangeTold caller ops.now held.old) }
 {
@@ -157,8 +157,8 @@ pub extern "C" fn fttcan_standby_change(
     ensures effect { result ≡ 0 → Holds s.old.value (TakesEffect (change_of start ops.now)) }
     ensures due { (held : HeldOf) → s.old.value ≡ Some held → IsDueChange (change_of start ops.now) held → result ≢ 10 }
     ensures same { result ≢ 0 → s.new.value ≡ s.old.value }
-    ensures known { result ≡ 0 → IsAsked caller ops.now }
-    ensures known_too { result ≡ 10 → IsAsked caller ops.now }
+    ensures known { result ≡ 0 → MayAsk caller ops.now }
+    ensures known_too { result ≡ 10 → MayAsk caller ops.now }
     ensures refused { result ≢ 0 → result ≢ 10 → verdict.new ≡ verdict.old }
     ensures why { result ≢ 0 → result ≢ 10 → (held : HeldOf) → s.old.value ≡ Some held
         → (refusal : RefusalOf) × (result ≡ status_of refusal) × RefusesChangeTold caller ops.now held refusal }
@@ -185,7 +185,7 @@ pub extern "C" fn fttcan_standby_change(
 /// The next cycle of a standby.
 fn expected(held: &Held) -> Result<u64, Refusal>
     ensures next { IfOk result (λ cycle. IsExpected cycle held.now) }
-    ensures refused { IfErr result (λ refusal. (refusal ≡ Closed) × (IsStandby held.now → ⊥)) }
+    ensures refused { IfErr result (λ refusal. (refusal ≡ Closed) × (HoldsStandby held.now → ⊥)) }
 {
     match held {
         Held::Standby { core } => Ok(core.next()),
@@ -199,7 +199,7 @@ pub extern "C" fn fttcan_standby_next(s: &mut FttHandle, alloc: Global, cycle: &
     ensures same { s.new.value ≡ s.old.value }
     ensures next { result ≡ 0 → Holds s.old.value (IsExpected cycle.new) }
     ensures refused { result ≢ 0 → (cycle.new ≡ cycle.old) × (result ≡ 7) }
-    ensures why { result ≢ 0 → (held : HeldOf) → s.old.value ≡ Some held → IsStandby held → ⊥ }
+    ensures why { result ≢ 0 → (held : HeldOf) → s.old.value ≡ Some held → HoldsStandby held → ⊥ }
     ensures empty { s.old.value ≡ None → result ≡ 7 }
 {
     let Some(held) = mem::replace(s, FttHandle::none()).into_box(alloc) else {
@@ -218,9 +218,9 @@ pub extern "C" fn fttcan_standby_next(s: &mut FttHandle, alloc: Global, cycle: &
 
 /// Makes a master of a standby, in its box. It takes no memory.
 fn taken_over(alloc: Global, held: &mut Held) -> Result<(), Refusal>
-    ensures taken { OnOk result (IsTakenOver held.old held.new) }
+    ensures taken { OnOk result (IsStandbyTakenOver held.old held.new) }
     ensures same { OnErr result (held.new ≡ held.old) }
-    ensures refused { IfErr result (λ refusal. (refusal ≡ Closed) × (IsStandby held.old → ⊥)) }
+    ensures refused { IfErr result (λ refusal. (refusal ≡ Closed) × (HoldsStandby held.old → ⊥)) }
 {
     match mem::replace(held, Held::Moved) {
         Held::Standby { core } => {
@@ -244,12 +244,12 @@ pub extern "C" fn fttcan_standby_take_over(
     m: &mut FttHandle,
 ) -> u32
     ensures taken { result ≡ 0 → (m.old.value ≡ None) × (s.new.value ≡ None)
-        × Holds s.old.value (λ held. Holds m.new.value (IsTakenOver held)) }
+        × Holds s.old.value (λ held. Holds m.new.value (IsStandbyTakenOver held)) }
     ensures refused { result ≢ 0 → (s.new.value ≡ s.old.value) × (m.new.value ≡ m.old.value) }
     ensures occupied { result ≡ 8 → (held : HeldOf) × (m.old.value ≡ Some held) }
     ensures free { result ≢ 8 → m.old.value ≡ None }
     ensures why { result ≢ 0 → result ≢ 8 → (result ≡ 7)
-        × ((held : HeldOf) → s.old.value ≡ Some held → IsStandby held → ⊥) }
+        × ((held : HeldOf) → s.old.value ≡ Some held → HoldsStandby held → ⊥) }
 {
     if let Some(old) = mem::replace(m, FttHandle::none()).into_box(alloc) {
         *m = FttHandle::of(old);

@@ -14,7 +14,7 @@ ghost use Rattle.fttcan_c.specs.declared.refusal.Refusal.TheVariants.{Argument};
 ghost use Rattle.fttcan_c.specs.Framing.{IsAskedFor, RefusesBits, RefusesFits, RefusesWire, data_frame};
 ghost use Rattle.fttcan_c.specs.Plain.{bit_of, layout_of};
 ghost use Rattle.fttcan_c.specs.Refused.{status_of};
-ghost use Rattle.fttcan_c.specs.Room.{IsFilled, IsShort};
+ghost use Rattle.fttcan_c.specs.Room.{IsRoomFilled, IsRoomShort};
 ghost use Rattle.fttcan_c.specs.Told.{frame_told, place_told};
 
 use crate::plain::{FttFrame, FttLayout};
@@ -81,10 +81,10 @@ pub extern "C" fn fttcan_wire_bits(
     count: &mut usize,
 ) -> u32
     ensures bits { result ≡ 0 → IsFrame (data_frame id bytes.now)
-        × IsFilled (map from_bool (wire_of (data_frame id bytes.now))) room.old room.new count.new }
+        × IsRoomFilled (map from_bool (wire_of (data_frame id bytes.now))) room.old room.new count.new }
     ensures most { result ≡ 0 → count.new ≤ 135 }
     ensures short { result ≡ 5 → IsFrame (data_frame id bytes.now)
-        × IsShort (map from_bool (wire_of (data_frame id bytes.now))) room.old room.new count.new }
+        × IsRoomShort (map from_bool (wire_of (data_frame id bytes.now))) room.old room.new count.new }
     ensures refused { result ≢ 0 → result ≢ 5 → (room.new ≡ room.old) × (count.new ≡ count.old)
         × ((refusal : RefusalOf) × (result ≡ status_of refusal) × RefusesWire id bytes.now refusal) }
 {

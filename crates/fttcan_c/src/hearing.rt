@@ -6,7 +6,7 @@ ghost use Rattle.trigger_codec.specs.Heard.{heard_of};
 ghost use Rattle.master_handle.specs.declared.held.Held.{Held as HeldOf};
 ghost use Rattle.fttcan_c.specs.declared.refusal.Refusal.{Refusal as RefusalOf};
 ghost use Rattle.fttcan_c.specs.declared.refusal.Refusal.TheVariants.{Argument};
-ghost use Rattle.fttcan_c.specs.Following.{AreDue, CanFollow, IsFollowed, IsHeard, IsHeardBy, IsNotFollowed, RefusesFrames, RefusesHearing};
+ghost use Rattle.fttcan_c.specs.Following.{AreDueFrames, CanFollow, IsFollowed, IsHeardBy, IsNotFollowed, IsTriggerHeard, RefusesFrames, RefusesHearing};
 ghost use Rattle.fttcan_c.specs.Following.{due_frames, fault_told};
 ghost use Rattle.fttcan_c.specs.Mastering.{Holds};
 ghost use Rattle.fttcan_c.specs.Plain.{IsFrameIn, frames_of};
@@ -140,9 +140,9 @@ fn heard_by(core: &mut Core, frames: &[FttFrame]) -> Result<Option<Astray>, Refu
 
 /// Has a standby hear the trigger frames of its next cycle.
 fn heard_trigger(held: &mut Held, frames: &[FttFrame]) -> Result<Option<Astray>, Refusal>
-    ensures heard { IfOk result (λ astray. IsHeard (frames_of frames.now) astray held.old held.new) }
+    ensures heard { IfOk result (λ astray. IsTriggerHeard (frames_of frames.now) astray held.old held.new) }
     ensures astray { IfOk result (λ astray. astray ≢ None → held.new ≡ held.old) }
-    ensures due { AreDue (frames_of frames.now) held.old → IfOk result (λ astray. astray ≡ None) }
+    ensures due { AreDueFrames (frames_of frames.now) held.old → IfOk result (λ astray. astray ≡ None) }
     ensures known { IfOk result (λ _. All IsFrameIn frames.now) }
     ensures same { OnErr result (held.new ≡ held.old) }
     ensures refused { IfErr result (RefusesHearing frames.now held.old) }
@@ -170,7 +170,7 @@ pub extern "C" fn fttcan_standby_trigger(
     ensures astray { result ≡ 10 → Holds s.old.value (IsNotFollowed (frames_of frames.now) fault.new) }
     ensures known { result ≡ 0 → All IsFrameIn frames.now }
     ensures known_too { result ≡ 10 → All IsFrameIn frames.now }
-    ensures due { (held : HeldOf) → s.old.value ≡ Some held → AreDue (frames_of frames.now) held → result ≢ 10 }
+    ensures due { (held : HeldOf) → s.old.value ≡ Some held → AreDueFrames (frames_of frames.now) held → result ≢ 10 }
     ensures same { result ≢ 0 → s.new.value ≡ s.old.value }
     ensures untold { result ≢ 10 → fault.new ≡ fault.old }
     ensures why { result ≢ 0 → result ≢ 10 → (held : HeldOf) → s.old.value ≡ Some held

@@ -9,7 +9,7 @@ ghost use Rattle.master_handle.specs.declared.held.Held.{Held as HeldOf};
 ghost use Rattle.master_handle.specs.declared.held.Held.TheVariants.{Master};
 ghost use Rattle.fttcan_c.specs.declared.refusal.Refusal.{Refusal as RefusalOf};
 ghost use Rattle.fttcan_c.specs.declared.refusal.Refusal.TheVariants.{State};
-ghost use Rattle.fttcan_c.specs.Mastering.{Holds, IsAsked, IsCoreOpened, IsCoreSubmitted, IsMasterOpened, IsSubmitted, RefusesAsked, RefusesNew, RefusesOpen, RefusesSubmit};
+ghost use Rattle.fttcan_c.specs.Mastering.{Holds, IsCoreOpened, IsCoreSubmitted, IsMasterOpened, IsSubmitted, MayAsk, RefusesAsked, RefusesNew, RefusesOpen, RefusesSubmit};
 ghost use Rattle.fttcan_c.specs.Plain.{AreRules, change_of, mask_of, rules_of};
 ghost use Rattle.fttcan_c.specs.Refused.{status_of};
 
@@ -86,7 +86,7 @@ pub(crate) fn asked(
     ops: &[FttOp],
 ) -> Result<Answered, Refusal>
     ensures answered { IfOk result (IsCoreSubmitted caller (change_of start ops.now) core.old core.new) }
-    ensures known { OnOk result (IsAsked caller ops.now) }
+    ensures known { OnOk result (MayAsk caller ops.now) }
     ensures same { OnErr result (core.new ≡ core.old) }
     ensures refused { IfErr result (RefusesAsked caller ops.now) }
 {
@@ -120,7 +120,7 @@ fn submitted(
     ops: &[FttOp],
 ) -> Result<FttVerdict, Refusal>
     ensures answered { IfOk result (λ verdict. IsSubmitted caller start ops.now verdict held.old held.new) }
-    ensures known { OnOk result (IsAsked caller ops.now) }
+    ensures known { OnOk result (MayAsk caller ops.now) }
     ensures same { OnErr result (held.new ≡ held.old) }
     ensures refused { IfErr result (RefusesSubmit caller ops.now held.old) }
 {
@@ -150,7 +150,7 @@ pub extern "C" fn fttcan_master_submit(
 ) -> u32
     ensures answered { result ≡ 0 → Holds m.old.value (λ old. Holds m.new.value
         (IsSubmitted caller start ops.now verdict.new old)) }
-    ensures known { result ≡ 0 → IsAsked caller ops.now }
+    ensures known { result ≡ 0 → MayAsk caller ops.now }
     ensures refused { result ≢ 0 → (m.new.value ≡ m.old.value) × (verdict.new ≡ verdict.old) }
     ensures why { result ≢ 0 → (held : HeldOf) → m.old.value ≡ Some held
         → (refusal : RefusalOf) × (result ≡ status_of refusal) × RefusesSubmit caller ops.now held refusal }

@@ -7,11 +7,11 @@ ghost use Rattle.fttcan_c.specs.declared.plain.FttMask.{FttMask as FttMaskOf};
 ghost use Rattle.fttcan_c.specs.declared.plain.FttPlaced.{FttPlaced as FttPlacedOf};
 ghost use Rattle.fttcan_c.specs.declared.refusal.Refusal.{Refusal as RefusalOf};
 ghost use Rattle.fttcan_c.specs.declared.refusal.Refusal.TheVariants.{Closed};
-ghost use Rattle.fttcan_c.specs.Mastering.{Holds, IsCaller, IsMaster, RefusesOpen};
+ghost use Rattle.fttcan_c.specs.Mastering.{Holds, HoldsMaster, IsCaller, RefusesOpen};
 ghost use Rattle.fttcan_c.specs.Plain.{mask_of};
 ghost use Rattle.fttcan_c.specs.Reading.{HasPlanText, HasTable, HasTrail, IsLookedAt, IsNextOf, IsPlanTextOf, IsPlannedOf, IsRulesOf, RefusesLook, RefusesRead};
 ghost use Rattle.fttcan_c.specs.Refused.{status_of};
-ghost use Rattle.fttcan_c.specs.Room.{IsFilled, IsShort};
+ghost use Rattle.fttcan_c.specs.Room.{IsRoomFilled, IsRoomShort};
 ghost use Rattle.fttcan_c.specs.Told.{mask_told, put_of, rules_told};
 
 use crate::plain::{FttMask, FttPlaced, FttRules};
@@ -31,7 +31,7 @@ const MOST_CALLERS: u8 = 8;
 /// The next cycle of a master.
 fn next_in(held: &Held) -> Result<u64, Refusal>
     ensures next { IfOk result (λ cycle. IsNextOf cycle held.now) }
-    ensures refused { IfErr result (λ refusal. (refusal ≡ Closed) × (IsMaster held.now → ⊥)) }
+    ensures refused { IfErr result (λ refusal. (refusal ≡ Closed) × (HoldsMaster held.now → ⊥)) }
 {
     match held {
         Held::Master { core, trail: _ } => Ok(core.next()),
@@ -45,7 +45,7 @@ pub extern "C" fn fttcan_master_next(m: &mut FttHandle, alloc: Global, cycle: &m
     ensures same { m.new.value ≡ m.old.value }
     ensures next { result ≡ 0 → Holds m.old.value (IsNextOf cycle.new) }
     ensures refused { result ≢ 0 → (cycle.new ≡ cycle.old) × (result ≡ 7) }
-    ensures why { result ≢ 0 → (held : HeldOf) → m.old.value ≡ Some held → IsMaster held → ⊥ }
+    ensures why { result ≢ 0 → (held : HeldOf) → m.old.value ≡ Some held → HoldsMaster held → ⊥ }
     ensures empty { m.old.value ≡ None → result ≡ 7 }
 {
     let Some(held) = mem::replace(m, FttHandle::none()).into_box(alloc) else {
@@ -156,7 +156,7 @@ pub extern "C" fn fttcan_master_planned(
 /// The rules of a master.
 fn rules_of_held(held: &Held) -> Result<FttRules, Refusal>
     ensures rules { IfOk result (λ rules. IsRulesOf rules held.now) }
-    ensures refused { IfErr result (λ refusal. (refusal ≡ Closed) × (IsMaster held.now → ⊥)) }
+    ensures refused { IfErr result (λ refusal. (refusal ≡ Closed) × (HoldsMaster held.now → ⊥)) }
 {
     match held {
         Held::Master { core, trail: _ } => Ok(rules_out(&core.rules())),
@@ -170,7 +170,7 @@ pub extern "C" fn fttcan_master_rules(m: &mut FttHandle, alloc: Global, rules: &
     ensures same { m.new.value ≡ m.old.value }
     ensures rules { result ≡ 0 → Holds m.old.value (IsRulesOf rules.new) }
     ensures refused { result ≢ 0 → (rules.new ≡ rules.old) × (result ≡ 7) }
-    ensures why { result ≢ 0 → (held : HeldOf) → m.old.value ≡ Some held → IsMaster held → ⊥ }
+    ensures why { result ≢ 0 → (held : HeldOf) → m.old.value ≡ Some held → HoldsMaster held → ⊥ }
     ensures empty { m.old.value ≡ None → result ≡ 7 }
 {
     let Some(held) = mem::replace(m, FttHandle::none()).into_box(alloc) else {
@@ -212,9 +212,9 @@ pub extern "C" fn fttcan_master_table(
 ) -> u32
     ensures same { m.new.value ≡ m.old.value }
     ensures table { result ≡ 0 → Holds m.old.value (λ held. (list : List FttPlacedOf) × HasTable list held
-        × IsFilled list room.old room.new count.new) }
+        × IsRoomFilled list room.old room.new count.new) }
     ensures short { result ≡ 5 → Holds m.old.value (λ held. (list : List FttPlacedOf) × HasTable list held
-        × IsShort list room.old room.new count.new) }
+        × IsRoomShort list room.old room.new count.new) }
     ensures refused { result ≢ 0 → result ≢ 5 → (room.new ≡ room.old) × (count.new ≡ count.old) }
     ensures why { result ≢ 0 → result ≢ 5 → (held : HeldOf) → m.old.value ≡ Some held
         → (refusal : RefusalOf) × (result ≡ status_of refusal) × RefusesRead held refusal }
@@ -259,9 +259,9 @@ pub extern "C" fn fttcan_master_trail(
 ) -> u32
     ensures same { m.new.value ≡ m.old.value }
     ensures trail { result ≡ 0 → Holds m.old.value (λ held. (masks : List FttMaskOf) × HasTrail masks held
-        × IsFilled masks room.old room.new count.new) }
+        × IsRoomFilled masks room.old room.new count.new) }
     ensures short { result ≡ 5 → Holds m.old.value (λ held. (masks : List FttMaskOf) × HasTrail masks held
-        × IsShort masks room.old room.new count.new) }
+        × IsRoomShort masks room.old room.new count.new) }
     ensures refused { result ≢ 0 → result ≢ 5 → (room.new ≡ room.old) × (count.new ≡ count.old) }
     ensures why { result ≢ 0 → result ≢ 5 → (held : HeldOf) → m.old.value ≡ Some held
         → (refusal : RefusalOf) × (result ≡ status_of refusal) × RefusesRead held refusal }
@@ -316,9 +316,9 @@ pub extern "C" fn fttcan_master_certificate(
 ) -> u32
     ensures same { m.new.value ≡ m.old.value }
     ensures text { result ≡ 0 → Holds m.old.value (λ held. (text : List ℕ) × HasPlanText text held
-        × IsFilled text room.old room.new len.new) }
+        × IsRoomFilled text room.old room.new len.new) }
     ensures short { result ≡ 5 → Holds m.old.value (λ held. (text : List ℕ) × HasPlanText text held
-        × IsShort text room.old room.new len.new) }
+        × IsRoomShort text room.old room.new len.new) }
     ensures refused { result ≢ 0 → result ≢ 5 → (room.new ≡ room.old) × (len.new ≡ len.old) }
     ensures why { result ≢ 0 → result ≢ 5 → (held : HeldOf) → m.old.value ≡ Some held
         → (refusal : RefusalOf) × (result ≡ status_of refusal) × RefusesRead held refusal }

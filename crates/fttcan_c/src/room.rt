@@ -2,7 +2,7 @@
 
 ghost use Rattle.std.specs.Prelude.{◌≡◌, IfErr, OnOk};
 ghost use Rattle.fttcan_c.specs.declared.refusal.Refusal.TheVariants.{Room};
-ghost use Rattle.fttcan_c.specs.Room.{IsFilled, IsShort};
+ghost use Rattle.fttcan_c.specs.Room.{IsRoomFilled, IsRoomShort};
 
 use crate::refusal::Refusal;
 
@@ -12,8 +12,8 @@ use crate::refusal::Refusal;
 ///
 /// `Room` where they are more than there is room for. The count is written all the same.
 pub fn put<T: Copy>(items: &[T], room: &mut [T], count: &mut usize) -> Result<(), Refusal>
-    ensures filled { OnOk result (IsFilled items.now room.old room.new count.new) }
-    ensures short { IfErr result (λ refusal. (refusal ≡ Room) × IsShort items.now room.old room.new count.new) }
+    ensures filled { OnOk result (IsRoomFilled items.now room.old room.new count.new) }
+    ensures short { IfErr result (λ refusal. (refusal ≡ Room) × IsRoomShort items.now room.old room.new count.new) }
 {
     *count = items.len();
     if items.len() > room.len() {

@@ -8,8 +8,8 @@ ghost use Rattle.fttcan_c.specs.declared.refusal.Refusal.{Refusal as RefusalOf};
 ghost use Rattle.fttcan_c.specs.Mastering.{Holds};
 ghost use Rattle.fttcan_c.specs.Reading.{RefusesRead};
 ghost use Rattle.fttcan_c.specs.Refused.{status_of};
-ghost use Rattle.fttcan_c.specs.Room.{IsFilled, IsShort};
-ghost use Rattle.fttcan_c.specs.Saving.{AreBytesOfCore, HasBytes, IsCoreOfBytes, IsForC, IsRestored, RefusesRestore};
+ghost use Rattle.fttcan_c.specs.Room.{IsRoomFilled, IsRoomShort};
+ghost use Rattle.fttcan_c.specs.Saving.{AreBytesOfCore, HasMasterBytes, IsCoreOfBytes, IsForC, IsRestored, RefusesRestore};
 
 use crate::refusal::{OK, Refusal};
 use crate::room::put;
@@ -34,7 +34,7 @@ fn bytes_of_core(alloc: Global, core: &Core) -> Result<Vec<u8>, AllocError>
 
 /// The bytes of the state of a master.
 fn bytes_in(alloc: Global, held: &Held) -> Result<Vec<u8>, Refusal>
-    ensures bytes { IfOk result (λ bytes. HasBytes bytes.items held.now) }
+    ensures bytes { IfOk result (λ bytes. HasMasterBytes bytes.items held.now) }
     ensures refused { IfErr result (RefusesRead held.now) }
 {
     match held {
@@ -57,10 +57,10 @@ pub extern "C" fn fttcan_master_save(
     len: &mut usize,
 ) -> u32
     ensures same { m.new.value ≡ m.old.value }
-    ensures bytes { result ≡ 0 → Holds m.old.value (λ held. (bytes : List ℕ) × HasBytes bytes held
-        × IsFilled bytes room.old room.new len.new) }
-    ensures short { result ≡ 5 → Holds m.old.value (λ held. (bytes : List ℕ) × HasBytes bytes held
-        × IsShort bytes room.old room.new len.new) }
+    ensures bytes { result ≡ 0 → Holds m.old.value (λ held. (bytes : List ℕ) × HasMasterBytes bytes held
+        × IsRoomFilled bytes room.old room.new len.new) }
+    ensures short { result ≡ 5 → Holds m.old.value (λ held. (bytes : List ℕ) × HasMasterBytes bytes held
+        × IsRoomShort bytes room.old room.new len.new) }
     ensures refused { result ≢ 0 → result ≢ 5 → (room.new ≡ room.old) × (len.new ≡ len.old) }
     ensures why { result ≢ 0 → result ≢ 5 → (held : HeldOf) → m.old.value ≡ Some held
         → (refusal : RefusalOf) × (result ≡ status_of refusal) × RefusesRead held refusal }

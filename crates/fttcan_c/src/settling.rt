@@ -4,7 +4,7 @@ ghost use Rattle.std.specs.Prelude.{◌≡◌, ◌≢◌, ◌≤◌, None, Some,
 ghost use Rattle.master_handle.specs.declared.held.Held.{Held as HeldOf};
 ghost use Rattle.fttcan_c.specs.declared.refusal.Refusal.{Refusal as RefusalOf};
 ghost use Rattle.fttcan_c.specs.declared.refusal.Refusal.TheVariants.{Memory};
-ghost use Rattle.fttcan_c.specs.Apart.{IsCoreSettled, IsSettled, RefusesSettle};
+ghost use Rattle.fttcan_c.specs.Apart.{IsCoreSettled, IsHeldSettled, RefusesSettle};
 ghost use Rattle.fttcan_c.specs.Mastering.{Holds, IsCaller};
 ghost use Rattle.fttcan_c.specs.Refused.{status_of};
 
@@ -41,7 +41,7 @@ fn settled(
     caller: u8,
     from: &mut Held,
 ) -> Result<FttVerdict, Refusal>
-    ensures settled { IfOk result (λ verdict. IsSettled caller verdict from.old held.old held.new) }
+    ensures settled { IfOk result (λ verdict. IsHeldSettled caller verdict from.old held.old held.new) }
     ensures known { OnOk result (IsCaller caller) }
     ensures same { OnErr result (held.new ≡ held.old) }
     ensures kept { IfErr result (λ refusal. refusal ≢ Memory → from.new ≡ from.old) }
@@ -86,7 +86,7 @@ pub extern "C" fn fttcan_master_settle(
     verdict: &mut FttVerdict,
 ) -> u32
     ensures settled { result ≡ 0 → (p.new.value ≡ None) × Holds m.old.value (λ old. Holds m.new.value
-        (λ new. Holds p.old.value (λ from. IsSettled caller verdict.new from old new))) }
+        (λ new. Holds p.old.value (λ from. IsHeldSettled caller verdict.new from old new))) }
     ensures known { result ≡ 0 → IsCaller caller }
     ensures refused { result ≢ 0 → (m.new.value ≡ m.old.value) × (verdict.new ≡ verdict.old) }
     ensures memory { result ≡ 1 → p.new.value ≡ None }

@@ -7,9 +7,9 @@ ghost use Rattle.fttcan_c.specs.declared.refusal.Refusal.{Refusal as RefusalOf};
 ghost use Rattle.fttcan_c.specs.declared.refusal.Refusal.TheVariants.{Room};
 ghost use Rattle.fttcan_c.specs.Plain.{IsFrameIn, IsTriggerIn, frame_of, frames_of, mask_of};
 ghost use Rattle.fttcan_c.specs.Refused.{status_of};
-ghost use Rattle.fttcan_c.specs.Room.{IsFilled, IsShort};
+ghost use Rattle.fttcan_c.specs.Room.{IsRoomFilled, IsRoomShort};
 ghost use Rattle.fttcan_c.specs.Told.{frame_told};
-ghost use Rattle.fttcan_c.specs.Triggers.{IsTold, RefusesOne, RefusesTrigger, RefusesTwo, frames_told};
+ghost use Rattle.fttcan_c.specs.Triggers.{IsTriggerTold, RefusesOne, RefusesTrigger, RefusesTwo, frames_told};
 
 use crate::plain::{FttFrame, FttMask, FttTrigger};
 use crate::plain_in::{are_frames, frame_in, is_mask, mask_in};
@@ -47,9 +47,9 @@ fn put_trigger(
     count: &mut usize,
 ) -> Result<(), Refusal>
     requires trigger { IsTriggerIn slots trigger.now }
-    ensures filled { OnOk result (IsFilled (map frame_told (frames_told slots trigger.now)) room.old room.new count.new) }
+    ensures filled { OnOk result (IsRoomFilled (map frame_told (frames_told slots trigger.now)) room.old room.new count.new) }
     ensures short { IfErr result (λ refusal. (refusal ≡ Room)
-        × IsShort (map frame_told (frames_told slots trigger.now)) room.old room.new count.new) }
+        × IsRoomShort (map frame_told (frames_told slots trigger.now)) room.old room.new count.new) }
 {
     let flags = mask_in(trigger.flags);
     let first = frame_out(&encode(trigger.cycle, trigger.window, flags));
@@ -69,9 +69,9 @@ pub extern "C" fn fttcan_trigger_encode(
     count: &mut usize,
 ) -> u32
     ensures frames { result ≡ 0 → IsTriggerIn slots trigger.now
-        × IsFilled (map frame_told (frames_told slots trigger.now)) room.old room.new count.new }
+        × IsRoomFilled (map frame_told (frames_told slots trigger.now)) room.old room.new count.new }
     ensures short { result ≡ 5 → IsTriggerIn slots trigger.now
-        × IsShort (map frame_told (frames_told slots trigger.now)) room.old room.new count.new }
+        × IsRoomShort (map frame_told (frames_told slots trigger.now)) room.old room.new count.new }
     ensures refused { result ≢ 0 → result ≢ 5 → (room.new ≡ room.old) × (count.new ≡ count.old)
         × (result ≡ 2) × (IsTriggerIn slots trigger.now → ⊥) }
 {
@@ -87,7 +87,7 @@ pub extern "C" fn fttcan_trigger_encode(
 /// What one trigger frame says, where a cycle has one.
 #[tactic(auto, using(crate::proofs::Silent::none_heard))]
 fn one_decoded(only: &FttFrame) -> Result<FttTrigger, Refusal>
-    ensures trigger { IfOk result (IsTold first_slots (frame_of only.now ∷ [])) }
+    ensures trigger { IfOk result (IsTriggerTold first_slots (frame_of only.now ∷ [])) }
     ensures known { OnOk result (IsFrameIn only.now) }
     ensures refused { IfErr result (RefusesOne only.now) }
 {
@@ -105,7 +105,7 @@ fn one_decoded(only: &FttFrame) -> Result<FttTrigger, Refusal>
 /// What two trigger frames say, where a cycle has two.
 #[tactic(auto, using(crate::proofs::Silent::none_first, crate::proofs::Silent::none_second, crate::proofs::Silent::other_cycle))]
 fn both_decoded(first: &FttFrame, second: &FttFrame) -> Result<FttTrigger, Refusal>
-    ensures trigger { IfOk result (IsTold most_slots (frame_of first.now ∷ frame_of second.now ∷ [])) }
+    ensures trigger { IfOk result (IsTriggerTold most_slots (frame_of first.now ∷ frame_of second.now ∷ [])) }
     ensures known { OnOk result (IsFrameIn first.now × IsFrameIn second.now) }
     ensures refused { IfErr result (RefusesTwo first.now second.now) }
 {
@@ -130,7 +130,7 @@ fn both_decoded(first: &FttFrame, second: &FttFrame) -> Result<FttTrigger, Refus
 /// What the trigger frames of a cycle say, where there are so many.
 fn decoded_by(triggers: Triggers, frames: &[FttFrame]) -> Result<FttTrigger, Refusal>
     requires known { All IsFrameIn frames.now }
-    ensures trigger { IfOk result (IsTold (slots_of triggers) (frames_of frames.now)) }
+    ensures trigger { IfOk result (IsTriggerTold (slots_of triggers) (frames_of frames.now)) }
     ensures refused { IfErr result (RefusesTrigger (slots_of triggers) frames.now) }
 {
     match triggers {
@@ -147,7 +147,7 @@ fn decoded_by(triggers: Triggers, frames: &[FttFrame]) -> Result<FttTrigger, Ref
 
 /// What the trigger frames of a cycle say, with so many slots.
 fn decoded(slots: u8, frames: &[FttFrame]) -> Result<FttTrigger, Refusal>
-    ensures trigger { IfOk result (IsTold slots (frames_of frames.now)) }
+    ensures trigger { IfOk result (IsTriggerTold slots (frames_of frames.now)) }
     ensures known { OnOk result (IsSlots slots × All IsFrameIn frames.now) }
     ensures refused { IfErr result (RefusesTrigger slots frames.now) }
 {
@@ -165,7 +165,7 @@ pub extern "C" fn fttcan_trigger_decode(
     trigger: &mut FttTrigger,
 ) -> u32
     ensures trigger { result ≡ 0 → IsSlots slots × (All IsFrameIn frames.now)
-        × IsTold slots (frames_of frames.now) trigger.new }
+        × IsTriggerTold slots (frames_of frames.now) trigger.new }
     ensures refused { result ≢ 0 → (trigger.new ≡ trigger.old)
         × ((refusal : RefusalOf) × (result ≡ status_of refusal) × RefusesTrigger slots frames.now refusal) }
 {

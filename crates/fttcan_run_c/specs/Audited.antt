@@ -36,8 +36,8 @@ pub record RefusesRequests (system_text requests_text : List ℕ) : Type 0 where
   pub refused : requests_of system.owners requests_text ≡ Err fault
 
 -- one of the texts is refused
-abbrev pub IsRefused : List ℕ → List ℕ → List ℕ → List ℕ → Type 0
-IsRefused system_text steps_text log requests_text =
+abbrev pub IsTextRefused : List ℕ → List ℕ → List ℕ → List ℕ → Type 0
+IsTextRefused system_text steps_text log requests_text =
     ((fault : SystemFault) × (system_of system_text ≡ Err fault))
     ⊎ ((fault : StepFault) × (steps_of steps_text ≡ Err fault))
     ⊎ ((number : ℕ) × IsFirstFaultyRow log number)
@@ -51,11 +51,11 @@ StopsFor refused (Row number) = ⊥
 StopsFor refused Unfinished = ⊥
 
 -- what an audit says that does not answer that a log is one of a whole run
-abbrev pub IsStopped : List ℕ → List ℕ → List ℕ → List ℕ → Stopped → Type 0
-IsStopped system_text steps_text log requests_text Memory = ⊤
-IsStopped system_text steps_text log requests_text Text = IsRefused system_text steps_text log requests_text
-IsStopped system_text steps_text log requests_text (Row number) =
+abbrev pub IsAuditStopped : List ℕ → List ℕ → List ℕ → List ℕ → Stopped → Type 0
+IsAuditStopped system_text steps_text log requests_text Memory = ⊤
+IsAuditStopped system_text steps_text log requests_text Text = IsTextRefused system_text steps_text log requests_text
+IsAuditStopped system_text steps_text log requests_text (Row number) =
     AreMeant system_text steps_text log requests_text
     (λ system steps requests rows. IsFirstBreak system steps requests rows number)
-IsStopped system_text steps_text log requests_text Unfinished =
+IsAuditStopped system_text steps_text log requests_text Unfinished =
     AreMeant system_text steps_text log requests_text IsUnfinished

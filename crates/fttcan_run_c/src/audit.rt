@@ -11,7 +11,7 @@ ghost use Rattle.system_file.specs.declared.system_fault.SystemFault.{SystemFaul
 ghost use Rattle.log_reader.specs.Row.{AreRowsOf, IsFirstFaultyRow};
 ghost use Rattle.log_reader.specs.declared.row.LogRow.{LogRow};
 ghost use Rattle.trace_audit.specs.Audit.{IsAudited, IsFirstBreak, IsUnfinished};
-ghost use Rattle.fttcan_run_c.specs.Audited.{AreMeant, IsRefused, IsStopped, StopsFor};
+ghost use Rattle.fttcan_run_c.specs.Audited.{AreMeant, IsAuditStopped, IsTextRefused, StopsFor};
 
 use async_window::{Owner, Request};
 use log_reader::{LogFault, check_log};
@@ -98,7 +98,7 @@ fn audited(
     requests: &[u8],
 ) -> Result<(), Stopped>
     ensures answer { MatchResult result (λ _. AreMeant system.now steps.now log.now requests.now IsAudited)
-        (IsStopped system.now steps.now log.now requests.now) }
+        (IsAuditStopped system.now steps.now log.now requests.now) }
 {
     let system = system_in(alloc, system)?;
     let steps = steps_in(alloc, steps)?;
@@ -129,7 +129,7 @@ pub extern "C" fn fttcan_audit(
 ) -> u32
     ensures answers { (result ≡ 0) ⊎ (result ≡ 1) ⊎ (result ≡ 9) ⊎ (result ≡ 10) ⊎ (result ≡ 11) }
     ensures yes { result ≡ 0 → AreMeant system.now steps.now log.now requests.now IsAudited }
-    ensures text { result ≡ 9 → IsRefused system.now steps.now log.now requests.now }
+    ensures text { result ≡ 9 → IsTextRefused system.now steps.now log.now requests.now }
     ensures no { result ≡ 10 → AreMeant system.now steps.now log.now requests.now
         (λ system steps requests rows. IsFirstBreak system steps requests rows row.new) }
     ensures unfinished { result ≡ 11 → AreMeant system.now steps.now log.now requests.now IsUnfinished }

@@ -13,7 +13,7 @@ use Rattle.asked_files.specs.declared.tasks.Task.{Task}
 use Rattle.asked_files.specs.declared.tasks.Task.TheVariants as task
 use Rattle.fttcan_top.specs.declared.status.Status.{Status}
 use Rattle.fttcan_top.specs.Ends.{Did, Ended, IsCarried, IsStatusOf, end_status, refusal_of}
-use Rattle.fttcan_top.specs.Output.{IsDone}
+use Rattle.fttcan_top.specs.Output.{IsDoneStatus}
 
 module _ (called : Option Command) (told : Option NamedFiles) (before behind : ℕ) (shelf_rose out_rose : Type 0)
     (old new : Option (List ℕ)) where
@@ -37,7 +37,7 @@ module _ (called : Option Command) (told : Option NamedFiles) (before behind : �
       stopped Memory cause = record { did = inl (cause, same) }
 
   -- a call that carried out what it was asked for
-  pub end-carried : (ended : Result Status Stop) → IfOk ended IsDone → (asked_for : Asked)
+  pub end-carried : (ended : Result Status Stop) → IfOk ended IsDoneStatus → (asked_for : Asked)
       → IsAskedFor called told before behind asked_for → IsCarried asked_for out_rose old new ended → EndedSo ended
   end-carried (Ok Status.Done) done asked_for is tells = record { did = (asked_for, is, tells) }
   end-carried (Ok Status.Refused) done asked_for is tells = record { did = (asked_for, is, tells) }

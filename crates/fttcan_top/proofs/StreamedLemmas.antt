@@ -13,9 +13,9 @@ use Rattle.system_file.specs.declared.system.System.{System}
 use Rattle.master_core.specs.declared.event.Event.{Event}
 use Rattle.bus_trace.specs.LastRows.{last_rows}
 use Rattle.bus_trace.specs.Log.{events_rows, log_text}
-use Rattle.replay_run.specs.Begun.{IsBegun}
+use Rattle.replay_run.specs.Begun.{IsRunBegun}
 use Rattle.replay_run.specs.Run.{IsRun}
-use Rattle.replay_run.specs.Written.{HasLastRows, IsCut, IsWritten}
+use Rattle.replay_run.specs.Written.{HasLastRows, IsRunCut, IsWritten}
 use Rattle.replay_run.specs.declared.replaying.Written.{Written}
 use Rattle.handover_run.specs.HandedOver.{IsHandedOver}
 use Rattle.fttcan_top.specs.declared.status.Status.{Status}
@@ -28,12 +28,12 @@ use Rattle.fttcan_top.specs.Streamed.{IsOfReport}
 -- the rows of a run of the first calls begin the log of every run of all calls
 pub record RowsSoFar : Type 0 where
   pub front : (system : System) (steps : List Step) (requests : List Request) (history whole : List Event) (trace frames : List TimedFrame)
-      → IsSystem system → AreLegal system.owners requests → IsBegun system steps requests history trace → IsRun system steps requests whole frames
+      → IsSystem system → AreLegal system.owners requests → IsRunBegun system steps requests history trace → IsRun system steps requests whole frames
       → (rest : List ℕ) × (log_text whole frames ≡ events_rows trace [] history ++ rest)
 
 -- the first bytes of the rows of a begun run are those of the output of each whole one
 begun-front : RowsSoFar → (job : Job) (report : Bool) (old new : Option (List ℕ)) (history : List Event) (trace : List TimedFrame)
-    → IsSystem job.system → AreLegal job.system.owners job.requests → IsBegun job.system job.steps job.requests history trace
+    → IsSystem job.system → AreLegal job.system.owners job.requests → IsRunBegun job.system job.steps job.requests history trace
     → PutsPrefix old new (events_rows trace [] history)
     → (status : Status) (text : List ℕ) → IsLog job None report status text → PutsPrefix old new text
 begun-front laws job report old new history trace known legal begun puts status text log =
@@ -45,7 +45,7 @@ begun-front laws job report old new history trace known legal begun puts status 
 
 -- a run that was cut short, or its last row
 tells-cut : RowsSoFar → (job : Job) (report : Bool) (old new : Option (List ℕ)) → IsSystem job.system → AreLegal job.system.owners job.requests
-    → IsCut job.system job.steps job.requests old new → TellsFront (log_of job None report) old new ⊎ TellsBegun job report old new
+    → IsRunCut job.system job.steps job.requests old new → TellsFront (log_of job None report) old new ⊎ TellsBegun job report old new
 tells-cut laws job report old new known legal (inl cut) = inr (record {
   history = cut.history;
   trace = cut.trace;
@@ -100,9 +100,9 @@ module _ (job : Job) (report : Bool) (steps : List Step) (owners : List Owner) (
       }
 
   pub run-cut : RowsSoFar → (old new : Option (List ℕ)) → IsSystem job.system → AreLegal job.system.owners job.requests
-      → IsCut job.system steps requests old new → TellsFront (log_of job None report) old new ⊎ TellsBegun job report old new
+      → IsRunCut job.system steps requests old new → TellsFront (log_of job None report) old new ⊎ TellsBegun job report old new
   run-cut laws old new known legal cut =
-      tells-cut laws job report old new known legal (own (λ s o r. IsCut job.system s r old new) cut)
+      tells-cut laws job report old new known legal (own (λ s o r. IsRunCut job.system s r old new) cut)
 
   -- the last rows of a log, and the report behind them
   pub tail-told : (run : Written) (count : ℕ) (status : Status) (rows behind text : List ℕ)

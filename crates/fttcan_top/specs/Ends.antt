@@ -49,8 +49,8 @@ IsCarried asked_for out_rose old new (Err _) = ⊥
 module _ (called : Option Command) (told : Option NamedFiles) (before behind : ℕ) (shelf_rose out_rose : Type 0)
     (old new : Option (List ℕ)) where
   -- it was asked for nothing, for this reason, and put nothing
-  abbrev pub IsStopped : Stop → Type 0
-  IsStopped why = IsNotAsked called shelf_rose told before behind why × (new ≡ old)
+  abbrev pub IsStoppedStatus : Stop → Type 0
+  IsStoppedStatus why = IsNotAsked called shelf_rose told before behind why × (new ≡ old)
 
   -- it was asked for something, and put the whole answer, which has this status
   abbrev pub IsAnswered : Status → Type 0
@@ -67,11 +67,11 @@ module _ (called : Option Command) (told : Option NamedFiles) (before behind : �
   Did Status.Done refusal = IsAnswered Status.Done
   Did Status.Refused refusal = IsAnswered Status.Refused
   Did Status.No refusal = IsAnswered Status.No
-  Did Status.Words refusal = IsStopped Words
-  Did Status.Input refusal = IsStopped (Input refusal)
-  Did Status.Read refusal = IsStopped Read
+  Did Status.Words refusal = IsStoppedStatus Words
+  Did Status.Input refusal = IsStoppedStatus (Input refusal)
+  Did Status.Read refusal = IsStoppedStatus Read
   Did Status.Write refusal = out_rose × IsCutShort
-  Did Status.Memory refusal = IsStopped Memory ⊎ IsCutShort
+  Did Status.Memory refusal = IsStoppedStatus Memory ⊎ IsCutShort
 
 -- the same of a call that ended so
 pub record Ended (called : Option Command) (told : Option NamedFiles) (before behind : ℕ) (shelf_rose out_rose : Type 0)

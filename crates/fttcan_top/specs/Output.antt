@@ -15,7 +15,7 @@ use Rattle.plan_report.specs.Report.{report_text}
 use Rattle.generated_input.specs.Generator.{requests_made, steps_made, system_made}
 use Rattle.master_core.specs.Accepted.{all_accepted}
 use Rattle.replay_run.specs.AskedTable.{table_of}
-use Rattle.replay_run.specs.Begun.{IsBegun}
+use Rattle.replay_run.specs.Begun.{IsRunBegun}
 use Rattle.replay_run.specs.Run.{AnswersSteps, IsRun}
 use Rattle.live_steps.specs.Live.{IsLive}
 use Rattle.poll_run.specs.PolledRun.{IsPolledBegun, IsPolledRun}
@@ -152,7 +152,7 @@ pub record TellsFront (asked_for : Asked) (old new : Option (List ℕ)) : Type 0
 pub record TellsBegun (job : Job) (report : Bool) (old new : Option (List ℕ)) : Type 0 where
   pub history : List Event
   pub trace : List TimedFrame
-  pub begun : IsBegun job.system job.steps job.requests history trace
+  pub begun : IsRunBegun job.system job.steps job.requests history trace
   pub puts : PutsPrefix old new (events_rows trace [] history)
   pub front : (status : Status) (text : List ℕ) → IsOutput (log_of job None report) status text
       → PutsPrefix old new text
@@ -175,11 +175,11 @@ IsCutWhileRun _ old new = ⊥
 -- What a status says
 
 -- what was asked was done
-abbrev pub IsDone : Status → Type 0
-IsDone Done = ⊤
-IsDone Refused = ⊤
-IsDone No = ⊤
-IsDone _ = ⊥
+abbrev pub IsDoneStatus : Status → Type 0
+IsDoneStatus Done = ⊤
+IsDoneStatus Refused = ⊤
+IsDoneStatus No = ⊤
+IsDoneStatus _ = ⊥
 
 -- What is put to the error sink
 

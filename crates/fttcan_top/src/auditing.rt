@@ -4,7 +4,7 @@ ghost use Rattle.std.specs.Prelude.{IfOk};
 ghost use Rattle.asked_files.specs.Asked.{IsJob};
 ghost use Rattle.asked_files.specs.Inputs.{IsLogText};
 ghost use Rattle.fttcan_top.specs.Audited.{IsAuditText};
-ghost use Rattle.fttcan_top.specs.Output.{IsDone};
+ghost use Rattle.fttcan_top.specs.Output.{IsDoneStatus};
 
 use crate::status::Status;
 use crate::work::Outcome;
@@ -18,7 +18,7 @@ pub fn audit_of(alloc: Global, job: &Job, log: &[u8]) -> Result<Outcome, AllocEr
     requires job { IsJob job.now }
     requires log { IsLogText log.now }
     ensures answer { IfOk result (λ outcome. IsAuditText job.now log.now outcome.status outcome.text.items) }
-    ensures done { IfOk result (λ outcome. IsDone outcome.status) }
+    ensures done { IfOk result (λ outcome. IsDoneStatus outcome.status) }
 {
     let steps = job.steps.as_slice();
     let requests = job.requests.as_slice();

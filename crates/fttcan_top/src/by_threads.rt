@@ -7,7 +7,7 @@ ghost use Rattle.command_words.specs.Words.{live_of};
 ghost use Rattle.asked_files.specs.Loads.{Fetches};
 ghost use Rattle.asked_files.specs.Sources.{sources_of};
 ghost use Rattle.fttcan_top.specs.Ends.{Answers, Ended};
-ghost use Rattle.fttcan_top.specs.Output.{IsDone};
+ghost use Rattle.fttcan_top.specs.Output.{IsDoneStatus};
 
 use crate::status::Status;
 use crate::stop::tell;
@@ -28,7 +28,7 @@ fn call<T: Threads + Wait + Sync, S: Shelf, O: Sink, G: Gate>(
     out: &mut O,
     gate: &G,
 ) -> Result<Status, Stop>
-    ensures done { IfOk result IsDone }
+    ensures done { IfOk result IsDoneStatus }
     ensures ended { Ended (live_of (map string_bytes words.now)) (S.told_files shelf.old) (S.fetches shelf.old)
         (S.fetches shelf.new) (Rose (S.faults shelf.old) (S.faults shelf.new))
         (Rose (O.faults out.old) (O.faults out.new)) (O.told_bytes out.old) (O.told_bytes out.new) result }

@@ -6,7 +6,7 @@ ghost use Rattle.elastic.specs.declared.choice.ElasticFault.TheVariants.{NoPerio
 ghost use Rattle.asked_files.specs.Asked.{IsJob};
 ghost use Rattle.asked_files.specs.Inputs.{IsToChoose};
 ghost use Rattle.fttcan_top.specs.Chosen.{IsChoiceText};
-ghost use Rattle.fttcan_top.specs.Output.{IsDone};
+ghost use Rattle.fttcan_top.specs.Output.{IsDoneStatus};
 
 use crate::status::Status;
 use crate::work::Outcome;
@@ -35,7 +35,7 @@ pub fn choice_of(alloc: Global, job: &Job, wish: &Wish) -> Result<Outcome, Alloc
     requires job { IsJob job.now }
     requires wish { IsToChoose wish.now }
     ensures choice { IfOk result (λ outcome. IsChoiceText job.now wish.now outcome.status outcome.text.items) }
-    ensures done { IfOk result (λ outcome. IsDone outcome.status) }
+    ensures done { IfOk result (λ outcome. IsDoneStatus outcome.status) }
 {
     let master = answer(alloc, &job.system.rules, job.steps.as_slice())?;
     let behind = master.snapshot(alloc)?;

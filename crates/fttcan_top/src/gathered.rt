@@ -4,7 +4,7 @@ ghost use Rattle.std.specs.Prelude.{◌≡◌, ◌≤◌, ◌⊎◌, [], codes};
 ghost use Rattle.std.specs.Io.Buffered.{writer_buffer, writer_contents};
 ghost use Rattle.ftt_io.specs.Counts.{Rose};
 ghost use Rattle.ftt_io.specs.Puts.{Stays};
-ghost use Rattle.fttcan_top.specs.Output.{IsDone, Says};
+ghost use Rattle.fttcan_top.specs.Output.{IsDoneStatus, Says};
 
 use crate::status::Status;
 use crate::stop::say;
@@ -21,11 +21,11 @@ pub fn flushed<W: Write + Drop, R: Sink>(
 ) -> Status
     // How it ended; where something was done nothing of its output is held back.
     ensures status { (result ≡ status)
-        ⊎ (IsDone status × (result ≡ Status.Write) × Rose out.old.faults out.new.faults) }
-    ensures written { IsDone result → writer_buffer out.new.writer ≡ [] }
+        ⊎ (IsDoneStatus status × (result ≡ Status.Write) × Rose out.old.faults out.new.faults) }
+    ensures written { IsDoneStatus result → writer_buffer out.new.writer ≡ [] }
 
     // What was put to `out`, and to `err`; where nothing was done, nothing is written of what is held back.
-    ensures untouched { (IsDone status → ⊥) → out.new ≡ out.old }
+    ensures untouched { (IsDoneStatus status → ⊥) → out.new ≡ out.old }
     ensures nothing { Stays (writer_contents W.contents out.old.writer) (writer_contents W.contents out.new.writer) }
     ensures quiet { result ≡ status → R.told_bytes err.new ≡ R.told_bytes err.old }
     ensures message { (result ≡ status → ⊥)

@@ -2,10 +2,10 @@
 
 ghost use Rattle.std.specs.Prelude.{◌≤◌, IfOk, IsErrOf, OnErr};
 ghost use Rattle.ftt_io.specs.Counts.{Rose};
-ghost use Rattle.sporadic_poll.specs.StreamsFile.{AreLegal};
+ghost use Rattle.sporadic_poll.specs.StreamsFile.{AreLegalStreams};
 ghost use Rattle.asked_files.specs.Asked.{IsJob, poll_of};
 ghost use Rattle.fttcan_top.specs.Ends.{PutsPart};
-ghost use Rattle.fttcan_top.specs.Output.{IsDone, Tells};
+ghost use Rattle.fttcan_top.specs.Output.{IsDoneStatus, Tells};
 
 use crate::status::Status;
 use crate::work::status_when;
@@ -30,9 +30,9 @@ pub fn write_polled<O: Sink>(
     out: &mut O,
 ) -> Result<Status, Cut>
     requires job { IsJob job.now }
-    requires streams { AreLegal job.now.system.rules.slots streams.items }
+    requires streams { AreLegalStreams job.now.system.rules.slots streams.items }
     ensures faults_never_fall { O.faults out.old ≤ O.faults out.new }
-    ensures done { IfOk result IsDone }
+    ensures done { IfOk result IsDoneStatus }
     ensures tells { IfOk result
         (λ status. Tells (poll_of job.now streams.items) status (O.told_bytes out.old) (O.told_bytes out.new)) }
     ensures cut { OnErr result

@@ -7,7 +7,7 @@ ghost use Rattle.asked_files.specs.Asked.{IsTask, asked_of, is_live};
 ghost use Rattle.asked_files.specs.Loads.{Fetches};
 ghost use Rattle.asked_files.specs.Sources.{sources_of};
 ghost use Rattle.fttcan_top.specs.Ends.{Answers, Ended, IsCarried};
-ghost use Rattle.fttcan_top.specs.Output.{IsDone};
+ghost use Rattle.fttcan_top.specs.Output.{IsDoneStatus};
 
 use crate::auditing::audit_of;
 use crate::choosing::choice_of;
@@ -26,7 +26,7 @@ fn carry_out<O: Sink>(alloc: Global, task: Task, out: &mut O) -> Result<Status, 
     requires task { IsTask task }
     requires alone { is_live (asked_of task) ≡ false }
     ensures faults_never_fall { O.faults out.old ≤ O.faults out.new }
-    ensures done { IfOk result IsDone }
+    ensures done { IfOk result IsDoneStatus }
     ensures carried { IsCarried (asked_of task) (Rose (O.faults out.old) (O.faults out.new))
         (O.told_bytes out.old) (O.told_bytes out.new) result }
 {
@@ -55,7 +55,7 @@ fn call<S: Shelf, O: Sink>(
     shelf: &mut S,
     out: &mut O,
 ) -> Result<Status, Stop>
-    ensures done { IfOk result IsDone }
+    ensures done { IfOk result IsDoneStatus }
     ensures ended { Ended (command_of (map string_bytes words.now)) (S.told_files shelf.old) (S.fetches shelf.old)
         (S.fetches shelf.new) (Rose (S.faults shelf.old) (S.faults shelf.new))
         (Rose (O.faults out.old) (O.faults out.new)) (O.told_bytes out.old) (O.told_bytes out.new) result }

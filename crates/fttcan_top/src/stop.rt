@@ -3,7 +3,7 @@
 ghost use Rattle.std.specs.Prelude.{◌≡◌, ◌≤◌, IfOk};
 ghost use Rattle.ftt_io.specs.Counts.{Rose};
 ghost use Rattle.fttcan_top.specs.Ends.{IsStatusOf, refusal_of};
-ghost use Rattle.fttcan_top.specs.Output.{IsDone, Says, message_of};
+ghost use Rattle.fttcan_top.specs.Output.{IsDoneStatus, Says, message_of};
 
 use crate::status::Status;
 use asked_files::Stop;
@@ -28,7 +28,7 @@ pub fn say<R: Sink>(err: &mut R, text: &str, status: Status) -> Status
 /// Says on the error sink why the call stopped, where it did, and answers its status. Where memory runs out for the
 /// line of a refused file, it ends so.
 pub fn tell<R: Sink>(alloc: Global, ended: &Result<Status, Stop>, err: &mut R) -> Status
-    requires done { IfOk ended.now IsDone }
+    requires done { IfOk ended.now IsDoneStatus }
     ensures status { IsStatusOf ended.now result }
     ensures message { Says (R.told_bytes err.old) (R.told_bytes err.new) (Rose (R.faults err.old) (R.faults err.new))
         (message_of result (refusal_of ended.now)) }

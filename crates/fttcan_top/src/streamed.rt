@@ -5,7 +5,7 @@ ghost use Rattle.ftt_io.specs.Counts.{Rose};
 ghost use Rattle.ftt_io.specs.Puts.{Puts, PutsPrefix};
 ghost use Rattle.asked_files.specs.Asked.{Asked, IsJob, log_of};
 ghost use Rattle.fttcan_top.specs.Ends.{IsCarried, PutsPart};
-ghost use Rattle.fttcan_top.specs.Output.{IsDone, Tells};
+ghost use Rattle.fttcan_top.specs.Output.{IsDoneStatus, Tells};
 ghost use Rattle.fttcan_top.specs.Streamed.{IsOfReport};
 
 use crate::rows::put_rows;
@@ -78,7 +78,7 @@ pub fn write_log<O: Sink>(
 ) -> Result<Status, Cut>
     requires job { IsJob job.now }
     ensures faults_never_fall { O.faults out.old ≤ O.faults out.new }
-    ensures done { IfOk result IsDone }
+    ensures done { IfOk result IsDoneStatus }
     ensures tells { IfOk result
         (λ status. Tells (log_of job.now None report) status (O.told_bytes out.old) (O.told_bytes out.new)) }
     ensures cut { OnErr result (PutsPart (log_of job.now None report) (O.told_bytes out.old) (O.told_bytes out.new)) }
@@ -103,7 +103,7 @@ pub fn write_log<O: Sink>(
 pub fn write_handed<O: Sink>(alloc: Global, job: &Job, at: u32, out: &mut O) -> Result<Status, Cut>
     requires job { IsJob job.now }
     ensures faults_never_fall { O.faults out.old ≤ O.faults out.new }
-    ensures done { IfOk result IsDone }
+    ensures done { IfOk result IsDoneStatus }
     ensures tells { IfOk result
         (λ status. Tells (log_of job.now None false) status (O.told_bytes out.old) (O.told_bytes out.new)) }
     ensures cut { OnErr result (PutsPart (log_of job.now None false) (O.told_bytes out.old) (O.told_bytes out.new)) }
@@ -119,8 +119,8 @@ pub fn write_handed<O: Sink>(alloc: Global, job: &Job, at: u32, out: &mut O) -> 
 
 /// How a run ended that was written while it went on, as an answer to a task.
 pub fn as_answer(ended: Result<Status, Cut>) -> Result<Status, Stop>
-    requires done { IfOk ended IsDone }
-    ensures done { IfOk result IsDone }
+    requires done { IfOk ended IsDoneStatus }
+    ensures done { IfOk result IsDoneStatus }
     ensures carried { (asked_for : Asked) (faults faults_after : ℕ) (old new : Option (List ℕ))
         → IfOk ended (λ status. Tells asked_for status old new) → OnErr ended (PutsPart asked_for old new)
         → (IsErrOf ended Cut.Write → Rose faults faults_after)

@@ -5,7 +5,7 @@ ghost use Rattle.ftt_io.specs.Counts.{Rose};
 ghost use Rattle.asked_files.specs.Asked.{Asked, IsJob};
 ghost use Rattle.asked_files.specs.Inputs.{IsToCheck};
 ghost use Rattle.fttcan_top.specs.Ends.{IsCarried};
-ghost use Rattle.fttcan_top.specs.Output.{IsCheckText, IsDone, IsLiveLog, IsLog, IsOutput, IsPlanText, IsSummary, breach_line, report_if, status_of};
+ghost use Rattle.fttcan_top.specs.Output.{IsCheckText, IsDoneStatus, IsLiveLog, IsLog, IsOutput, IsPlanText, IsSummary, breach_line, report_if, status_of};
 
 use crate::rows::put_rows;
 use crate::status::Status;
@@ -36,7 +36,7 @@ pub struct Outcome {
 /// The status of a run, each of whose changes was accepted or not.
 pub fn status_when(accepted: bool) -> Status
     ensures status { result ≡ if accepted then Status.Done else Status.Refused }
-    ensures done { IsDone result }
+    ensures done { IsDoneStatus result }
 {
     if accepted {
         Status::Done
@@ -48,7 +48,7 @@ pub fn status_when(accepted: bool) -> Status
 /// The status of a run with this history.
 pub fn status_of(history: &[Event]) -> Status
     ensures status { result ≡ status_of history.now }
-    ensures done { IsDone result }
+    ensures done { IsDoneStatus result }
 {
     status_when(all_accepted(history))
 }
@@ -79,7 +79,7 @@ fn push_report(
 pub fn tail_of(alloc: Global, job: &Job, count: u16, report: bool) -> Result<Outcome, AllocError>
     requires job { IsJob job.now }
     ensures log { IfOk result (λ outcome. IsLog job.now (Some count) report outcome.status outcome.text.items) }
-    ensures done { IfOk result (λ outcome. IsDone outcome.status) }
+    ensures done { IfOk result (λ outcome. IsDoneStatus outcome.status) }
 {
     let system = &job.system;
     let owners = job.system.owners.as_slice();
@@ -108,7 +108,7 @@ pub fn live_log_of<T: Threads + Wait + Sync, G: Gate>(
 ) -> Result<Outcome, AllocError>
     requires job { IsJob job }
     ensures log { IfOk result (λ outcome. IsLiveLog job report outcome.status outcome.text.items) }
-    ensures done { IfOk result (λ outcome. IsDone outcome.status) }
+    ensures done { IfOk result (λ outcome. IsDoneStatus outcome.status) }
 {
     let Job {
         system,
@@ -132,7 +132,7 @@ pub fn live_log_of<T: Threads + Wait + Sync, G: Gate>(
 /// Runs the input that a number makes, and answers with the summary.
 pub fn summary_of_made(alloc: Global, number: u32) -> Result<Outcome, AllocError>
     ensures summary { IfOk result (λ outcome. IsSummary number outcome.status outcome.text.items) }
-    ensures done { IfOk result (λ outcome. IsDone outcome.status) }
+    ensures done { IfOk result (λ outcome. IsDoneStatus outcome.status) }
 {
     let made = generate(alloc, number)?;
     let requests = made.requests.as_slice();
@@ -154,7 +154,7 @@ pub fn summary_of_made(alloc: Global, number: u32) -> Result<Outcome, AllocError
 pub fn plan_of(alloc: Global, job: &Job) -> Result<Outcome, AllocError>
     requires job { IsJob job.now }
     ensures plan { IfOk result (λ outcome. IsPlanText job.now outcome.status outcome.text.items) }
-    ensures done { IfOk result (λ outcome. IsDone outcome.status) }
+    ensures done { IfOk result (λ outcome. IsDoneStatus outcome.status) }
 {
     let master = answer(alloc, &job.system.rules, job.steps.as_slice())?;
     let certificate = master.certificate(alloc)?;
@@ -190,7 +190,7 @@ pub fn check_of(alloc: Global, job: &Job, certificate: &Certificate) -> Result<O
     requires certificate { IsToCheck certificate.now }
     ensures answer { IfOk result
         (λ outcome. IsCheckText job.now certificate.now outcome.status outcome.text.items) }
-    ensures done { IfOk result (λ outcome. IsDone outcome.status) }
+    ensures done { IfOk result (λ outcome. IsDoneStatus outcome.status) }
 {
     let rules = &job.system.rules;
     let placed = asked_table(alloc, rules, job.steps.as_slice())?;
@@ -208,9 +208,9 @@ pub fn check_of(alloc: Global, job: &Job, certificate: &Certificate) -> Result<O
 
 /// Writes an answer that was worked out, row by row.
 pub fn put_answer<O: Sink>(answer: Result<Outcome, AllocError>, out: &mut O) -> Result<Status, Stop>
-    requires done { IfOk answer (λ outcome. IsDone outcome.status) }
+    requires done { IfOk answer (λ outcome. IsDoneStatus outcome.status) }
     ensures faults_never_fall { O.faults out.old ≤ O.faults out.new }
-    ensures done { IfOk result IsDone }
+    ensures done { IfOk result IsDoneStatus }
     ensures carried { (asked_for : Asked)
         → IfOk answer (λ outcome. IsOutput asked_for outcome.status outcome.text.items)
         → IsCarried asked_for (Rose (O.faults out.old) (O.faults out.new))

@@ -16,14 +16,14 @@ use Rattle.master_core.specs.Orders.{IsOrder}
 use Rattle.trigger_kind.specs.Kind.{IsSlots}
 use Rattle.system_file.specs.SystemFile.{IsSystem}
 use Rattle.system_file.specs.declared.system.System.{System}
-use Rattle.kept_run.specs.Progress.{AreReady, IsUnderWay}
+use Rattle.kept_run.specs.Progress.{AreNodesReady, IsUnderWay}
 use Rattle.kept_run.specs.Setting.{Setting}
 use Rattle.replay_run.specs.declared.bus.Bus.{Bus}
 use Rattle.replay_run.specs.Progress.{GoesStill, IsGoing}
 use Rattle.standby.specs.Core.{core_of}
 use Rattle.standby.specs.Following.{StandbyView}
 use Rattle.handover_run.specs.declared.handed.Handed.{Handed}
-use Rattle.handover_run.specs.Following.{Follows, IsFollowing}
+use Rattle.handover_run.specs.Following.{IsFollowing, IsStillFollowing}
 use Rattle.handover_run.specs.Handed.{IsHanded}
 use Rattle.replay_run.specs.Runs.{CanRun, RunsStill}
 
@@ -51,7 +51,7 @@ module _ (laws : OneCore) where
       }
 
   ready-behind : (setting : Setting) (one other : List Event) (trace : List TimedFrame) (nodes : NodesView) → core_of one ≡ core_of other
-      → AreReady setting one trace nodes → AreReady setting other trace nodes
+      → AreNodesReady setting one trace nodes → AreNodesReady setting other trace nodes
   ready-behind setting one other trace nodes same ready = record {
     same_layout = ready.same_layout;
     same_bytes = ready.same_bytes;
@@ -84,7 +84,7 @@ module _ (laws : OneCore) where
       → master.history ≡ standby.history → IsPlainlyLegal master.rules master.history → master.keeps ≡ run.bus.master.keeps
       → RunsStill IsHanded run (record run { bus = record run.bus { master = master }; standby = None })
   taken-over run standby master there rules history plain events = λ setting whole trace is.
-      let follows : IsFollowing setting.rules whole standby = subst (Follows setting.rules whole) there is.followed in
+      let follows : IsFollowing setting.rules whole standby = subst (IsStillFollowing setting.rules whole) there is.followed in
       let same_rules : master.rules ≡ setting.rules = rules ∙ follows.same_rules in
       let same : core_of whole ≡ core_of master.history = follows.same_core ∙ ap core_of (sym history) in
       record {
@@ -102,7 +102,7 @@ module _ (laws : OneCore) where
       → CanRun IsHanded run → next_of master.history ≡ next_of run.bus.master.history
   next-taken-over run standby master there history can =
       let is = can.3 in
-      let follows : IsFollowing can.0.rules can.1 standby = subst (Follows can.0.rules can.1) there is.followed in
+      let follows : IsFollowing can.0.rules can.1 standby = subst (IsStillFollowing can.0.rules can.1) there is.followed in
       let same : core_of can.1 ≡ core_of master.history = follows.same_core ∙ ap core_of (sym history) in
       laws.next master.history run.bus.master.history (sym same ∙ is.same_core)
 
@@ -126,7 +126,7 @@ begins-handed setting run standby going empty there rules none quiet = record {
   plain = record { legal = tt; now = tt };
   under_way = subst (λ (h : List Event). IsUnderWay setting h []) empty going.way.under_way;
   same_core = ap core_of (sym empty);
-  followed = subst (λ (s : Option StandbyView). Follows setting.rules [] s) (sym there) (record { same_rules = rules; same_core = ap core_of (sym none) });
+  followed = subst (λ (s : Option StandbyView). IsStillFollowing setting.rules [] s) (sym there) (record { same_rules = rules; same_core = ap core_of (sym none) });
   quiet = quiet;
 }
 

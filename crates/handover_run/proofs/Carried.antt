@@ -18,7 +18,7 @@ use Rattle.replay_run.specs.Progress.{IsBroughtOn}
 use Rattle.standby.specs.Core.{Item, core_of, items_of}
 use Rattle.standby.specs.Following.{StandbyView}
 use Rattle.handover_run.specs.declared.handed.Handed.{Handed}
-use Rattle.handover_run.specs.Following.{Follows, IsFollowing, IsRightBehind}
+use Rattle.handover_run.specs.Following.{IsFollowing, IsRightBehind, IsStillFollowing}
 use Rattle.handover_run.specs.Handed.{IsHanded}
 use Rattle.replay_run.specs.Runs.{IsRunOn}
 use Rattle.handover_run.proofs.Behind.{OneCore, under-way-behind}
@@ -56,7 +56,7 @@ module _ (laws : OneCore) (goes : GoesOnPlain) (setting : Setting) (whole : List
       ∙ sym (ap core_of on.history)
 
   pub handed-on : (calls : List Call) → map call_of after.bus.master.history ≡ map call_of own ++ calls
-      → Follows setting.rules (whole ++ on.event ∷ []) after.standby → after.quiet ≡ all_accepted (whole ++ on.event ∷ [])
+      → IsStillFollowing setting.rules (whole ++ on.event ∷ []) after.standby → after.quiet ≡ all_accepted (whole ++ on.event ∷ [])
       → IsRunOn IsHanded setting whole trace after.bus.master.history frames calls after
   handed-on calls answered follows quiet = record {
     event = on.event;
@@ -77,14 +77,14 @@ module _ (laws : OneCore) (goes : GoesOnPlain) (setting : Setting) (whole : List
 
   -- where a cycle was opened
   pub opened-on : map call_of after.bus.master.history ≡ map call_of own ++ opens ∷ []
-      → ((cycle mask : ℕ) → IsRight setting.rules whole (Open cycle mask) → Follows setting.rules (whole ++ Open cycle mask ∷ []) after.standby)
+      → ((cycle mask : ℕ) → IsRight setting.rules whole (Open cycle mask) → IsStillFollowing setting.rules (whole ++ Open cycle mask ∷ []) after.standby)
       → after.quiet ≡ run.quiet → IsRunOn IsHanded setting whole trace after.bus.master.history frames (opens ∷ []) after
   opened-on answered follow same =
       let opening : IsOpening on.event = opening-of on.event (answered-by own after.bus.master.history on.event (opens ∷ []) on.history answered) in
       let right : IsRight setting.rules whole (Open opening.cycle opening.mask) =
       subst (λ (e : Event). IsRight setting.rules whole e) opening.is (right-behind setting.rules whole on.event whole-plain.legal) in
-      let follows : Follows setting.rules (whole ++ on.event ∷ []) after.standby =
-      subst (λ (e : Event). Follows setting.rules (whole ++ e ∷ []) after.standby) (sym opening.is) (follow opening.cycle opening.mask right) in
+      let follows : IsStillFollowing setting.rules (whole ++ on.event ∷ []) after.standby =
+      subst (λ (e : Event). IsStillFollowing setting.rules (whole ++ e ∷ []) after.standby) (sym opening.is) (follow opening.cycle opening.mask right) in
       let quiet : all_accepted (whole ++ on.event ∷ []) ≡ all_accepted whole =
       ap (λ (e : Event). all_accepted (whole ++ e ∷ [])) opening.is ∙ quiet-push whole (Open opening.cycle opening.mask) ∙ and-true (all_accepted whole) in
       handed-on (opens ∷ []) answered follows (same ∙ is.quiet ∙ sym quiet)
@@ -102,7 +102,7 @@ module _ (laws : OneCore) (goes : GoesOnPlain) (setting : Setting) (whole : List
 
   -- where an act was answered
   pub answered-on : (caller : ℕ) (act : Act) → map call_of after.bus.master.history ≡ map call_of own ++ asked caller act ∷ []
-      → Follows setting.rules (whole ++ on.event ∷ []) after.standby → after.quiet ≡ (run.quiet && refuses_nothing on.event)
+      → IsStillFollowing setting.rules (whole ++ on.event ∷ []) after.standby → after.quiet ≡ (run.quiet && refuses_nothing on.event)
       → IsRunOn IsHanded setting whole trace after.bus.master.history frames (asked caller act ∷ []) after
   answered-on caller act answered follows quiet =
       let all : (run.quiet && refuses_nothing on.event) ≡ all_accepted (whole ++ on.event ∷ []) =

@@ -11,7 +11,7 @@ use Rattle.master_core.specs.declared.event.Event.TheVariants.{Submit, Open}
 use Rattle.master_core.specs.History.{IsRight}
 use Rattle.standby.specs.Core.{core_of, items_of}
 use Rattle.standby.specs.Following.{IsChanged, IsOpened, StandbyView, due_frames}
-use Rattle.handover_run.specs.Following.{Follows, IsAcceptedBehind, IsFollowing, IsRightBehind}
+use Rattle.handover_run.specs.Following.{IsAcceptedBehind, IsFollowing, IsRightBehind, IsStillFollowing}
 
 pub record FollowsEach : Type 0 where
   pub opened : (rules : Rules) (whole own new : List Event) (cycle mask : ℕ) (frames : List DataFrame) → core_of whole ≡ core_of own
@@ -49,23 +49,23 @@ accepted-behind {caller = caller} {from = from} {change = change} {verdict = ver
     }
 
 -- what holds of each standby that follows
-pub if-followed : (rules : Rules) (whole : List Event) (standby : Option StandbyView) (P : StandbyView → Type 0) → Follows rules whole standby
+pub if-followed : (rules : Rules) (whole : List Event) (standby : Option StandbyView) (P : StandbyView → Type 0) → IsStillFollowing rules whole standby
     → ((one : StandbyView) → IsFollowing rules whole one → P one) → IfSome standby P
 if-followed rules whole None P follows each = tt
 if-followed rules whole (Some one) P follows each = each one follows
 
 -- a standby follows each opening, where it could be told
 pub each-opening : {T E G : Type 0} (old new : Option StandbyView) (told : Result T E)
-    → ((rules : Rules) (whole : List Event) (cycle mask : ℕ) → Follows rules whole old → IsRight rules whole (Open cycle mask)
-    → OnOk told (Follows rules (whole ++ Open cycle mask ∷ []) new))
-    → (((rules : Rules) (whole : List Event) (cycle mask : ℕ) → Follows rules whole old → IsRight rules whole (Open cycle mask)
-    → Follows rules (whole ++ Open cycle mask ∷ []) new) → G) → OnOk told G
+    → ((rules : Rules) (whole : List Event) (cycle mask : ℕ) → IsStillFollowing rules whole old → IsRight rules whole (Open cycle mask)
+    → OnOk told (IsStillFollowing rules (whole ++ Open cycle mask ∷ []) new))
+    → (((rules : Rules) (whole : List Event) (cycle mask : ℕ) → IsStillFollowing rules whole old → IsRight rules whole (Open cycle mask)
+    → IsStillFollowing rules (whole ++ Open cycle mask ∷ []) new) → G) → OnOk told G
 each-opening old new (Ok value) each gives = gives each
 each-opening old new (Err why) each gives = tt
 
 -- and each other event
 pub each-answer : {T E G : Type 0} (old new : Option StandbyView) (event : Event) (told : Result T E)
-    → ((rules : Rules) (whole : List Event) → Follows rules whole old → OnOk told (Follows rules (whole ++ event ∷ []) new))
-    → (((rules : Rules) (whole : List Event) → Follows rules whole old → Follows rules (whole ++ event ∷ []) new) → G) → OnOk told G
+    → ((rules : Rules) (whole : List Event) → IsStillFollowing rules whole old → OnOk told (IsStillFollowing rules (whole ++ event ∷ []) new))
+    → (((rules : Rules) (whole : List Event) → IsStillFollowing rules whole old → IsStillFollowing rules (whole ++ event ∷ []) new) → G) → OnOk told G
 each-answer old new event (Ok value) each gives = gives each
 each-answer old new event (Err why) each gives = tt

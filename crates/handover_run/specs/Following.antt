@@ -18,9 +18,9 @@ pub record IsFollowing (rules : Rules) (whole : List Event) (standby : StandbyVi
   pub same_core : core_of whole ≡ core_of standby.history
 
 -- so it is with the standby, where it is there still
-abbrev pub Follows : Rules → List Event → Option StandbyView → Type 0
-Follows rules whole None = Unit {0}
-Follows rules whole (Some standby) = IsFollowing rules whole standby
+abbrev pub IsStillFollowing : Rules → List Event → Option StandbyView → Type 0
+IsStillFollowing rules whole None = Unit {0}
+IsStillFollowing rules whole (Some standby) = IsFollowing rules whole standby
 
 -- the frames begin with the trigger frames that are due next
 pub record HearsDue (standby : StandbyView) (frames : List TimedFrame) : Type 0 where

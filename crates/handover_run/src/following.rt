@@ -9,7 +9,7 @@ ghost use Rattle.master_core.specs.History.{IsRight, is_open, next_of};
 ghost use Rattle.standby.specs.Core.{core_of};
 ghost use Rattle.standby.specs.Following.{IsChanged, IsOpened, due_frames};
 ghost use Rattle.standby.specs.declared.follow_fault.FollowFault.TheVariants.{Memory};
-ghost use Rattle.handover_run.specs.Following.{Follows, HasOperator, HearsDue, IsAcceptedBehind, IsRightBehind};
+ghost use Rattle.handover_run.specs.Following.{HasOperator, HearsDue, IsAcceptedBehind, IsRightBehind, IsStillFollowing};
 
 use can_frame::TimedFrame;
 use change_protocol::Change;
@@ -110,9 +110,9 @@ pub fn follow_opening(
     requires slots { IfSome standby.old (λ one. slots ≡ one.rules.slots) }
     requires due { IfSome standby.old (λ one. HearsDue one frames.now) }
     requires next { IfSome standby.old (λ one. next_of one.history < openings_end) }
-    ensures followed { (rules : Rules) (whole : List EventOf) (cycle mask : ℕ) → Follows rules whole standby.old
+    ensures followed { (rules : Rules) (whole : List EventOf) (cycle mask : ℕ) → IsStillFollowing rules whole standby.old
         → IsRight rules whole (Open cycle mask)
-        → OnOk result (Follows rules (whole ++ Open cycle mask ∷ []) standby.new) }
+        → OnOk result (IsStillFollowing rules (whole ++ Open cycle mask ∷ []) standby.new) }
 {
     follows_each();
     match standby {
@@ -134,8 +134,8 @@ pub fn follow_answer(
     requires operator { HasOperator event.now }
     requires closed { is_open event.now ≡ false }
     requires right { IfSome standby.old (λ one. IsRightBehind one event.now) }
-    ensures followed { (rules : Rules) (whole : List EventOf) → Follows rules whole standby.old
-        → OnOk result (Follows rules (whole ++ event.now ∷ []) standby.new) }
+    ensures followed { (rules : Rules) (whole : List EventOf) → IsStillFollowing rules whole standby.old
+        → OnOk result (IsStillFollowing rules (whole ++ event.now ∷ []) standby.new) }
 {
     match standby {
         Some(standby) => tell_event(standby, alloc, event),

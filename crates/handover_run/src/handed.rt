@@ -81,14 +81,14 @@ impl Handed {
 
 impl Runs for Handed {
     ghost use Rattle.kept_run.specs.Setting.{Setting};
-    ghost use Rattle.replay_run.specs.Progress.{IsOnBus};
+    ghost use Rattle.replay_run.specs.Progress.{IsKeptOnBus};
     ghost use Rattle.handover_run.specs.Handed.{IsHanded, on-bus};
 
     ghost Setting = { Setting };
 
     ghost goes = { IsHanded };
 
-    ghost keeps = { IsOnBus };
+    ghost keeps = { IsKeptOnBus };
 
     ghost bus = { λ handed. handed.bus };
 

@@ -5,10 +5,10 @@ ghost use Rattle.ftt_io.specs.Counts.{Rose};
 ghost use Rattle.system_file.specs.SystemFile.{IsSystem};
 ghost use Rattle.requests_file.specs.RequestsFile.{AreLegal};
 ghost use Rattle.steps_file.specs.StepsFile.{AreLegalSteps};
-ghost use Rattle.replay_run.specs.Begun.{IsBegun};
+ghost use Rattle.replay_run.specs.Begun.{IsRunBegun};
 ghost use Rattle.replay_run.specs.Run.{IsRun};
 ghost use Rattle.replay_run.specs.Whole.{IsCutOff};
-ghost use Rattle.replay_run.specs.Written.{IsCut, IsStopped};
+ghost use Rattle.replay_run.specs.Written.{IsRunCut, IsStopped};
 ghost use Rattle.handover_run.specs.HandedOver.{IsHandedOver, IsHeardWhole};
 
 use crate::handed::Handed;
@@ -35,7 +35,7 @@ fn log_handed<L: Listener>(
     requires requests { AreLegal system.now.owners requests.now }
     ensures heard { IfOk result
         (λ quiet. IsHeardWhole L.heard system.now steps.now requests.now quiet listener.old listener.new) }
-    ensures cut { IfErr result (IsCutOff L.heard L.broke (IsBegun system.now steps.now requests.now)
+    ensures cut { IfErr result (IsCutOff L.heard L.broke (IsRunBegun system.now steps.now requests.now)
         (IsRun system.now steps.now requests.now) listener.old listener.new) }
 {
     promise();
@@ -69,7 +69,7 @@ pub fn replay_handed<O: Sink>(
     ensures faults_never_fall { O.faults out.old ≤ O.faults out.new }
     ensures written { IfOk result (λ quiet. IsHandedOver system.now steps.now requests.now quiet
         (O.told_bytes out.old) (O.told_bytes out.new)) }
-    ensures cut { OnErr result (IsCut system.now steps.now requests.now (O.told_bytes out.old) (O.told_bytes out.new)) }
+    ensures cut { OnErr result (IsRunCut system.now steps.now requests.now (O.told_bytes out.old) (O.told_bytes out.new)) }
     ensures stopped { IsErrOf result Cut.Memory
         → IsStopped system.now steps.now requests.now (O.told_bytes out.old) (O.told_bytes out.new) }
     ensures failed { IsErrOf result Cut.Write → Rose (O.faults out.old) (O.faults out.new) }

@@ -21,11 +21,11 @@ use Rattle.async_window.specs.declared.request.Owner.{Owner}
 use Rattle.async_window.specs.declared.request.Request.{Request}
 use Rattle.trigger_kind.specs.Kind.{opening_identifier}
 use Rattle.node_model.specs.Node.{NodeState, NodeView, after_frame, after_hearing, counted, entries_of, is_own_slot, learnt}
-use Rattle.node_model.specs.Own.{Stands}
+use Rattle.node_model.specs.Own.{StandsOnBus}
 use Rattle.node_model.proofs.Shared.{instance-of_own}
 use Rattle.cycle_engine.specs.Cycle.{FitsWindow}
-use Rattle.cycle_engine.specs.Nodes.{CanLearn, FitsOrder, HaveSpare, IsBefore, IsBus, IsKnown, IsNumber, IsOwned, NodesView, heard_by, learnt_by, opening_of, states_of}
-use Rattle.kept_run.specs.Progress.{AreReady, IsUnderWay}
+use Rattle.cycle_engine.specs.Nodes.{CanLearn, FitsOrder, HaveSpare, IsBefore, IsBus, IsNumber, IsOwned, IsSlotKnown, NodesView, heard_by, learnt_by, opening_of, states_of}
+use Rattle.kept_run.specs.Progress.{AreNodesReady, IsUnderWay}
 use Rattle.kept_run.specs.Setting.{IsSetting, Setting}
 use Rattle.kept_run.proofs.Histories.{next_of-closed, next_of-push, placed_of-push, unchanged-closed}
 use Rattle.kept_run.proofs.Lists.{Contains-from_map}
@@ -66,7 +66,7 @@ numbers-heard frames (node ∷ nodes) =
 -- Nodes that learn a list
 
 stands-learnt : (layout : CycleLayout) (owners : List Owner) (requests : List Request) (known placed : List Placed) (past : List TimedFrame) (next : ℕ) (node : NodeState)
-    → Stands layout owners requests known past next node → Stands layout owners requests placed past next (learnt placed node)
+    → StandsOnBus layout owners requests known past next node → StandsOnBus layout owners requests placed past next (learnt placed node)
 stands-learnt layout owners requests known placed past next node stands = record {
   same_layout = stands.same_layout;
   own_entries = refl;
@@ -91,8 +91,8 @@ bus-learnt layout owners requests known placed past next nodes true well bus up_
     record {
       well_placed = well;
       are_owners = bus.are_owners;
-      stand = All-map (Stands layout owners requests placed past next) (learnt placed) nodes
-          (All-weaker (Stands layout owners requests known past next) (λ node. Stands layout owners requests placed past next (learnt placed node))
+      stand = All-map (StandsOnBus layout owners requests placed past next) (learnt placed) nodes
+          (All-weaker (StandsOnBus layout owners requests known past next) (λ node. StandsOnBus layout owners requests placed past next (learnt placed node))
           (λ node stands. stands-learnt layout owners requests known placed past next node stands) nodes bus.stand);
       owned = All-weaker (IsOwned owners nodes) (IsOwned owners (map (learnt placed) nodes))
           (λ request owned. owned-same owners nodes (map (learnt placed) nodes) request same owned) requests bus.owned;
@@ -108,7 +108,7 @@ well-learned placed false well = tt
 
 pub ready-at_first : (setting : Setting) (nodes : NodesView) → nodes.layout ≡ setting.layout → setting.sends ≡ bytes_of
     → IsBus setting.layout setting.owners setting.requests [] [] 0 (states_of nodes.nodes)
-    → ((number : ℕ) → number < setting.rules.nodes → IsNumber (states_of nodes.nodes) number) → AreReady setting [] [] nodes
+    → ((number : ℕ) → number < setting.rules.nodes → IsNumber (states_of nodes.nodes) number) → AreNodesReady setting [] [] nodes
 ready-at_first setting nodes same bytes bus numbers = record {
   same_layout = same;
   same_bytes = bytes;
@@ -121,7 +121,7 @@ ready-at_first setting nodes same bytes bus numbers = record {
 -- A call that opens no cycle
 
 pub ready-answered : (setting : Setting) (trace : List TimedFrame) (nodes : NodesView) (history : List Event) (event : Event) → is_open event ≡ false
-    → AreReady setting history trace nodes → AreReady setting (history ++ event ∷ []) trace nodes
+    → AreNodesReady setting history trace nodes → AreNodesReady setting (history ++ event ∷ []) trace nodes
 ready-answered setting trace nodes history event closed ready = record {
   same_layout = ready.same_layout;
   same_bytes = ready.same_bytes;
@@ -138,13 +138,13 @@ ready-answered setting trace nodes history event closed ready = record {
 -- nodes know an instance of the slot, since each entry is that of a node
 known-instance : (layout : CycleLayout) (owners : List Owner) (requests : List Request) (count : ℕ) (placed : List Placed) (past : List TimedFrame) (next slot : ℕ) (nodes : List NodeState)
     → IsBus layout owners requests placed past next nodes → ((number : ℕ) → number < count → IsNumber nodes number) → All (IsOfNode count) placed
-    → (i : Instance) → instance_in placed slot next ≡ Some i → IsKnown nodes next slot
+    → (i : Instance) → instance_in placed slot next ≡ Some i → IsSlotKnown nodes next slot
 known-instance layout owners requests count placed past next slot nodes bus numbers of_nodes i found =
     let sends = subst (λ x. IfSome x (λ y. Contains placed y.placed × (y.placed.entry.slot ≡ slot) × MaySend y.placed y.number next)) found (instance_in-sound placed slot next) in
     let few = All-contains (IsOfNode count) placed i.placed of_nodes sends.0 in
     let its = Contains-from_map (λ (node : NodeState). node.number) nodes i.placed.entry.node (numbers i.placed.entry.node few) in
     let node : NodeState = its.0 in
-    let stands = All-contains (Stands layout owners requests placed past next) nodes node bus.stand its.1 in
+    let stands = All-contains (StandsOnBus layout owners requests placed past next) nodes node bus.stand its.1 in
     let own : instance_in (entries_of node.number placed) slot next ≡ Some i =
     instance-of_own node.number placed slot next i bus.well_placed found (sym its.2) in
     let known : instance_in node.entries slot next ≡ Some i = ap (λ entries. instance_in entries slot next) stands.own_entries ∙ own in
@@ -189,26 +189,26 @@ module _ (setting : Setting) (history : List Event) (trace : List TimedFrame) (n
   after = learnt_by order.learned (states_of nodes.nodes)
 
   -- the nodes are before the cycle of the order
-  pub order-next : AreReady setting history trace nodes → IsOrder setting.rules history order → All (λ node. node.next ≡ order.cycle) (states_of nodes.nodes)
+  pub order-next : AreNodesReady setting history trace nodes → IsOrder setting.rules history order → All (λ node. node.next ≡ order.cycle) (states_of nodes.nodes)
   order-next ready is =
-      All-weaker (Stands setting.layout setting.owners setting.requests ready.known trace (next_of history)) (λ node. node.next ≡ order.cycle)
+      All-weaker (StandsOnBus setting.layout setting.owners setting.requests ready.known trace (next_of history)) (λ node. node.next ≡ order.cycle)
       (λ node stands. stands.next_cycle ∙ sym is.cycle) (states_of nodes.nodes) ready.bus.stand
 
   -- the window is not above the largest one
-  pub order-window : IsSetting setting → AreReady setting history trace nodes → IsOrder setting.rules history order → order.l ≤ nodes.layout.window
+  pub order-window : IsSetting setting → AreNodesReady setting history trace nodes → IsOrder setting.rules history order → order.l ≤ nodes.layout.window
   order-window known ready is = subst (λ l. order.l ≤ l.window) (sym ready.same_layout) (subst (λ w. order.l ≤ w) known.same_window is.fits)
 
   -- the flagged slots are slots of the layout
-  pub order-slots : IsSetting setting → AreReady setting history trace nodes → IsOrder setting.rules history order → order.mask < 2 ^ nodes.layout.slots
+  pub order-slots : IsSetting setting → AreNodesReady setting history trace nodes → IsOrder setting.rules history order → order.mask < 2 ^ nodes.layout.slots
   order-slots known ready is = subst (λ l. order.mask < 2 ^ l.slots) (sym ready.same_layout) (subst (λ n. order.mask < 2 ^ n) known.same_slots is.slots)
 
-  bus-now : IsWellPlaced (placed_of history) → AreReady setting history trace nodes → IsOrder setting.rules history order
+  bus-now : IsWellPlaced (placed_of history) → AreNodesReady setting history trace nodes → IsOrder setting.rules history order
       → IsBus setting.layout setting.owners setting.requests (placed_of history) trace (next_of history) after
   bus-now well ready is =
       subst (λ o. IsBus setting.layout setting.owners setting.requests (placed_of history) trace (next_of history) (learnt_by o (states_of nodes.nodes))) (sym is.learned)
       (bus-learnt setting.layout setting.owners setting.requests ready.known (placed_of history) trace (next_of history) (states_of nodes.nodes) (is_changed history) well ready.bus ready.up_to_date)
 
-  fits-now : IsWellPlaced (placed_of history) → IsLegal setting.rules history → AreReady setting history trace nodes → IsOrder setting.rules history order
+  fits-now : IsWellPlaced (placed_of history) → IsLegal setting.rules history → AreNodesReady setting history trace nodes → IsOrder setting.rules history order
       → FitsOrder order.l (record { cycle = next_of history; mask = order.mask; placed = placed_of history }) after
   fits-now well legal ready is = record {
     width = is.window;
@@ -220,7 +220,7 @@ module _ (setting : Setting) (history : List Event) (trace : List TimedFrame) (n
   }
 
   -- the nodes that have learnt it stand for a bus before the cycle of the order
-  pub order-before : IsWellPlaced (placed_of history) → IsUnderWay setting history trace → AreReady setting history trace nodes → IsOrder setting.rules history order
+  pub order-before : IsWellPlaced (placed_of history) → IsUnderWay setting history trace → AreNodesReady setting history trace nodes → IsOrder setting.rules history order
       → IsBefore nodes.layout setting.owners setting.requests (placed_of history) trace order after
   order-before well way ready is =
       subst (λ l. IsBefore l setting.owners setting.requests (placed_of history) trace order after) (sym ready.same_layout)
@@ -231,10 +231,10 @@ module _ (setting : Setting) (history : List Event) (trace : List TimedFrame) (n
       })
 
   -- a cycle was run
-  pub ready-run : AreReady setting history trace nodes → IsOrder setting.rules history order
+  pub ready-run : AreNodesReady setting history trace nodes → IsOrder setting.rules history order
       → (new : NodesView) (frames : List TimedFrame) → new.layout ≡ nodes.layout → states_of new.nodes ≡ heard_by frames after
       → IsBus nodes.layout setting.owners setting.requests (placed_of history) (trace ++ frames) (order.cycle + 1) (states_of new.nodes)
-      → AreReady setting (history ++ Open order.cycle order.mask ∷ []) (trace ++ frames) new
+      → AreNodesReady setting (history ++ Open order.cycle order.mask ∷ []) (trace ++ frames) new
   ready-run ready is new frames same heard bus =
       let event = Open order.cycle order.mask in
       let numbers : numbers_of (states_of new.nodes) ≡ numbers_of (states_of nodes.nodes) =

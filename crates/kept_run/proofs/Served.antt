@@ -20,7 +20,7 @@ use Rattle.admission_rules.specs.declared.Rules.{Rules}
 use Rattle.master_core.specs.History.{plan_of}
 use Rattle.trigger_codec.proofs.Shared.{behind-ids}
 use Rattle.cycle_engine.specs.Cycle.{IsRequestFrame, IsSentOnce, IsSlotFrame, RunsCycle, RunsCycles, cycle_of, frames_in, of_slot}
-use Rattle.kept_run.specs.Served.{AllGuarded, AllServed, ForgetsEnds, IsInWindow, NoStrangers, frames_of}
+use Rattle.kept_run.specs.Served.{AllGuarded, AllServed, ForgetsEnds, IsSentInWindow, NoStrangers, frames_of}
 use Rattle.kept_run.proofs.Lists.{Contains-cases, Contains-filter, Contains-nil, filter-filter, filter-none, filter-same, place-of}
 use Rattle.kept_run.proofs.Opened.{AreOpenedBy}
 use Rattle.kept_run.proofs.Plans.{PlanLaws, mask-planned, mask-sendable, planned_once}
@@ -70,7 +70,7 @@ module _ {sends : Instance → List ℕ} (layout : CycleLayout) (opening : Openi
 
   -- the frame that a slot sends in the cycle lies in its window
   in_window : (openings : List Opening) (slot : ℕ) → 0 < layout.cycle → Contains openings opening
-      → (sent : IsSentOnce sends layout opening runs.later slot) → IsInWindow layout openings sent.sent
+      → (sent : IsSentOnce sends layout opening runs.later slot) → IsSentInWindow layout openings sent.sent
   in_window openings slot some_time opened sent =
       let early = sent.within in
       let after = sent.after in

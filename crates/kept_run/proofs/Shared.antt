@@ -15,7 +15,7 @@ use Rattle.master_core.specs.declared.event.Event.TheVariants.{Open}
 use Rattle.master_core.specs.History.{IsLegal, is_open, next_of, placed_of}
 use Rattle.master_core.specs.Orders.{IsOrder}
 use Rattle.kept_run.specs.Kept.{Kept}
-use Rattle.kept_run.specs.Progress.{AreReady, IsOnTheWay, IsUnderWay}
+use Rattle.kept_run.specs.Progress.{AreNodesReady, IsOnTheWay, IsUnderWay}
 use Rattle.kept_run.specs.Setting.{IsSetting, Setting}
 use Rattle.kept_run.specs.Served.{ForgetsEnds}
 pub use Rattle.kept_run.proofs.Histories.{AllAfter-parts, next_of-push}
@@ -33,7 +33,7 @@ pub record CallsBetween : Type 0 where
       → IsLegal setting.rules (history ++ calls) → IsUnderWay setting history trace → IsUnderWay setting (history ++ calls) trace
   pub ready : (setting : Setting) (history calls : List Event) (trace : List TimedFrame) (nodes : NodesView)
       → All (λ call. is_open call ≡ false) calls → IsLegal setting.rules (history ++ calls)
-      → AreReady setting history trace nodes → AreReady setting (history ++ calls) trace nodes
+      → AreNodesReady setting history trace nodes → AreNodesReady setting (history ++ calls) trace nodes
 
 -- so a run that is on the way is so behind such calls
 pub way-called : CallsBetween → (setting : Setting) (history calls : List Event) (trace : List TimedFrame) (nodes : NodesView)
@@ -66,18 +66,18 @@ way-same setting history trace nodes new layout states way =
 -- a cycle that is run by the master's order keeps a run under way and leaves its nodes ready
 pub record CyclesRun : Type 0 where
   pub before : (setting : Setting) (history : List Event) (trace : List TimedFrame) (nodes : NodesView) (order : Order)
-      → IsUnderWay setting history trace → AreReady setting history trace nodes → IsOrder setting.rules history order
+      → IsUnderWay setting history trace → AreNodesReady setting history trace nodes → IsOrder setting.rules history order
       → IsBefore nodes.layout setting.owners setting.requests (placed_of history) trace order (learnt_by order.learned (states_of nodes.nodes))
   pub under_way : (setting : Setting) (history : List Event) (trace frames : List TimedFrame) (nodes : NodesView) (order : Order)
-      → IsSetting setting → IsUnderWay setting history trace → AreReady setting history trace nodes → IsOrder setting.rules history order
+      → IsSetting setting → IsUnderWay setting history trace → AreNodesReady setting history trace nodes → IsOrder setting.rules history order
       → Follows (offered_in bytes_of nodes.layout setting.requests (opening_of order (placed_of history)))
       trace (order.cycle * nodes.layout.cycle) ((order.cycle + 1) * nodes.layout.cycle) frames
       → IsUnderWay setting (history ++ Open order.cycle order.mask ∷ []) (trace ++ frames)
   pub ready : (setting : Setting) (history : List Event) (trace frames : List TimedFrame) (nodes new : NodesView) (order : Order)
-      → IsUnderWay setting history trace → AreReady setting history trace nodes → IsOrder setting.rules history order
+      → IsUnderWay setting history trace → AreNodesReady setting history trace nodes → IsOrder setting.rules history order
       → new.layout ≡ nodes.layout → states_of new.nodes ≡ heard_by frames (learnt_by order.learned (states_of nodes.nodes))
       → IsBus nodes.layout setting.owners setting.requests (placed_of history) (trace ++ frames) (order.cycle + 1) (states_of new.nodes)
-      → AreReady setting (history ++ Open order.cycle order.mask ∷ []) (trace ++ frames) new
+      → AreNodesReady setting (history ++ Open order.cycle order.mask ∷ []) (trace ++ frames) new
 
 -- what the run of an order gives
 pub record RanOrder (order : Order) (nodes new : NodesView) (frames : List TimedFrame) : Type 0 where

@@ -23,7 +23,7 @@ pub record IsUnderWay (setting : Setting) (history : List Event) (trace : List T
 -- the nodes of a run before its next cycle: they send the number of an instance, there is one of each number, they heard
 -- the trace, and each knows its entries of a list, which is that of the placed entries where no change was accepted since
 -- the last opening
-pub record AreReady (setting : Setting) (history : List Event) (trace : List TimedFrame) (nodes : NodesView)
+pub record AreNodesReady (setting : Setting) (history : List Event) (trace : List TimedFrame) (nodes : NodesView)
     : Type 0 where
   pub same_layout : nodes.layout ≡ setting.layout
   pub same_bytes : setting.sends ≡ bytes_of
@@ -37,4 +37,4 @@ pub record IsOnTheWay (setting : Setting) (history : List Event) (trace : List T
     : Type 0 where
   pub known : IsSetting setting
   pub under_way : IsUnderWay setting history trace
-  pub ready : AreReady setting history trace nodes
+  pub ready : AreNodesReady setting history trace nodes

@@ -22,7 +22,7 @@ frames_of layout identifier first last trace =
 
 -- the frame lies in the synchronous window of the cycle in which it starts: it starts at or after (c + 1)·E - l, and
 -- ends at or before (c + 1)·E, where the worst lengths of the cycle's flagged slots sum to l
-pub record IsInWindow (layout : CycleLayout) (openings : List Opening) (sent : TimedFrame) : Type 0 where
+pub record IsSentInWindow (layout : CycleLayout) (openings : List Opening) (sent : TimedFrame) : Type 0 where
   pub opening : Opening
   pub opened : Contains openings opening
   pub cycle : opening.cycle ≡ cycle_of layout sent
@@ -40,7 +40,7 @@ pub record IsServed (sends : Instance → List ℕ) (layout : CycleLayout) (open
     (placed : Placed) (k last : ℕ) : Type 0 where
   pub sent : TimedFrame
   pub once : frames_of layout (first_identifier + placed.entry.slot) (release_of placed k) last trace ≡ sent ∷ []
-  pub in_window : IsInWindow layout openings sent
+  pub in_window : IsSentInWindow layout openings sent
   pub carries : sent.frame.bytes ≡ sends (record { placed = placed; number = k })
 
 -- every instance of these entries whose last cycle is below `next` is served
@@ -49,7 +49,7 @@ AllServed sends layout placed openings next trace = (p : Placed) (k last : ℕ) 
     → Exists p (release_of p k) → IsLastCycle p k last → last < next → IsServed sends layout openings trace p k last
 
 -- the frame starts in a cycle in which an instance of the slot may be sent
-pub record IsOwed (layout : CycleLayout) (placed : List Placed) (slot : ℕ) (sent : TimedFrame) : Type 0 where
+pub record IsFrameOwed (layout : CycleLayout) (placed : List Placed) (slot : ℕ) (sent : TimedFrame) : Type 0 where
   pub p : Placed
   pub k : ℕ
   pub stands : Contains placed p
@@ -59,7 +59,7 @@ pub record IsOwed (layout : CycleLayout) (placed : List Placed) (slot : ℕ) (se
 -- *No strangers*: no frame of a slot starts in another cycle
 abbrev pub NoStrangers : CycleLayout → List Placed → List TimedFrame → Type 0
 NoStrangers layout placed trace = (slot : ℕ) → slot < most_slots
-    → All (λ sent. sent.frame.identifier ≡ first_identifier + slot → IsOwed layout placed slot sent) trace
+    → All (λ sent. sent.frame.identifier ≡ first_identifier + slot → IsFrameOwed layout placed slot sent) trace
 
 -- the frame lies within the asynchronous window of the cycle in which it starts
 pub record IsGuarded (layout : CycleLayout) (openings : List Opening) (sent : TimedFrame) : Type 0 where

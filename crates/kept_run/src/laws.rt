@@ -24,7 +24,7 @@ ghost use Rattle.cycle_engine.specs.Nodes.{CanLearn, HaveSpare, IsBefore, IsBus,
 ghost use Rattle.cycle_engine.specs.Nodes.{heard_by, learnt_by, opening_of, states_of};
 ghost use Rattle.cycle_engine.specs.Offered.{AreAsynchronous, SendsWhole, offered_in};
 ghost use Rattle.kept_run.specs.Kept.{Kept};
-ghost use Rattle.kept_run.specs.Progress.{AreReady, IsUnderWay};
+ghost use Rattle.kept_run.specs.Progress.{AreNodesReady, IsUnderWay};
 ghost use Rattle.kept_run.specs.Setting.{IsSetting, Setting};
 ghost use Rattle.kept_run.specs.Served.{ForgetsEnds};
 
@@ -63,7 +63,7 @@ pub fn beginning()
     ensures ready { (setting : Setting) (nodes : NodesView) → nodes.layout ≡ setting.layout → setting.sends ≡ bytes_of
         → IsBus setting.layout setting.owners setting.requests [] [] 0 (states_of nodes.nodes)
         → ((number : ℕ) → number < setting.rules.nodes → IsNumber (states_of nodes.nodes) number)
-        → AreReady setting [] [] nodes }
+        → AreNodesReady setting [] [] nodes }
 {}
 
 /// A history is legal with one call more exactly where it is legal and the call is right after it. So what begins a
@@ -83,7 +83,7 @@ pub fn calls_between()
         → IsUnderWay setting (history ++ calls) trace }
     ensures ready { (setting : Setting) (history calls : List Event) (trace : List TimedFrame) (nodes : NodesView)
         → All (λ call. is_open call ≡ false) calls → IsLegal setting.rules (history ++ calls)
-        → AreReady setting history trace nodes → AreReady setting (history ++ calls) trace nodes }
+        → AreNodesReady setting history trace nodes → AreNodesReady setting (history ++ calls) trace nodes }
 {}
 
 /// An order of the master can be run as it is: its opening is right after the history, its frames fit into the largest
@@ -95,7 +95,7 @@ pub fn orders()
         → IsRight rules history (Open order.cycle order.mask) }
     ensures next { (setting : Setting) (history : List Event) (trace : List TimedFrame)
         (nodes : NodesView) (order : Order)
-        → AreReady setting history trace nodes → IsOrder setting.rules history order
+        → AreNodesReady setting history trace nodes → IsOrder setting.rules history order
         → All (λ node. node.next ≡ order.cycle) (states_of nodes.nodes) }
     ensures learned { (rules : Rules) (history : List Event) (order : Order)
         → IsLegal rules history → IsOrder rules history order
@@ -105,18 +105,18 @@ pub fn orders()
         → CanLearn order.learned nodes.nodes }
     ensures window { (setting : Setting) (history : List Event) (trace : List TimedFrame)
         (nodes : NodesView) (order : Order)
-        → IsSetting setting → AreReady setting history trace nodes
+        → IsSetting setting → AreNodesReady setting history trace nodes
         → IsOrder setting.rules history order → order.l ≤ nodes.layout.window }
     ensures slots { (setting : Setting) (history : List Event) (trace : List TimedFrame)
         (nodes : NodesView) (order : Order)
-        → IsSetting setting → AreReady setting history trace nodes
+        → IsSetting setting → AreNodesReady setting history trace nodes
         → IsOrder setting.rules history order → order.mask < 2 ^ nodes.layout.slots }
     ensures fits { (setting : Setting) (history : List Event) (order : Order)
         → IsSetting setting → IsOrder setting.rules history order
         → FitsWindow setting.layout (opening_of order (placed_of history)) }
     ensures before { (setting : Setting) (history : List Event) (trace : List TimedFrame)
         (nodes : NodesView) (order : Order)
-        → IsUnderWay setting history trace → AreReady setting history trace nodes → IsOrder setting.rules history order
+        → IsUnderWay setting history trace → AreNodesReady setting history trace nodes → IsOrder setting.rules history order
         → IsBefore nodes.layout setting.owners setting.requests (placed_of history) trace order
         (learnt_by order.learned (states_of nodes.nodes)) }
 {
@@ -149,18 +149,18 @@ pub fn cycles_run()
     ensures under_way { (setting : Setting) (history : List Event) (trace frames : List TimedFrame)
         (nodes : NodesView) (order : Order)
         → IsSetting setting → IsUnderWay setting history trace
-        → AreReady setting history trace nodes → IsOrder setting.rules history order
+        → AreNodesReady setting history trace nodes → IsOrder setting.rules history order
         → Follows (offered_in bytes_of nodes.layout setting.requests (opening_of order (placed_of history)))
         trace (order.cycle * nodes.layout.cycle) ((order.cycle + 1) * nodes.layout.cycle) frames
         → IsUnderWay setting (history ++ Open order.cycle order.mask ∷ []) (trace ++ frames) }
     ensures ready { (setting : Setting) (history : List Event) (trace frames : List TimedFrame)
         (nodes new : NodesView) (order : Order)
-        → IsUnderWay setting history trace → AreReady setting history trace nodes → IsOrder setting.rules history order
+        → IsUnderWay setting history trace → AreNodesReady setting history trace nodes → IsOrder setting.rules history order
         → new.layout ≡ nodes.layout
         → states_of new.nodes ≡ heard_by frames (learnt_by order.learned (states_of nodes.nodes))
         → IsBus nodes.layout setting.owners setting.requests (placed_of history)
         (trace ++ frames) (order.cycle + 1) (states_of new.nodes)
-        → AreReady setting (history ++ Open order.cycle order.mask ∷ []) (trace ++ frames) new }
+        → AreNodesReady setting (history ++ Open order.cycle order.mask ∷ []) (trace ++ frames) new }
 {
     legal_histories();
     opened_cycles();

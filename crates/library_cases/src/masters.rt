@@ -2,7 +2,7 @@
 
 ghost use Rattle.std.specs.Prelude.{◌≡◌};
 ghost use Rattle.profile.specs.Limits.{first_slots};
-ghost use Rattle.turn_lock.specs.Passes.{IsOf};
+ghost use Rattle.turn_lock.specs.Passes.{IsOfLock};
 ghost use Rattle.admission.specs.Verdict.{IsRules};
 
 use admission_rules::Rules;
@@ -53,8 +53,8 @@ fn look(
     operator: &mut OperatorPass,
     told: &mut String,
 ) -> Result<(), AllocError>
-    requires of { IsOf shared.now operator.old }
-    ensures of { IsOf shared.now operator.new }
+    requires of { IsOfLock shared.now operator.old }
+    ensures of { IsOfLock shared.now operator.new }
 {
     match shared.try_look(alloc, operator) {
         Ok(next) => writeln!(told, "next {next}"),
@@ -69,8 +69,8 @@ fn submit(
     operator: &mut OperatorPass,
     told: &mut String,
 ) -> Result<(), AllocError>
-    requires of { IsOf shared.now operator.old }
-    ensures of { IsOf shared.now operator.new }
+    requires of { IsOfLock shared.now operator.old }
+    ensures of { IsOfLock shared.now operator.new }
 {
     let change = change(alloc, 0)?;
     match shared.try_submit(alloc, operator, &change) {
@@ -86,8 +86,8 @@ fn open(
     dispatcher: &mut DispatcherPass,
     told: &mut String,
 ) -> Result<(), AllocError>
-    requires of { IsOf shared.now dispatcher.old }
-    ensures of { IsOf shared.now dispatcher.new }
+    requires of { IsOfLock shared.now dispatcher.old }
+    ensures of { IsOfLock shared.now dispatcher.new }
     ensures out { dispatcher.new.view.out ≡ dispatcher.old.view.out }
 {
     if dispatcher.cycles() >= OPENINGS_END {
@@ -125,10 +125,10 @@ fn call(
     word: &str,
     told: &mut String,
 ) -> Result<(), AllocError>
-    requires dispatcher { IsOf shared.now dispatcher.old }
-    requires operator { IsOf shared.now operator.old }
-    ensures dispatcher { IsOf shared.now dispatcher.new }
-    ensures operator { IsOf shared.now operator.new }
+    requires dispatcher { IsOfLock shared.now dispatcher.old }
+    requires operator { IsOfLock shared.now operator.old }
+    ensures dispatcher { IsOfLock shared.now dispatcher.new }
+    ensures operator { IsOfLock shared.now operator.new }
     ensures out { dispatcher.new.view.out ≡ dispatcher.old.view.out }
 {
     match word {
@@ -148,10 +148,10 @@ fn call_all(
     words: &str,
     told: &mut String,
 ) -> Result<(), AllocError>
-    requires dispatcher { IsOf shared.now dispatcher.old }
-    requires operator { IsOf shared.now operator.old }
-    ensures dispatcher { IsOf shared.now dispatcher.new }
-    ensures operator { IsOf shared.now operator.new }
+    requires dispatcher { IsOfLock shared.now dispatcher.old }
+    requires operator { IsOfLock shared.now operator.old }
+    ensures dispatcher { IsOfLock shared.now dispatcher.new }
+    ensures operator { IsOfLock shared.now operator.new }
     ensures out { dispatcher.new.view.out ≡ dispatcher.old.view.out }
 {
     for word in words.split_ascii_whitespace() {

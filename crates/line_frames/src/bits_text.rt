@@ -4,13 +4,13 @@ ghost use Rattle.std.specs.Prelude.{◌≡◌, ◌+◌, ◌<◌, ◌≤◌, All,
 ghost use Rattle.line_frames.specs.BitsText.{IsBitByte, IsBitsText, bits_in};
 ghost use Rattle.line_frames.specs.Stops.{TellsOf};
 
-use crate::stop::Stop;
+use crate::stop::ListingStop;
 use std::alloc::Global;
 
 /// The bits that a text writes. It takes one byte for each byte of the text.
 ///
 /// `NoBit` tells of the first byte that is none of `0`, `1` and line feed.
-pub fn bits_in(alloc: Global, text: &[u8]) -> Result<Vec<bool>, Stop>
+pub fn bits_in(alloc: Global, text: &[u8]) -> Result<Vec<bool>, ListingStop>
     ensures bits { IfOk result (λ bits. bits.items ≡ bits_in text.now) }
     ensures few { IfOk result (λ bits. length bits.items ≤ length text.now) }
     ensures written { OnOk result (IsBitsText text.now) }
@@ -25,7 +25,7 @@ pub fn bits_in(alloc: Global, text: &[u8]) -> Result<Vec<bool>, Stop>
 
 /// Puts the bit that the byte at this place writes, if it writes one, behind the bits of the bytes
 /// before it.
-fn push_bit(bits: &mut Vec<bool>, text: &[u8], place: usize) -> Result<(), Stop>
+fn push_bit(bits: &mut Vec<bool>, text: &[u8], place: usize) -> Result<(), ListingStop>
     requires within { place < length text.now }
     requires before { All IsBitByte (take place text.now) }
     requires bits { bits.old.items ≡ bits_in (take place text.now) }
@@ -39,7 +39,7 @@ fn push_bit(bits: &mut Vec<bool>, text: &[u8], place: usize) -> Result<(), Stop>
         b'0' => bits.push(false)?,
         b'1' => bits.push(true)?,
         b'\n' => {}
-        _ => return Err(Stop::NoBit { place }),
+        _ => return Err(ListingStop::NoBit { place }),
     }
     Ok(())
 }

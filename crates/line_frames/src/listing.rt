@@ -6,11 +6,11 @@ ghost use Rattle.ftt_io.specs.Counts.{Rose};
 ghost use Rattle.ftt_io.specs.Puts.{Puts, PutsPrefix};
 ghost use Rattle.line_frames.specs.Listing.{Lists, ListsFile, rows_of};
 ghost use Rattle.line_frames.specs.Rows.{frame_row, no_row};
-ghost use Rattle.line_frames.specs.Stops.{StopsAt, StopsWriting};
+ghost use Rattle.line_frames.specs.Stops.{StopsListing, StopsWriting};
 
 use crate::bits_text::bits_in;
 use crate::rows::{end_row, frame_row, no_row};
-use crate::stop::Stop;
+use crate::stop::ListingStop;
 use bus_line::{LineFault, read_line};
 use can_frame::{TimedFrame, WireFault};
 use ftt_io::{Failed, Shelf, Sink, write_all};
@@ -66,7 +66,7 @@ fn put_break<O: Sink>(out: &mut O, start: usize, fault: &WireFault) -> Result<()
 }
 
 /// Lists the frames of a line, or tells where its bits break. There are fewer than 2^28 bits.
-fn list_bits<O: Sink>(alloc: Global, bits: &[bool], out: &mut O) -> Result<Listing, Stop>
+fn list_bits<O: Sink>(alloc: Global, bits: &[bool], out: &mut O) -> Result<Listing, ListingStop>
     requires few { length bits.now < 2 ^ 28 }
     ensures faults_never_fall { O.faults out.old ≤ O.faults out.new }
     ensures lists { IfOk result (Lists bits.now (Puts (O.told_bytes out.old) (O.told_bytes out.new))) }
@@ -81,7 +81,7 @@ fn list_bits<O: Sink>(alloc: Global, bits: &[bool], out: &mut O) -> Result<Listi
             put_break(out, start, &fault)?;
             Ok(Listing::Broken)
         }
-        Err(LineFault::Memory) => Err(Stop::Memory),
+        Err(LineFault::Memory) => Err(ListingStop::Memory),
     }
 }
 
@@ -94,12 +94,12 @@ pub fn list_file<S: Shelf, O: Sink>(
     name: &str,
     shelf: &mut S,
     out: &mut O,
-) -> Result<Listing, Stop>
+) -> Result<Listing, ListingStop>
     ensures shelf_faults_never_fall { S.faults shelf.old ≤ S.faults shelf.new }
     ensures faults_never_fall { O.faults out.old ≤ O.faults out.new }
     ensures lists { IfOk result (ListsFile (S.told_files shelf.old) name.now
         (Puts (O.told_bytes out.old) (O.told_bytes out.new))) }
-    ensures stops { IfErr result (StopsAt (S.told_files shelf.old) name.now
+    ensures stops { IfErr result (StopsListing (S.told_files shelf.old) name.now
         (Rose (S.faults shelf.old) (S.faults shelf.new)) (Rose (O.faults out.old) (O.faults out.new))) }
 {
     let text = shelf.fetch(alloc, name, LIMIT)?;

@@ -12,7 +12,7 @@ use listing::{Listing, list_file};
 use std::env;
 use std::io::{self, BufWriter};
 use std::process::ExitCode;
-use stop::Stop;
+use stop::ListingStop;
 
 /// The room for output that is gathered, in bytes.
 const GATHERED: usize = 65_536;
@@ -30,11 +30,11 @@ fn main(rt: HostRuntime) -> ExitCode {
 
 /// Lists the frames of each file that the words name, in their order, up to the first file that is not
 /// read. `Broken` tells that the bits of some file are the line of no frames.
-fn call(rt: &HostRuntime) -> Result<Listing, Stop> {
+fn call(rt: &HostRuntime) -> Result<Listing, ListingStop> {
     let alloc = rt.alloc();
     let names = names(rt)?;
     let Ok(writer) = BufWriter::with_capacity(alloc, GATHERED, io::writer(rt)) else {
-        return Err(Stop::Memory);
+        return Err(ListingStop::Memory);
     };
     let mut shelf = FileShelf::new(rt);
     let mut out = StdSink::over(writer);
@@ -49,16 +49,16 @@ fn call(rt: &HostRuntime) -> Result<Listing, Stop> {
 }
 
 /// The words of this call after the program's name: one at least, and each is UTF-8.
-fn names(rt: &HostRuntime) -> Result<Vec<String>, Stop> {
+fn names(rt: &HostRuntime) -> Result<Vec<String>, ListingStop> {
     match env::args(rt) {
         Ok(all) => {
             let names: Vec<String> = all.skip(1).collect(rt.alloc())?;
             if names.is_empty() {
-                Err(Stop::Words)
+                Err(ListingStop::Words)
             } else {
                 Ok(names)
             }
         }
-        Err(_) => Err(Stop::Words),
+        Err(_) => Err(ListingStop::Words),
     }
 }

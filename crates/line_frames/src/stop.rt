@@ -8,7 +8,7 @@ use std::fmt;
 
 /// Why the frames of a file are not listed.
 #[derive(Clone, Copy, Debug, PartialEq, Eq)]
-pub enum Stop {
+pub enum ListingStop {
     /// No file is named.
     Words,
     /// A file has more than 268,435,455 bytes.
@@ -23,72 +23,72 @@ pub enum Stop {
     Memory,
 }
 
-impl Stop {
+impl ListingStop {
     /// The exit status of the process, as that of `fttcan`.
     pub fn code(self) -> u8 {
         match self {
-            Stop::Words => 2,
-            Stop::TooLong | Stop::NoBit { .. } => 3,
-            Stop::Read => 4,
-            Stop::Write => 5,
-            Stop::Memory => 6,
+            ListingStop::Words => 2,
+            ListingStop::TooLong | ListingStop::NoBit { .. } => 3,
+            ListingStop::Read => 4,
+            ListingStop::Write => 5,
+            ListingStop::Memory => 6,
         }
     }
 }
 
-impl fmt::Display for Stop {
+impl fmt::Display for ListingStop {
     fn fmt<W: fmt::Write>(&self, f: &mut fmt::Formatter<W>) -> fmt::Result {
         match self {
-            Stop::Words => write!(f, "usage: line_frames FILE.."),
-            Stop::TooLong => write!(f, "bits: longer than 268435455 bytes"),
-            Stop::NoBit { place } => write!(f, "bits: place {place}"),
-            Stop::Read => write!(f, "read fault"),
-            Stop::Write => write!(f, "write fault"),
-            Stop::Memory => write!(f, "out of memory"),
+            ListingStop::Words => write!(f, "usage: line_frames FILE.."),
+            ListingStop::TooLong => write!(f, "bits: longer than 268435455 bytes"),
+            ListingStop::NoBit { place } => write!(f, "bits: place {place}"),
+            ListingStop::Read => write!(f, "read fault"),
+            ListingStop::Write => write!(f, "write fault"),
+            ListingStop::Memory => write!(f, "out of memory"),
         }
     }
 }
 
-impl<T: Drop> From<AllocFailed<T>> for Stop {
-    ghost use Rattle.line_frames.specs.declared.stop.Stop.TheVariants.{Memory};
+impl<T: Drop> From<AllocFailed<T>> for ListingStop {
+    ghost use Rattle.line_frames.specs.declared.stop.ListingStop.TheVariants.{Memory};
 
     ghost from_gives = { λ _ stop. stop ≡ Memory };
 
-    fn from(_failed: AllocFailed<T>) -> Stop {
-        Stop::Memory
+    fn from(_failed: AllocFailed<T>) -> ListingStop {
+        ListingStop::Memory
     }
 }
 
-impl From<AllocError> for Stop {
-    ghost use Rattle.line_frames.specs.declared.stop.Stop.TheVariants.{Memory};
+impl From<AllocError> for ListingStop {
+    ghost use Rattle.line_frames.specs.declared.stop.ListingStop.TheVariants.{Memory};
 
     ghost from_gives = { λ _ stop. stop ≡ Memory };
 
-    fn from(_error: AllocError) -> Stop {
-        Stop::Memory
+    fn from(_error: AllocError) -> ListingStop {
+        ListingStop::Memory
     }
 }
 
-impl From<Failed> for Stop {
-    ghost use Rattle.line_frames.specs.declared.stop.Stop.TheVariants.{Write};
+impl From<Failed> for ListingStop {
+    ghost use Rattle.line_frames.specs.declared.stop.ListingStop.TheVariants.{Write};
 
     ghost from_gives = { λ _ stop. stop ≡ Write };
 
-    fn from(_failed: Failed) -> Stop {
-        Stop::Write
+    fn from(_failed: Failed) -> ListingStop {
+        ListingStop::Write
     }
 }
 
-impl From<FetchFault> for Stop {
+impl From<FetchFault> for ListingStop {
     ghost use Rattle.line_frames.specs.Stops.{stop_of_fetch};
 
     ghost from_gives = { λ fault stop. stop ≡ stop_of_fetch fault };
 
-    fn from(fault: FetchFault) -> Stop {
+    fn from(fault: FetchFault) -> ListingStop {
         match fault {
-            FetchFault::Failed => Stop::Read,
-            FetchFault::TooLong => Stop::TooLong,
-            FetchFault::Memory => Stop::Memory,
+            FetchFault::Failed => ListingStop::Read,
+            FetchFault::TooLong => ListingStop::TooLong,
+            FetchFault::Memory => ListingStop::Memory,
         }
     }
 }

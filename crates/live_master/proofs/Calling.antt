@@ -16,7 +16,7 @@ use Rattle.master_core.specs.Apart.{CanSettle, IsPlanOf, PlannedView, from_of, s
 use Rattle.master_core.specs.History.{placed_of}
 use Rattle.master_core.specs.Orders.{IsOrder}
 use Rattle.live_master.specs.Callers.{number_of}
-use Rattle.live_master.specs.Calls.{AfterWaiting, Answered, AtOnce, GaveBack, InTurn, IsPlannedIn, IsRefused, Opened, Settled, Snapped, Submitted, Waited}
+use Rattle.live_master.specs.Calls.{AfterWaiting, AtOnce, GaveBack, InTurn, IsAnsweredInTurn, IsOpenedInTurn, IsPlannedIn, IsTurnRefused, Settled, Snapped, Submitted, Waited}
 use Rattle.live_master.specs.Within.{IsOpenedWithin}
 use Rattle.live_master.proofs.Openings.{none_between}
 use Rattle.live_master.proofs.Rooms.{few-learned}
@@ -28,7 +28,7 @@ drop_found (e ∷ es) event = drop_found es event
 -- the pass got the turn where this list was found, and let it go with one event more
 pub answered : (old new : Known Event Rules) (event : Event) (between : List Event)
     → new ≡ knowing old (committed ((old.view.seen ++ between) ++ event ∷ []) (granted (old.view.seen ++ between) old.view))
-    → Answered old new event
+    → IsAnsweredInTurn old new event
 answered old new event between is = record {
   between = between;
   is = is ∙ ap (λ (l : List Event). knowing old (record old.view {
@@ -43,7 +43,7 @@ opened_at : (rules : Rules) (old new : Known Event Rules) (order : Order) (betwe
     → new ≡ knowing old (committed ((old.view.seen ++ between) ++ Open order.cycle order.mask ∷ []) (granted (old.view.seen ++ between) old.view))
     → IsOrder rules (old.view.seen ++ between) order
     → old.view.number ≡ 0 → Facts number_of old.view → own number_of old.view.number (old.view.seen ++ between) ≡ old.view.mine
-    → Opened rules old new order
+    → IsOpenedInTurn rules old new order
 unfolding answered
 opened_at rules old new order between is ordered zeroth facts owned = record {
   answered = answered old new (Open order.cycle order.mask) between is;
@@ -59,7 +59,7 @@ pub opened : (rules : Rules) (old new : Known Event Rules) (order : Order) (foun
     → new ≡ knowing old (committed (found ++ Open order.cycle order.mask ∷ []) (granted found old.view))
     → IsOrder rules found order
     → old.view.number ≡ 0 → Facts number_of old.view → own number_of old.view.number found ≡ old.view.mine
-    → Opened rules old new order
+    → IsOpenedInTurn rules old new order
 opened rules old new order found begins is ordered zeroth facts owned =
     let split = begins.1 in
     opened_at rules old new order begins.0
@@ -124,7 +124,7 @@ planned_here rules old new snapshot change planned taken plan = record {
 
 -- and so it can still, once the turn was refused and the plan was handed back
 pub still_planned : (rules : Rules) (old new : Known Event Rules) (change : Change) (plan back : PlannedView) (word : ℕ)
-    → IsPlannedIn rules old.view.seen change plan → IsRefused old new word → back ≡ plan → IsPlannedIn rules new.view.seen change back
+    → IsPlannedIn rules old.view.seen change plan → IsTurnRefused old new word → back ≡ plan → IsPlannedIn rules new.view.seen change back
 still_planned rules old new change plan back word planned refusal same =
     subst (λ (p : PlannedView). IsPlannedIn rules new.view.seen change p) (sym same)
     (subst (λ (l : List Event). IsPlannedIn rules l change plan) (sym (ap (λ (k : Known Event Rules). k.view.seen) refusal.is)) planned)
@@ -176,7 +176,7 @@ waited_none old =
     }
 
 -- one refusal more
-pub waited_more : (old till new : Known Event Rules) (word : ℕ) → Waited old till → IsRefused till new word → Waited old new
+pub waited_more : (old till new : Known Event Rules) (word : ℕ) → Waited old till → IsTurnRefused till new word → Waited old new
 waited_more old till new word waited refusal = record {
   times = waited.times + 1;
   last = word;

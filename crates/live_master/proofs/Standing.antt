@@ -2,7 +2,7 @@
 use Rattle.std.proofs.Common.{◌≡◌, List, Contains, Some, None, Bool, true, false, cond, nat_le, length, sym, ap, ◌∙◌, subst}
 use Rattle.turn_lock.specs.declared.view.View.{View}
 use Rattle.turn_lock.specs.History.{own}
-use Rattle.turn_lock.specs.Passes.{Facts, IsCovered, IsOf, Known, Lock, joined, knowing, split_from, split_off}
+use Rattle.turn_lock.specs.Passes.{Facts, IsCovered, IsOfLock, Known, Lock, joined, knowing, split_from, split_off}
 use Rattle.master_core.specs.History.{IsLegal}
 use Rattle.admission_rules.specs.declared.Rules.{Rules}
 use Rattle.master_core.specs.declared.event.Event.{Event}
@@ -17,7 +17,7 @@ all_calls v history idle same covered = record {
 }
 
 -- an idle pass of a shared master stands at it
-pub pass_of : (shared : Lock Rules) (pass : Known Event Rules) → IsIdle pass.view → IsOf shared pass → IsPassOf shared pass
+pub pass_of : (shared : Lock Rules) (pass : Known Event Rules) → IsIdle pass.view → IsOfLock shared pass → IsPassOf shared pass
 pass_of shared pass idle of = record {
   ready = (of, idle.free);
   facts = idle.facts;
@@ -50,7 +50,7 @@ legal_longer : (rules : Rules) (xs ys : List Event) (b : Bool) → IsLegal rules
 legal_longer rules xs ys true here there = here
 legal_longer rules xs ys false here there = there
 
-pub joined_idle : (shared : Lock Rules) (old other new : Known Event Rules) → IsIdle old.view → IsIdle other.view → IsOf shared old → IsOf shared other
+pub joined_idle : (shared : Lock Rules) (old other new : Known Event Rules) → IsIdle old.view → IsIdle other.view → IsOfLock shared old → IsOfLock shared other
     → new ≡ knowing old (joined old.view other.view) → Facts number_of new.view → IsIdle new.view
 joined_idle shared old other new idle gone of there is facts = record {
   free = ap (λ (k : Known Event Rules). k.view.found) is ∙ idle.free;

@@ -20,7 +20,7 @@ use Rattle.live_master.specs.declared.fault.TryFault.TheVariants.{Busy, Memory}
 -- another pass held the turn, and this word was found: twice the length of the history then, and one. So it is no less
 -- than twice the length of what was seen, and one. The dispatcher finds the turn held only while an operator is out.
 -- Nothing else changed
-pub record IsRefused (old new : Known Event Rules) (word : ℕ) : Type 0 where
+pub record IsTurnRefused (old new : Known Event Rules) (word : ℕ) : Type 0 where
   pub is : new ≡ knowing old (refused word old.view)
   pub odd : word % 2 ≡ 1
   pub least : 2 * length old.view.seen + 1 ≤ word
@@ -37,7 +37,7 @@ pub record GaveBack (old new : Known Event Rules) : Type 0 where
 
 -- the call was answered: the turn was got, behind what was seen and these events, and let go with this event added.
 -- Nothing else changed
-pub record Answered (old new : Known Event Rules) (event : Event) : Type 0 where
+pub record IsAnsweredInTurn (old new : Known Event Rules) (event : Event) : Type 0 where
   pub between : List Event
   pub is : new ≡ knowing old (record old.view {
     found = None;
@@ -64,29 +64,29 @@ pub record Settled (old new : Known Event Rules) (change : Change) (planned : Pl
     : Type 0 where
   pub from : ℕ
   pub trail : List ℕ
-  pub answered : Answered old new (Submit old.view.number change from verdict trail)
+  pub answered : IsAnsweredInTurn old new (Submit old.view.number change from verdict trail)
   pub planned_from : from ≡ from_of (old.view.seen ++ answered.between) planned
 
 -- a look was answered
 abbrev pub LookedAt : Known Event Rules → Known Event Rules → ℕ → Type 0
-LookedAt old new next = Answered old new (Look old.view.number next)
+LookedAt old new next = IsAnsweredInTurn old new (Look old.view.number next)
 
 -- a cycle was opened by this order, which is that of the history before the opening. No other cycle was opened in
 -- between
-pub record Opened (rules : Rules) (old new : Known Event Rules) (order : Order) : Type 0 where
-  pub answered : Answered old new (Open order.cycle order.mask)
+pub record IsOpenedInTurn (rules : Rules) (old new : Known Event Rules) (order : Order) : Type 0 where
+  pub answered : IsAnsweredInTurn old new (Open order.cycle order.mask)
   pub is_order : IsOrder rules (old.view.seen ++ answered.between) order
   pub alone : next_of answered.between ≡ 0
 
 -- a call that tries once was not answered: another pass held the turn, or memory ran out once it was got
 abbrev pub Faulted : Known Event Rules → Known Event Rules → TryFault → Type 0
-Faulted old new (Busy word) = IsRefused old new word
+Faulted old new (Busy word) = IsTurnRefused old new word
 Faulted old new Memory = GaveBack old new
 
 -- a change that was planned apart was not settled: another pass held the turn, and the plan was handed back, or memory
 -- ran out once the turn was got
 abbrev pub SettleFaulted : Known Event Rules → Known Event Rules → PlannedView → SettleFault → Type 0
-SettleFaulted old new planned (fault.Busy word back) = IsRefused old new word × (back ≡ planned)
+SettleFaulted old new planned (fault.Busy word back) = IsTurnRefused old new word × (back ≡ planned)
 SettleFaulted old new planned fault.Memory = GaveBack old new
 
 -- one call after the other
@@ -114,7 +114,7 @@ AtOnce call = call
 -- behind it, or in the second one
 abbrev pub SubmitFaulted : Known Event Rules → Known Event Rules → TryFault → Type 0
 SubmitFaulted old new (Busy word) =
-    IsRefused old new word ⊎ InTurn GaveBack (λ one other. IsRefused one other word) old new
+    IsTurnRefused old new word ⊎ InTurn GaveBack (λ one other. IsTurnRefused one other word) old new
 SubmitFaulted old new Memory = GaveBack old new ⊎ InTurn GaveBack GaveBack old new
 
 -- the turn was refused so many times. Nothing else changed

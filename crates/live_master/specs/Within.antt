@@ -5,14 +5,14 @@ use Rattle.requirement_table.specs.declared.entries.Order.{Order}
 use Rattle.admission_rules.specs.declared.Rules.{Rules}
 use Rattle.master_core.specs.declared.event.Event.{Event}
 use Rattle.master_core.specs.History.{next_of, placed_of}
-use Rattle.live_master.specs.Calls.{GaveBack, Opened}
+use Rattle.live_master.specs.Calls.{GaveBack, IsOpenedInTurn}
 use Rattle.live_master.specs.declared.within.Opening.{Opening}
 use Rattle.live_master.specs.declared.within.Opening.TheVariants as opening
 
 -- a cycle was opened by this order. No more entries are placed, and the list that is learnt with it, where there is one,
 -- has no more
 pub record IsOpenedWithin (rules : Rules) (entries : ℕ) (old new : Known Event Rules) (order : Order) : Type 0 where
-  pub opened : Opened rules old new order
+  pub opened : IsOpenedInTurn rules old new order
   pub placed : length (placed_of (old.view.seen ++ opened.answered.between)) ≤ entries
   pub few : IfSome order.learned (λ placed. length placed ≤ entries)
 

@@ -3,7 +3,7 @@
 ghost use Rattle.std.specs.Prelude.{◌≡◌, IfOk};
 ghost use Rattle.admission.specs.Verdict.{IsRules};
 ghost use Rattle.master_core.specs.History.{IsLegal};
-ghost use Rattle.turn_lock.specs.Passes.{first_view, IsOf};
+ghost use Rattle.turn_lock.specs.Passes.{first_view, IsOfLock};
 ghost use Rattle.live_master.specs.Passes.{HasAllCalls, IsPassOf};
 
 use crate::desk::Desk;
@@ -50,7 +50,7 @@ impl LiveMaster {
 
     /// Ends the sharing, once all operators were retired. The master's history is what the dispatcher's pass has seen.
     pub fn close(self, pass: DispatcherPass) -> Master
-        requires of { IsOf self pass }
+        requires of { IsOfLock self pass }
         requires retired { pass.view.out ≡ 0 }
         ensures rules { result.rules ≡ self.fixed }
         ensures history { result.history ≡ pass.view.seen }

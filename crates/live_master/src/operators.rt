@@ -2,7 +2,7 @@
 
 ghost use Rattle.std.specs.Prelude.{◌≡◌, ◌+◌, ◌<◌};
 ghost use mathlib.Core.List.{IsPrefix};
-ghost use Rattle.turn_lock.specs.Passes.{IsOf, joined, knowing, split_from, split_off};
+ghost use Rattle.turn_lock.specs.Passes.{IsOfLock, joined, knowing, split_from, split_off};
 ghost use Rattle.live_master.specs.Passes.{IsPassOf};
 
 use crate::live::LiveMaster;
@@ -12,7 +12,7 @@ impl LiveMaster {
     /// Makes an operator. Its number, 1 to 8, is one above those made before, and it has seen what the dispatcher has.
     /// Fewer than 8 were made so far.
     pub fn operator(&self, pass: &mut DispatcherPass) -> OperatorPass
-        requires of { IsOf self.now pass.old }
+        requires of { IsOfLock self.now pass.old }
         requires few { pass.old.view.made < 8 }
         ensures lent { pass.new ≡ knowing pass.old (split_from pass.old.view) }
         ensures given { result ≡ knowing pass.old (split_off pass.old.view) }
@@ -30,8 +30,8 @@ impl LiveMaster {
     /// Retires an operator. The dispatcher then has seen the longer of the two histories, which both begin, and has the
     /// operator's calls under its number.
     pub fn retire(&self, pass: &mut DispatcherPass, operator: OperatorPass)
-        requires of { IsOf self.now pass.old }
-        requires operator { IsOf self.now operator }
+        requires of { IsOfLock self.now pass.old }
+        requires operator { IsOfLock self.now operator }
         ensures joined { pass.new ≡ knowing pass.old (joined pass.old.view operator.view) }
         ensures out { pass.new.view.out + 1 ≡ pass.old.view.out }
         ensures this { IsPrefix pass.old.view.seen pass.new.view.seen }

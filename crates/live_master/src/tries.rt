@@ -2,9 +2,9 @@
 
 ghost use Rattle.std.specs.Prelude.{◌<◌, IfOk, IfErr};
 ghost use Rattle.profile.specs.Limits.{openings_end};
-ghost use Rattle.turn_lock.specs.Passes.{IsOf};
+ghost use Rattle.turn_lock.specs.Passes.{IsOfLock};
 ghost use Rattle.master_core.specs.History.{next_of};
-ghost use Rattle.live_master.specs.Calls.{AtOnce, Faulted, IsPlannedIn, LookedAt, Opened, SettleFaulted, Settled};
+ghost use Rattle.live_master.specs.Calls.{AtOnce, Faulted, IsOpenedInTurn, IsPlannedIn, LookedAt, SettleFaulted, Settled};
 ghost use Rattle.live_master.specs.Calls.{Snapped, SubmitFaulted, Submitted};
 ghost use Rattle.live_master.specs.Passes.{IsPassOf};
 
@@ -32,7 +32,7 @@ impl LiveMaster {
         pass: &mut OperatorPass,
         change: &Change,
     ) -> Result<Verdict, TryFault>
-        requires of { IsOf self.now pass.old }
+        requires of { IsOfLock self.now pass.old }
         ensures submitted { IfOk result (λ verdict.
             Submitted AtOnce self.now.fixed pass.old pass.new change.now verdict) }
         ensures fault { IfErr result (λ fault. SubmitFaulted pass.old pass.new fault) }
@@ -57,7 +57,7 @@ impl LiveMaster {
     /// `Busy` exactly where this call found the turn held by another pass, and `Memory` where memory ran out. The call
     /// may be made again.
     pub fn try_snapshot(&self, alloc: Global, pass: &mut OperatorPass) -> Result<Snapshot, TryFault>
-        requires of { IsOf self.now pass.old }
+        requires of { IsOfLock self.now pass.old }
         ensures taken { IfOk result (λ snapshot. Snapped self.now.fixed pass.old pass.new snapshot) }
         ensures fault { IfErr result (λ fault. Faulted pass.old pass.new fault) }
         ensures standing { IsPassOf self.now pass.new }
@@ -79,7 +79,7 @@ impl LiveMaster {
         change: &Change,
         planned: Planned,
     ) -> Result<Verdict, SettleFault>
-        requires of { IsOf self.now pass.old }
+        requires of { IsOfLock self.now pass.old }
         requires planned { IsPlannedIn self.now.fixed pass.old.view.seen change.now planned }
         ensures settled { IfOk result (λ verdict. Settled pass.old pass.new change.now planned verdict) }
         ensures fault { IfErr result (λ fault. SettleFaulted pass.old pass.new planned fault) }
@@ -102,7 +102,7 @@ impl LiveMaster {
     /// `Busy` exactly where this call found the turn held by another pass, and `Memory` where memory ran out. The call
     /// left no event then, and may be made again.
     pub fn try_look(&self, alloc: Global, pass: &mut OperatorPass) -> Result<u64, TryFault>
-        requires of { IsOf self.now pass.old }
+        requires of { IsOfLock self.now pass.old }
         ensures looked { IfOk result (λ next. LookedAt pass.old pass.new next) }
         ensures fault { IfErr result (λ fault. Faulted pass.old pass.new fault) }
         ensures standing { IsPassOf self.now pass.new }
@@ -117,9 +117,9 @@ impl LiveMaster {
     /// `Busy` exactly where this call found the turn held by another pass, and `Memory` where memory ran out. The call
     /// left no event then, and may be made again.
     pub fn try_open(&self, alloc: Global, pass: &mut DispatcherPass) -> Result<Order, TryFault>
-        requires of { IsOf self.now pass.old }
+        requires of { IsOfLock self.now pass.old }
         requires cycles { next_of pass.old.view.mine < openings_end }
-        ensures opened { IfOk result (λ order. Opened self.now.fixed pass.old pass.new order) }
+        ensures opened { IfOk result (λ order. IsOpenedInTurn self.now.fixed pass.old pass.new order) }
         ensures fault { IfErr result (λ fault. Faulted pass.old pass.new fault) }
         ensures standing { IsPassOf self.now pass.new }
     {

@@ -5,7 +5,7 @@ ghost use Rattle.profile.specs.Limits.{openings_end};
 ghost use Rattle.turn_lock.specs.Passes.{Facts, IsReady};
 ghost use Rattle.master_core.specs.History.{IsLegal, next_of};
 ghost use Rattle.live_master.specs.Callers.{number_of};
-ghost use Rattle.live_master.specs.Calls.{Faulted, IsPlannedIn, LookedAt, Opened, SettleFaulted, Settled, Snapped};
+ghost use Rattle.live_master.specs.Calls.{Faulted, IsOpenedInTurn, IsPlannedIn, LookedAt, SettleFaulted, Settled, Snapped};
 ghost use Rattle.live_master.specs.Passes.{IsPassOf};
 
 use crate::desk::Desk;
@@ -121,7 +121,7 @@ pub fn open_once(turn: &Turn<Desk>, alloc: Global, pass: &mut Pass<Desk>) -> Res
     requires standing { IsPassOf turn.now pass.old }
     requires dispatcher { pass.old.view.number ≡ 0 }
     requires cycles { next_of pass.old.view.mine < openings_end }
-    ensures opened { IfOk result (λ order. Opened turn.now.fixed pass.old pass.new order) }
+    ensures opened { IfOk result (λ order. IsOpenedInTurn turn.now.fixed pass.old pass.new order) }
     ensures fault { IfErr result (λ fault. Faulted pass.old pass.new fault) }
     ensures ready { IsReady turn.now pass.new }
     ensures facts { Facts number_of pass.new.view }

@@ -2,9 +2,9 @@
 
 ghost use Rattle.std.specs.Prelude.{◌⊎◌, ◌<◌, IfOk, OnErr};
 ghost use Rattle.profile.specs.Limits.{openings_end};
-ghost use Rattle.turn_lock.specs.Passes.{IsOf};
+ghost use Rattle.turn_lock.specs.Passes.{IsOfLock};
 ghost use Rattle.master_core.specs.History.{next_of};
-ghost use Rattle.live_master.specs.Calls.{AfterWaiting, GaveBack, InTurn, IsPlannedIn, LookedAt, Opened, Settled};
+ghost use Rattle.live_master.specs.Calls.{AfterWaiting, GaveBack, InTurn, IsOpenedInTurn, IsPlannedIn, LookedAt, Settled};
 ghost use Rattle.live_master.specs.Calls.{Snapped, Submitted};
 ghost use Rattle.live_master.specs.Passes.{IsPassOf};
 
@@ -33,7 +33,7 @@ impl LiveMaster {
         pass: &mut OperatorPass,
         change: &Change,
     ) -> Result<Verdict, AllocError>
-        requires of { IsOf self.now pass.old }
+        requires of { IsOfLock self.now pass.old }
         ensures submitted { IfOk result (λ verdict.
             Submitted AfterWaiting self.now.fixed pass.old pass.new change.now verdict) }
         ensures memory { OnErr result (AfterWaiting GaveBack pass.old pass.new
@@ -57,7 +57,7 @@ impl LiveMaster {
         alloc: Global,
         pass: &mut OperatorPass,
     ) -> Result<Snapshot, AllocError>
-        requires of { IsOf self.now pass.old }
+        requires of { IsOfLock self.now pass.old }
         ensures taken { IfOk result (λ snapshot.
             AfterWaiting (λ old new. Snapped self.now.fixed old new snapshot) pass.old pass.new) }
         ensures memory { OnErr result (AfterWaiting GaveBack pass.old pass.new) }
@@ -88,7 +88,7 @@ impl LiveMaster {
         change: &Change,
         planned: Planned,
     ) -> Result<Verdict, AllocError>
-        requires of { IsOf self.now pass.old }
+        requires of { IsOfLock self.now pass.old }
         requires planned { IsPlannedIn self.now.fixed pass.old.view.seen change.now planned }
         ensures settled { IfOk result (λ verdict.
             AfterWaiting (λ old new. Settled old new change.now planned verdict) pass.old pass.new) }
@@ -121,7 +121,7 @@ impl LiveMaster {
         alloc: Global,
         pass: &mut OperatorPass,
     ) -> Result<u64, AllocError>
-        requires of { IsOf self.now pass.old }
+        requires of { IsOfLock self.now pass.old }
         ensures looked { IfOk result (λ next. AfterWaiting (λ old new. LookedAt old new next) pass.old pass.new) }
         ensures memory { OnErr result (AfterWaiting GaveBack pass.old pass.new) }
         ensures standing { IsPassOf self.now pass.new }
@@ -148,10 +148,10 @@ impl LiveMaster {
         alloc: Global,
         pass: &mut DispatcherPass,
     ) -> Result<Order, AllocError>
-        requires of { IsOf self.now pass.old }
+        requires of { IsOfLock self.now pass.old }
         requires cycles { next_of pass.old.view.mine < openings_end }
         ensures opened { IfOk result (λ order.
-            AfterWaiting (λ old new. Opened self.now.fixed old new order) pass.old pass.new) }
+            AfterWaiting (λ old new. IsOpenedInTurn self.now.fixed old new order) pass.old pass.new) }
         ensures memory { OnErr result (AfterWaiting GaveBack pass.old pass.new) }
         ensures standing { IsPassOf self.now pass.new }
     {

@@ -2,7 +2,7 @@
 
 ghost use Rattle.std.specs.Prelude.{◌≡◌, ◌<◌, IfOk, IfErr, OnErr};
 ghost use Rattle.profile.specs.Limits.{openings_end};
-ghost use Rattle.turn_lock.specs.Passes.{Facts, IsOf, IsReady};
+ghost use Rattle.turn_lock.specs.Passes.{Facts, IsOfLock, IsReady};
 ghost use Rattle.master_core.specs.History.{IsLegal, next_of};
 ghost use Rattle.live_master.specs.Callers.{number_of};
 ghost use Rattle.live_master.specs.Calls.{AfterWaiting, Faulted, GaveBack};
@@ -83,7 +83,7 @@ impl LiveMaster {
         pass: &mut DispatcherPass,
         entries: usize,
     ) -> Result<Opening, TryFault>
-        requires of { IsOf self.now pass.old }
+        requires of { IsOfLock self.now pass.old }
         requires cycles { next_of pass.old.view.mine < openings_end }
         ensures within { IfOk result (λ opening. OpenedWithin self.now.fixed entries pass.old pass.new opening) }
         ensures fault { IfErr result (λ fault. Faulted pass.old pass.new fault) }
@@ -111,7 +111,7 @@ impl LiveMaster {
         pass: &mut DispatcherPass,
         entries: usize,
     ) -> Result<Opening, AllocError>
-        requires of { IsOf self.now pass.old }
+        requires of { IsOfLock self.now pass.old }
         requires cycles { next_of pass.old.view.mine < openings_end }
         ensures within { IfOk result (λ opening.
             AfterWaiting (λ old new. OpenedWithin self.now.fixed entries old new opening) pass.old pass.new) }

@@ -11,11 +11,11 @@ use Rattle.master_core.specs.History.{IsLegal}
 use Rattle.kept_run.specs.Progress.{IsOnTheWay}
 use Rattle.kept_run.specs.Setting.{Setting}
 use Rattle.kept_run.proofs.Shared.{CallsBetween, CyclesRun, RanOrder, way-called, way-run}
-use Rattle.live_run.specs.declared.dispatching.Bus.{Bus}
-use Rattle.live_run.specs.Running.{CanRun, HasOpened, IsBeforeOrder, IsRunning}
+use Rattle.live_run.specs.declared.dispatching.LiveBus.{LiveBus}
+use Rattle.live_run.specs.Running.{CanDispatch, HasOpened, IsBeforeOrder, IsRunning}
 
 -- what the dispatcher found when it opened a cycle is on the way, and its order is that of it
-pub found : CallsBetween → (setting : Setting) (shared : Lock Rules) (old new : List Event) (order : Order) (bus : Bus)
+pub found : CallsBetween → (setting : Setting) (shared : Lock Rules) (old new : List Event) (order : Order) (bus : LiveBus)
     → (opened : HasOpened shared.fixed old new order) → IsRunning setting shared old bus → IsBeforeOrder setting (old ++ opened.calls) order bus
 found laws setting shared old new order bus opened running =
     let legal = subst (λ r. IsLegal r (old ++ opened.calls)) running.same_rules opened.legal in
@@ -25,13 +25,13 @@ found laws setting shared old new order bus opened running =
     }
 
 -- so in some setting a cycle of it can be run
-pub can_run : CallsBetween → (shared : Lock Rules) (old new : List Event) (order : Order) (bus : Bus)
-    → HasOpened shared.fixed old new order → CanRun shared old bus → (setting : Setting) × (history : List Event) × IsBeforeOrder setting history order bus
+pub can_run : CallsBetween → (shared : Lock Rules) (old new : List Event) (order : Order) (bus : LiveBus)
+    → HasOpened shared.fixed old new order → CanDispatch shared old bus → (setting : Setting) × (history : List Event) × IsBeforeOrder setting history order bus
 can_run laws shared old new order bus opened running =
     (running.0, old ++ opened.calls, found laws running.0 shared old new order bus opened running.1)
 
 -- and once it was run, the dispatcher's history and bus are running
-pub has_run : CallsBetween → (setting : Setting) (shared : Lock Rules) (old new : List Event) (order : Order) (bus after : Bus)
+pub has_run : CallsBetween → (setting : Setting) (shared : Lock Rules) (old new : List Event) (order : Order) (bus after : LiveBus)
     → HasOpened shared.fixed old new order
     → ((history : List Event) → IsBeforeOrder setting history order bus
     → IsOnTheWay setting (history ++ Open order.cycle order.mask ∷ []) after.trace.items after.nodes)
@@ -44,7 +44,7 @@ has_run laws setting shared old new order bus after opened ran running = record 
 }
 
 -- a bus that has run a cycle by the order of a history is on the way behind its opening
-pub ran : CyclesRun → (setting : Setting) (history : List Event) (order : Order) (bus after : Bus) (frames : List TimedFrame)
+pub ran : CyclesRun → (setting : Setting) (history : List Event) (order : Order) (bus after : LiveBus) (frames : List TimedFrame)
     → RanOrder order bus.nodes after.nodes frames → after.trace.items ≡ bus.trace.items ++ frames
     → IsBeforeOrder setting history order bus → IsOnTheWay setting (history ++ Open order.cycle order.mask ∷ []) after.trace.items after.nodes
 ran laws setting history order bus after frames did trace stands =

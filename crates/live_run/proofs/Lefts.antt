@@ -13,7 +13,7 @@ use Rattle.async_window.specs.Mailbox.{Mail, left, mail_after}
 use Rattle.async_window.specs.Waiting.{unsent_after}
 use Rattle.trigger_kind.specs.Kind.{opening_identifier}
 use Rattle.node_model.specs.Node.{NodeState, after_hearing, counted, identifiers_of, is_own_slot, learnt}
-use Rattle.node_model.specs.Own.{Stands}
+use Rattle.node_model.specs.Own.{StandsOnBus}
 use Rattle.cycle_engine.specs.Nodes.{heard_by, learnt_by, left_in}
 use Rattle.live_run.specs.Left.{left_at, left_of, numbers_of}
 
@@ -22,11 +22,11 @@ use Rattle.live_run.specs.Left.{left_at, left_of, numbers_of}
 module _ (layout : CycleLayout) (owners : List Owner) (requests : List Request) (placed : List Placed)
     (past : List TimedFrame) (next : ℕ) where
   -- what they have left is that of the owners at them
-  pub left_in_at : (nodes : List NodeState) → All (Stands layout owners requests placed past next) nodes
+  pub left_in_at : (nodes : List NodeState) → All (StandsOnBus layout owners requests placed past next) nodes
       → left_in nodes ≡ left_at owners requests past (numbers_of nodes)
   left_in_at [] stand = refl
   left_in_at (node ∷ nodes) stand =
-      let Standing : NodeState → Type 0 = Stands layout owners requests placed past next in
+      let Standing : NodeState → Type 0 = StandsOnBus layout owners requests placed past next in
       let at : ℕ → ℕ = λ number. left (mail_after (identifiers_of number owners) requests past) in
       sum_by-cons (λ (n : NodeState). left n.mail) node nodes
       ∙ (ap (λ (mail : List Mail). left mail + left_in nodes) (All-head Standing node nodes stand).own_mail

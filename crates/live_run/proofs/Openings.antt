@@ -17,8 +17,8 @@ use Rattle.live_master.specs.Callers.{number_of}
 use Rattle.live_master.specs.Calls.{AfterWaiting, GaveBack}
 use Rattle.live_master.specs.Within.{OpenedWithin}
 use Rattle.live_master.specs.declared.within.Opening.TheVariants as opening
-use Rattle.live_run.specs.declared.dispatching.Bus.{Bus}
-use Rattle.live_run.specs.Running.{CanRun, HasOpened, HasSeen, IsRunning, IsSameBus, Stays}
+use Rattle.live_run.specs.declared.dispatching.LiveBus.{LiveBus}
+use Rattle.live_run.specs.Running.{CanDispatch, HasOpened, HasSeen, IsRunning, IsSameBus, KeepsPasses}
 use Rattle.live_run.proofs.Runs.{all-closed, closed-behind}
 
 -- what holds whatever a call answers holds where it answers a fault
@@ -52,7 +52,7 @@ module _ (old new : Known Event Rules) (back : AfterWaiting GaveBack old new) wh
   back-number = ap (λ (k : Known Event Rules). k.view.number) back.made.is ∙ ap (λ (k : Known Event Rules). k.view.number) back.waited.is
 
   -- and the pass made no other, and no cycle was opened
-  pub back-stays : (start : View Event Rules) → Stays start old.view → Stays start new.view
+  pub back-stays : (start : View Event Rules) → KeepsPasses start old.view → KeepsPasses start new.view
   back-stays start stays = record {
     number = back-number ∙ stays.number;
     made = ap (λ (k : Known Event Rules). k.view.made) back.made.is ∙ ap (λ (k : Known Event Rules). k.view.made) back.waited.is ∙ stays.made;
@@ -95,7 +95,7 @@ opened-on rules start entries order old new front found legal so_far =
     }
 
 -- a bus whose nodes know the same is running as well
-pub running-same : (setting : Setting) (shared : Lock Rules) (seen : List Event) (old new : Bus) → IsSameBus old new
+pub running-same : (setting : Setting) (shared : Lock Rules) (seen : List Event) (old new : LiveBus) → IsSameBus old new
     → IsRunning setting shared seen old → IsRunning setting shared seen new
 running-same setting shared seen old new same running = record {
   same_rules = running.same_rules;
@@ -103,11 +103,11 @@ running-same setting shared seen old new same running = record {
       (way-same setting seen old.trace.items old.nodes new.nodes same.layout same.states running.way);
 }
 
-pub can_run-same : (shared : Lock Rules) (seen : List Event) (old new : Bus) → IsSameBus old new → CanRun shared seen old → CanRun shared seen new
+pub can_run-same : (shared : Lock Rules) (seen : List Event) (old new : LiveBus) → IsSameBus old new → CanDispatch shared seen old → CanDispatch shared seen new
 can_run-same shared seen old new same running = (running.0, running-same running.0 shared seen old new same running.1)
 
 -- and so it is behind calls that open no cycle
-pub running-seen : CallsBetween → (setting : Setting) (shared : Lock Rules) (old new : List Event) (bus : Bus) → HasSeen shared.fixed old new
+pub running-seen : CallsBetween → (setting : Setting) (shared : Lock Rules) (old new : List Event) (bus : LiveBus) → HasSeen shared.fixed old new
     → IsRunning setting shared old bus → IsRunning setting shared new bus
 running-seen laws setting shared old new bus has running =
     let legal = subst (λ r. IsLegal r (old ++ has.calls)) running.same_rules (subst (λ (h : List Event). IsLegal shared.fixed h) has.seen has.legal) in

@@ -11,19 +11,19 @@ use Rattle.requirement_table.specs.Instance.{bytes_of}
 use Rattle.cycle_engine.specs.Nodes.{IsBus, IsNumber, NodesView, left_in, states_of}
 use Rattle.master_core.specs.declared.event.Event.{Event}
 use Rattle.master_core.specs.History.{IsLegal, is_open, next_of}
-use Rattle.kept_run.specs.Progress.{AreReady, IsOnTheWay, IsUnderWay}
+use Rattle.kept_run.specs.Progress.{AreNodesReady, IsOnTheWay, IsUnderWay}
 use Rattle.kept_run.specs.Setting.{IsSetting, Setting}
 use Rattle.kept_run.specs.Served.{ForgetsEnds}
 use Rattle.kept_run.proofs.Shared.{CallsBetween, Promises, bytes_of-forgets, way-called}
 use Rattle.live_master.specs.Callers.{number_of}
 use Rattle.live_master.specs.Passes.{IsPassOf}
 use Rattle.live_run.specs.declared.crew.Operator.{Operator}
-use Rattle.live_run.specs.declared.dispatching.Bus.{Bus}
+use Rattle.live_run.specs.declared.dispatching.LiveBus.{LiveBus}
 use Rattle.live_run.specs.declared.frames.Run.{Run}
 use Rattle.live_run.specs.declared.script.Script.{Script}
 use Rattle.live_run.specs.Crew.{AreDone}
 use Rattle.live_run.specs.Live.{AreFresh, HasAnswered, IsLiveRun}
-use Rattle.live_run.specs.Running.{CanRun, IsRunning}
+use Rattle.live_run.specs.Running.{CanDispatch, IsRunning}
 
 -- a run begins with no calls, no frames, and nodes as they were made
 pub record Beginning : Type 0 where
@@ -31,24 +31,24 @@ pub record Beginning : Type 0 where
   pub ready : (setting : Setting) (nodes : NodesView) → nodes.layout ≡ setting.layout → setting.sends ≡ bytes_of
       → IsBus setting.layout setting.owners setting.requests [] [] 0 (states_of nodes.nodes)
       → ((number : ℕ) → number < setting.rules.nodes → IsNumber (states_of nodes.nodes) number)
-      → AreReady setting [] [] nodes
+      → AreNodesReady setting [] [] nodes
 
 -- the dispatcher's pass once operators were made, and its bus, are running
-pub begun : Beginning → (setting : Setting) (shared : Lock Rules) (seen : List Event) (bus : Bus)
+pub begun : Beginning → (setting : Setting) (shared : Lock Rules) (seen : List Event) (bus : LiveBus)
     → IsSetting setting → shared.fixed ≡ setting.rules → seen ≡ [] → AreFresh setting bus.nodes → bus.trace.items ≡ [] → IsRunning setting shared seen bus
 begun laws setting shared seen bus known rules none fresh empty = record {
   same_rules = rules;
   way = record {
     known = known;
     under_way = subst (λ h. IsUnderWay setting h bus.trace.items) (sym none) (subst (λ t. IsUnderWay setting [] t) (sym empty) (laws.under_way setting));
-    ready = subst (λ h. AreReady setting h bus.trace.items bus.nodes) (sym none) (subst (λ t. AreReady setting [] t bus.nodes) (sym empty)
+    ready = subst (λ h. AreNodesReady setting h bus.trace.items bus.nodes) (sym none) (subst (λ t. AreNodesReady setting [] t bus.nodes) (sym empty)
         (laws.ready setting bus.nodes fresh.same_layout fresh.same_bytes fresh.bus fresh.numbers));
   };
 }
 
 -- so in some setting they are
-pub can_begin : Beginning → (setting : Setting) (shared : Lock Rules) (seen : List Event) (bus : Bus)
-    → IsSetting setting → shared.fixed ≡ setting.rules → seen ≡ [] → AreFresh setting bus.nodes → bus.trace.items ≡ [] → CanRun shared seen bus
+pub can_begin : Beginning → (setting : Setting) (shared : Lock Rules) (seen : List Event) (bus : LiveBus)
+    → IsSetting setting → shared.fixed ≡ setting.rules → seen ≡ [] → AreFresh setting bus.nodes → bus.trace.items ≡ [] → CanDispatch shared seen bus
 can_begin laws setting shared seen bus known rules none fresh empty = (setting, begun laws setting shared seen bus known rules none fresh empty)
 
 -- operators that are done stand at the shared master
@@ -116,7 +116,7 @@ answered-all v shared scripts (o ∷ os) same done ended answered facts k d with
 
 -- what is left once the operators were retired
 pub left-behind : Laws → (setting : Setting) (shared : Lock Rules) (cycles : ℕ) (scripts : List Script) (operators : List Operator)
-    (before after : Known Event Rules) (bus : Bus) (run : Run)
+    (before after : Known Event Rules) (bus : LiveBus) (run : Run)
     → IsSetting setting → shared.fixed ≡ setting.rules → IsRunning setting shared before.view.seen bus
     → IsPassOf shared before → IsPassOf shared after → before.view.number ≡ 0 → after.view.number ≡ before.view.number
     → after.view.mine ≡ before.view.mine → IsPrefix before.view.seen after.view.seen → next_of before.view.mine ≡ cycles

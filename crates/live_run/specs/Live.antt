@@ -10,7 +10,7 @@ use Rattle.cycle_engine.specs.Nodes.{IsBus, IsNumber, NodesView, left_in, states
 use Rattle.master_core.specs.declared.event.Event.{Event}
 use Rattle.master_core.specs.History.{is_open, next_of}
 use Rattle.kept_run.specs.Kept.{Kept}
-use Rattle.kept_run.specs.Progress.{AreReady}
+use Rattle.kept_run.specs.Progress.{AreNodesReady}
 use Rattle.kept_run.specs.Setting.{Setting}
 use Rattle.live_master.specs.Callers.{number_of}
 use Rattle.live_master.specs.Passes.{IsPassOf}
@@ -19,7 +19,7 @@ use Rattle.live_run.specs.declared.script.Script.{Script}
 use Rattle.live_run.specs.Answers.{AnswersActs}
 
 -- a dispatcher's pass as it was made with its shared master
-pub record IsFirst (shared : Lock Rules) (pass : Known Event Rules) : Type 0 where
+pub record IsFirstPass (shared : Lock Rules) (pass : Known Event Rules) : Type 0 where
   pub is : pass ≡ record { table = shared.table; view = first_view shared.fixed }
   pub standing : IsPassOf shared pass
 
@@ -40,9 +40,9 @@ pub record HasAnswered (v : View Event Rules) (number : ℕ) (acts : List Act) :
   pub answers : AnswersActs number acts calls
 
 -- nodes that stand for the bus after this history and trace have so many requests that are not sent
-pub record IsLeft (setting : Setting) (history : List Event) (run : Run) : Type 0 where
+pub record AreRequestsLeft (setting : Setting) (history : List Event) (run : Run) : Type 0 where
   pub nodes : NodesView
-  pub ready : AreReady setting history run.trace nodes
+  pub ready : AreNodesReady setting history run.trace nodes
   pub left : run.left ≡ left_in (states_of nodes.nodes)
 
 -- *The run*: what the dispatcher's pass has seen is legal, and with the trace it keeps what is promised; it opens so
@@ -57,4 +57,4 @@ pub record IsLiveRun (setting : Setting) (cycles : ℕ) (scripts : List Script) 
   pub answered : (k : ℕ) (d : Script) → k < length scripts → HasAnswered v (k + 1) (slice_index_or scripts k d).acts
   pub others : length v.ended ≡ length scripts
   pub numbers : All (λ entry. entry.0 ≤ length scripts) v.ended
-  pub left : IsLeft setting v.seen run
+  pub left : AreRequestsLeft setting v.seen run

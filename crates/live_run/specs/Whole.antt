@@ -9,7 +9,7 @@ use Rattle.live_master.specs.Callers.{number_of}
 use Rattle.live_run.specs.declared.closing.Ended.{Ended}
 use Rattle.live_run.specs.declared.script.Script.{Script}
 use Rattle.live_run.specs.Answers.{AnswersActs}
-use Rattle.live_run.specs.Live.{IsLeft}
+use Rattle.live_run.specs.Live.{AreRequestsLeft}
 
 -- the history opens so many cycles and answers these scripts: the calls of the operator whose number is one above a
 -- script's place are its acts, in their order, each once, and nobody else called. In which order calls of different
@@ -26,4 +26,4 @@ pub record IsWholeRun (setting : Setting) (cycles : ℕ) (scripts : List Script)
   pub rules : ended.master.rules ≡ setting.rules
   pub kept : Kept setting ended.master.history ended.run.trace
   pub answers : AnswersScripts cycles scripts ended.master.history
-  pub left : IsLeft setting ended.master.history ended.run
+  pub left : AreRequestsLeft setting ended.master.history ended.run

@@ -2,7 +2,7 @@
 
 ghost use Rattle.std.specs.Prelude.{◌≡◌, ◌≤◌, ℕ, true, [], All, Contains, IfOk, OnOk, OnErr, vec_len};
 ghost use mathlib.Core.List.{IsPrefix};
-ghost use Rattle.turn_lock.specs.Passes.{IsOf};
+ghost use Rattle.turn_lock.specs.Passes.{IsOfLock};
 ghost use Rattle.live_master.specs.Passes.{IsPassOf};
 ghost use Rattle.live_run.specs.Crew.{AreHired, HasLent, IsDone};
 
@@ -81,7 +81,7 @@ pub fn retire_all(
     mut operators: Vec<Operator>,
 ) -> bool
     requires standing { IsPassOf shared.now pass.old }
-    requires operators { All (λ operator. IsOf shared.now operator.pass) operators.items }
+    requires operators { All (λ operator. IsOfLock shared.now operator.pass) operators.items }
     requires out { pass.old.view.out ≡ vec_len operators }
     ensures answered { result ≡ true → All (λ operator. operator.answered ≡ true) operators.items }
     ensures ended { All (λ operator. Contains pass.new.view.ended (operator.pass.view.number, operator.pass.view.mine))

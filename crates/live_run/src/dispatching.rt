@@ -9,8 +9,8 @@ ghost use Rattle.kept_run.specs.Progress.{IsOnTheWay};
 ghost use Rattle.kept_run.specs.Setting.{Setting};
 ghost use Rattle.live_master.specs.Passes.{IsPassOf};
 ghost use Rattle.cycle_engine.specs.Nodes.{CanLearn, HaveSpare, KeepSpare, states_of};
-ghost use Rattle.live_run.specs.Running.{CanRun, HasFrameRoom, HasOpened, HasSeen, IsBeforeOrder, IsRunning, IsSameBus};
-ghost use Rattle.live_run.specs.Running.{Stays};
+ghost use Rattle.live_run.specs.Running.{CanDispatch, HasFrameRoom, HasOpened, HasSeen, IsBeforeOrder, IsRunning, IsSameBus};
+ghost use Rattle.live_run.specs.Running.{KeepsPasses};
 ghost use Rattle.live_run.specs.Left.{numbers_of};
 
 use crate::points::{Gate, Point};
@@ -26,7 +26,7 @@ use std::sync::Wait;
 
 /// The bus of a run behind some of its cycles.
 #[derive(Drop)]
-pub struct Bus {
+pub struct LiveBus {
     /// The nodes, with the requests that are not sent.
     pub nodes: Nodes,
     /// The frames so far, in the order of their starts.
@@ -43,7 +43,7 @@ pub struct Room {
 }
 
 /// Makes room for the frames of one cycle behind those of the bus.
-fn reserve_frames(bus: &mut Bus) -> Result<(), AllocError>
+fn reserve_frames(bus: &mut LiveBus) -> Result<(), AllocError>
     ensures room { OnOk result (HasFrameRoom bus.new) }
     ensures same { IsSameBus bus.old bus.new }
     ensures spare { KeepSpare bus.old.nodes.nodes bus.new.nodes.nodes }
@@ -74,7 +74,7 @@ fn open_next<R: Wait>(
     ensures spare { HaveSpare entries.new nodes.new.nodes }
     ensures layout { nodes.new.layout ≡ nodes.old.layout }
     ensures same { states_of nodes.new.nodes ≡ states_of nodes.old.nodes }
-    ensures stays { Stays pass.old.view pass.new.view }
+    ensures stays { KeepsPasses pass.old.view pass.new.view }
     ensures standing { IsPassOf shared.now pass.new }
 {
     one_call_more();
@@ -93,7 +93,7 @@ fn open_next<R: Wait>(
 
 /// Runs the cycle of an order on the bus, without memory.
 #[tactic(auto, using(crate::proofs::Lefts::numbers_run))]
-fn run_order(order: &Order, bus: &mut Bus, segment: &mut Segment)
+fn run_order(order: &Order, bus: &mut LiveBus, segment: &mut Segment)
     requires early { order.now.cycle < openings_end }
     requires before { (setting : Setting) × (history : List Event) × IsBeforeOrder setting history order.now bus.old }
     requires can_learn { CanLearn order.now.learned bus.old.nodes.nodes }
@@ -116,21 +116,21 @@ fn open_cycle<R: Wait, G: Gate>(
     alloc: Global,
     shared: &LiveMaster,
     pass: &mut DispatcherPass,
-    bus: &mut Bus,
+    bus: &mut LiveBus,
     room: &mut Room,
     gate: &G,
 ) -> Result<(), AllocError>
     requires of { IsPassOf shared.now pass.old }
     requires dispatcher { pass.old.view.number ≡ 0 }
     requires cycles { next_of pass.old.view.mine < openings_end }
-    requires running { CanRun shared.now pass.old.view.seen bus.old }
+    requires running { CanDispatch shared.now pass.old.view.seen bus.old }
     requires spare { HaveSpare room.old.entries bus.old.nodes.nodes }
     ensures running { (setting : Setting) → IsRunning setting shared.now pass.old.view.seen bus.old
         → IsRunning setting shared.now pass.new.view.seen bus.new }
     ensures numbers { numbers_of (states_of bus.new.nodes.nodes) ≡ numbers_of (states_of bus.old.nodes.nodes) }
     ensures next { OnOk result (next_of pass.new.view.mine ≡ next_of pass.old.view.mine + 1) }
     ensures spare { HaveSpare room.new.entries bus.new.nodes.nodes }
-    ensures stays { Stays pass.old.view pass.new.view }
+    ensures stays { KeepsPasses pass.old.view pass.new.view }
     ensures standing { IsPassOf shared.now pass.new }
 {
     calls_between();
@@ -153,7 +153,7 @@ pub fn dispatch<R: Wait, G: Gate>(
     alloc: Global,
     shared: &LiveMaster,
     pass: &mut DispatcherPass,
-    bus: &mut Bus,
+    bus: &mut LiveBus,
     cycles: u64,
     gate: &G,
 ) -> Result<(), AllocError>
@@ -161,12 +161,12 @@ pub fn dispatch<R: Wait, G: Gate>(
     requires dispatcher { pass.old.view.number ≡ 0 }
     requires none { next_of pass.old.view.mine ≡ 0 }
     requires cycles { cycles < openings_end }
-    requires running { CanRun shared.now pass.old.view.seen bus.old }
+    requires running { CanDispatch shared.now pass.old.view.seen bus.old }
     ensures running { (setting : Setting) → IsRunning setting shared.now pass.old.view.seen bus.old
         → IsRunning setting shared.now pass.new.view.seen bus.new }
     ensures numbers { numbers_of (states_of bus.new.nodes.nodes) ≡ numbers_of (states_of bus.old.nodes.nodes) }
     ensures cycles { OnOk result (next_of pass.new.view.mine ≡ cycles) }
-    ensures stays { Stays pass.old.view pass.new.view }
+    ensures stays { KeepsPasses pass.old.view pass.new.view }
     ensures standing { IsPassOf shared.now pass.new }
 {
     let mut room = Room {

@@ -2,7 +2,7 @@
 
 ghost use Rattle.std.specs.Prelude.{◌≡◌, ◌++◌, ◌∷◌, [], OnOk, map};
 ghost use Rattle.change_protocol.specs.declared.operations.Act.TheVariants as act_of;
-ghost use Rattle.turn_lock.specs.Passes.{IsOf};
+ghost use Rattle.turn_lock.specs.Passes.{IsOfLock};
 ghost use Rattle.live_master.specs.Passes.{IsPassOf};
 ghost use Rattle.master_core.specs.Calls.{asked, call_of};
 
@@ -22,7 +22,7 @@ fn ask<R: Wait, G: Gate>(
     change: &Change,
     gate: &G,
 ) -> Result<(), AllocError>
-    requires of { IsOf shared.now pass.old }
+    requires of { IsOfLock shared.now pass.old }
     ensures answered { OnOk result (map call_of pass.new.view.mine
         ≡ map call_of pass.old.view.mine ++ asked pass.old.view.number (act_of.Ask change.now) ∷ []) }
     ensures number { pass.new.view.number ≡ pass.old.view.number }
@@ -44,7 +44,7 @@ fn look<R: Wait>(
     shared: &LiveMaster,
     pass: &mut OperatorPass,
 ) -> Result<(), AllocError>
-    requires of { IsOf shared.now pass.old }
+    requires of { IsOfLock shared.now pass.old }
     ensures answered { OnOk result (map call_of pass.new.view.mine
         ≡ map call_of pass.old.view.mine ++ asked pass.old.view.number act_of.Look ∷ []) }
     ensures number { pass.new.view.number ≡ pass.old.view.number }
@@ -63,7 +63,7 @@ fn answer<R: Wait, G: Gate>(
     act: &Act,
     gate: &G,
 ) -> Result<(), AllocError>
-    requires of { IsOf shared.now pass.old }
+    requires of { IsOfLock shared.now pass.old }
     ensures answered { OnOk result (map call_of pass.new.view.mine
         ≡ map call_of pass.old.view.mine ++ asked pass.old.view.number act.now ∷ []) }
     ensures number { pass.new.view.number ≡ pass.old.view.number }

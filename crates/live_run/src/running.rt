@@ -4,12 +4,12 @@ ghost use Rattle.std.specs.Prelude.{◌≡◌, ◌<◌, ◌≤◌, IfOk, length}
 ghost use Rattle.profile.specs.Limits.{openings_end};
 ghost use Rattle.kept_run.specs.Setting.{IsSetting, Setting};
 ghost use Rattle.live_master.specs.Passes.{IsPassOf};
-ghost use Rattle.live_run.specs.Live.{AreFresh, IsFirst, IsLiveRun};
+ghost use Rattle.live_run.specs.Live.{AreFresh, IsFirstPass, IsLiveRun};
 ghost use Rattle.live_run.specs.Left.{left_at, numbers_of};
 ghost use Rattle.cycle_engine.specs.Nodes.{states_of};
 
 use crate::crew::{hire, retire_all};
-use crate::dispatching::Bus;
+use crate::dispatching::LiveBus;
 use crate::frames::{FrameList, Run};
 use crate::points::Gate;
 use crate::script::Script;
@@ -50,7 +50,7 @@ pub fn run_live<T: Threads + Wait + Sync, G: Gate>(
     ghost setting: { Setting }
     requires setting { IsSetting setting }
     requires rules { shared.now.fixed ≡ setting.rules }
-    requires pass { IsFirst shared.now pass.old }
+    requires pass { IsFirstPass shared.now pass.old }
     requires nodes { AreFresh setting nodes }
     requires cycles { cycles < openings_end }
     requires scripts { length scripts.items ≤ 8 }
@@ -65,7 +65,7 @@ pub fn run_live<T: Threads + Wait + Sync, G: Gate>(
     promise();
     events_in_histories();
     openings_of_dispatchers();
-    let mut bus = Bus {
+    let mut bus = LiveBus {
         nodes,
         trace: Vec::new(alloc),
     };

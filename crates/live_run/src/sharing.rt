@@ -6,12 +6,12 @@ ghost use Rattle.master_core.specs.History.{next_of};
 ghost use Rattle.kept_run.specs.Setting.{Setting};
 ghost use Rattle.live_master.specs.Passes.{IsPassOf};
 ghost use Rattle.live_run.specs.Crew.{AreDone, AreHired, IsHired};
-ghost use Rattle.live_run.specs.Running.{CanRun, IsRunning, Stays};
+ghost use Rattle.live_run.specs.Running.{CanDispatch, IsRunning, KeepsPasses};
 ghost use Rattle.live_run.specs.Left.{numbers_of};
 ghost use Rattle.cycle_engine.specs.Nodes.{states_of};
 
 use crate::crew::{Operator, take_part};
-use crate::dispatching::{Bus, dispatch};
+use crate::dispatching::{LiveBus, dispatch};
 use crate::points::Gate;
 use crate::script::Script;
 use live_master::{DispatcherPass, LiveMaster};
@@ -53,7 +53,7 @@ pub fn share<T: Threads + Wait + Sync, G: Gate>(
     alloc: Global,
     shared: &LiveMaster,
     pass: &mut DispatcherPass,
-    bus: &mut Bus,
+    bus: &mut LiveBus,
     cycles: u64,
     operators: &mut [Operator],
     scripts: &[Script],
@@ -63,14 +63,14 @@ pub fn share<T: Threads + Wait + Sync, G: Gate>(
     requires dispatcher { pass.old.view.number ≡ 0 }
     requires none { next_of pass.old.view.mine ≡ 0 }
     requires cycles { cycles < openings_end }
-    requires running { CanRun shared.now pass.old.view.seen bus.old }
+    requires running { CanDispatch shared.now pass.old.view.seen bus.old }
     requires hired { AreHired shared.now operators.old }
     requires scripts { length scripts.now ≡ length operators.old }
     ensures running { (setting : Setting) → IsRunning setting shared.now pass.old.view.seen bus.old
         → IsRunning setting shared.now pass.new.view.seen bus.new }
     ensures numbers { numbers_of (states_of bus.new.nodes.nodes) ≡ numbers_of (states_of bus.old.nodes.nodes) }
     ensures cycles { OnOk result (next_of pass.new.view.mine ≡ cycles) }
-    ensures stays { Stays pass.old.view pass.new.view }
+    ensures stays { KeepsPasses pass.old.view pass.new.view }
     ensures standing { IsPassOf shared.now pass.new }
     ensures done { AreDone shared.now scripts.now operators.new }
     ensures length { length operators.new ≡ length operators.old }
@@ -80,7 +80,7 @@ pub fn share<T: Threads + Wait + Sync, G: Gate>(
         &mut || -> Result<(), AllocError>
             requires { IsPassOf shared.now pass.now × (pass.now.view.number ≡ 0)
                 × (next_of pass.now.view.mine ≡ 0) × (cycles < openings_end)
-                × CanRun shared.now pass.now.view.seen bus.now }
+                × CanDispatch shared.now pass.now.view.seen bus.now }
         { dispatch(rt, alloc, shared, pass, bus, cycles, gate) },
         &mut || -> ()
             requires { (AreHired shared.now operators.now) × (length scripts.now ≡ length operators.now) }

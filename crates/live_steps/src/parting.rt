@@ -13,7 +13,7 @@ use steps_file::Step;
 
 /// The steps of a file, parted.
 #[derive(Drop)]
-pub struct Parts {
+pub struct LiveParts {
     /// How many cycles all counts together ask for.
     pub cycles: u64,
     /// The acts of each operator, from operator 1 on.
@@ -49,7 +49,7 @@ fn add_act(scripts: &mut [Script], caller: u8, act: Act) -> Result<(), AllocErro
 }
 
 /// Parts the steps of a file, which has its limits.
-pub fn part(alloc: Global, steps: Vec<Step>) -> Result<Parts, AllocError>
+pub fn part(alloc: Global, steps: Vec<Step>) -> Result<LiveParts, AllocError>
     requires steps { AreLegalSteps steps.items }
     ensures parted { IfOk result (AreParted steps.items) }
 {
@@ -61,5 +61,5 @@ pub fn part(alloc: Global, steps: Vec<Step>) -> Result<Parts, AllocError>
             Step::Act { caller, act } => add_act(scripts.as_mut_slice(), caller, act)?,
         }
     }
-    Ok(Parts { cycles, scripts })
+    Ok(LiveParts { cycles, scripts })
 }

@@ -4,9 +4,9 @@ use Rattle.std.specs.Prelude.{IsErrAnd}
 use Rattle.std.proofs.lemmas.List.{append-nil, length-append, length-map, map-append}
 use Rattle.std.proofs.lemmas.List.Elements.{All-head, All-push, All-tail}
 use Rattle.std.proofs.lemmas.Option.{same_Some}
-use Rattle.text_fields.specs.CsvReading.{Reads, ReadsOne}
+use Rattle.text_fields.specs.CsvReading.{ReadsCsv, ReadsOneCsv}
 use Rattle.text_fields.specs.CsvRows.{records_of}
-use Rattle.log_reader.specs.LogReading.{IsBehind, ReadsRow, RowReader}
+use Rattle.log_reader.specs.LogReading.{HasReadRows, ReadsRow, RowReader}
 use Rattle.log_reader.specs.Row.{AreRowsOf, IsFirstFaultyRow, IsLogFault, IsLogRow, fields_of_row}
 use Rattle.log_reader.specs.RowFields.{row_of}
 use Rattle.log_reader.specs.declared.log_fault.LogFault.{LogFault}
@@ -65,8 +65,8 @@ first-rows (a ∷ read) (b ∷ rows) x one other is =
 
 -- Row by row
 
-module _ (bytes : List ℕ) (before after : RowReader) (rows : List LogRow) (fields : List (List ℕ)) (is : IsBehind bytes before rows)
-    (one : ReadsOne bytes before.records after.records (map fields_of_row rows) fields) where
+module _ (bytes : List ℕ) (before after : RowReader) (rows : List LogRow) (fields : List (List ℕ)) (is : HasReadRows bytes before rows)
+    (one : ReadsOneCsv bytes before.records after.records (map fields_of_row rows) fields) where
   -- one record more is counted
   count-fits : before.count + 1 < 2 ^ 64
   count-fits =
@@ -89,7 +89,7 @@ module _ (bytes : List ℕ) (before after : RowReader) (rows : List LogRow) (fie
       record {
         behind = record {
           legal = All-push IsLogRow rows row is.legal form.legal;
-          reads = subst (Reads bytes after.records) (sym more) one.reads;
+          reads = subst (ReadsCsv bytes after.records) (sym more) one.reads;
           counted = omega (arith, count, counted, length-append rows (row ∷ []));
           few = is.few;
         };
@@ -132,7 +132,7 @@ module _ (bytes : List ℕ) (read : List LogRow) (legal : All IsLogRow read) (fi
 
 -- a record that has none of the forms is the first faulty row
 pub reads-fault : (bytes : List ℕ) (before after : RowReader) (rows : List LogRow) (fields : List (List ℕ))
-    → IsBehind bytes before rows → ReadsOne bytes before.records after.records (map fields_of_row rows) fields
+    → HasReadRows bytes before rows → ReadsOneCsv bytes before.records after.records (map fields_of_row rows) fields
     → None ≡ row_of fields → (before.count + 1 < 2 ^ 64 → after.count ≡ before.count + 1) → IsFirstFaultyRow bytes after.count
 reads-fault bytes before after rows fields is one found counts =
     let count : after.count ≡ before.count + 1 = counts (count-fits bytes before after rows fields is one) in
@@ -159,7 +159,7 @@ pub one-log : (bytes : List ℕ) (rows others : List LogRow) → AreRowsOf bytes
 one-log bytes rows others are other = whole-back bytes rows are.0 are.1 others other.0 other.1
 
 -- the rows that were read are the first of its rows
-pub read-first : (bytes : List ℕ) (reader : RowReader) (read rows : List LogRow) → IsBehind bytes reader read → AreRowsOf bytes rows
+pub read-first : (bytes : List ℕ) (reader : RowReader) (read rows : List LogRow) → HasReadRows bytes reader read → AreRowsOf bytes rows
     → (later : List LogRow) × (rows ≡ read ++ later)
 read-first bytes reader read rows is are = first-rows read rows _ is.legal are.0 (sym is.reads.rows ∙ are.1)
 

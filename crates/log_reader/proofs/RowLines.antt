@@ -11,7 +11,7 @@ use Rattle.std.specs.Borrow.{Bor}
 use Rattle.csv.specs.Reading.{strip_bom}
 use Rattle.csv.specs.declared.reader.Reader.{Reader}
 use Rattle.csv.specs.declared.parser.State.TheVariants as st
-use Rattle.text_fields.specs.CsvReading.{Reads, records_left}
+use Rattle.text_fields.specs.CsvReading.{ReadsCsv, records_left}
 use Rattle.text_fields.specs.CsvRows.{records_of}
 use Rattle.text_fields.specs.Hexadecimal.{is_hex_digit}
 use Rattle.text_fields.proofs.Shared.{ArePlain, IsPlainRecord, all-data, all-decimal, all-hex, is_plain, no-mark, no-mark-empty, none-next, plain-next}
@@ -120,7 +120,7 @@ rows-few (read ∷ rows) =
 
 -- a reader that was begun behind rows stands behind them
 pub reads-behind : (bytes rest : List ℕ) (reader : Reader (Bor (List ℕ))) (rows : List LogRow) → All IsLogRow rows
-    → bytes ≡ text_of_rows rows ++ rest → HasNoMark rest → Reads rest reader [] → Reads bytes reader (map fields_of_row rows)
+    → bytes ≡ text_of_rows rows ++ rest → HasNoMark rest → ReadsCsv rest reader [] → ReadsCsv bytes reader (map fields_of_row rows)
 reads-behind bytes rest reader rows legal is none begun =
     let own : records_left st.StartRecord rest ≡ records_left reader.state begun.left =
     sym (ap (records_left st.StartRecord) (unmarked [] rest none)) ∙ begun.rows in

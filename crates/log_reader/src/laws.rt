@@ -1,7 +1,7 @@
 //! Laws about the rows of a text. Each function has an empty body, and its contract is the law.
 
 ghost use Rattle.std.specs.Prelude.{◌≡◌, ℕ, ◌++◌, All, List};
-ghost use Rattle.log_reader.specs.LogReading.{IsBehind, RowReader};
+ghost use Rattle.log_reader.specs.LogReading.{HasReadRows, RowReader};
 ghost use Rattle.log_reader.specs.Row.{AreRowsOf, IsFirstFaultyRow, IsLogRow, text_of_rows};
 ghost use Rattle.log_reader.specs.declared.row.LogRow.{LogRow};
 
@@ -12,7 +12,7 @@ pub fn one_log()
         → rows ≡ others }
     ensures no_fault { (bytes : List ℕ) (rows : List LogRow) (number : ℕ) → AreRowsOf bytes rows
         → IsFirstFaultyRow bytes number → ⊥ }
-    ensures first { (bytes : List ℕ) (reader : RowReader) (read rows : List LogRow) → IsBehind bytes reader read
+    ensures first { (bytes : List ℕ) (reader : RowReader) (read rows : List LogRow) → HasReadRows bytes reader read
         → AreRowsOf bytes rows → (later : List LogRow) × (rows ≡ read ++ later) }
 {}
 

@@ -7,7 +7,7 @@
 
 ghost use Rattle.std.specs.Prelude.{◌≡◌, ◌⊎◌, ℕ, List, All, IfOk, IfErr, MatchResult, OnOk, false, map};
 ghost use Rattle.text_fields.specs.CsvRows.{records_of};
-ghost use Rattle.log_reader.specs.LogReading.{IsBehind};
+ghost use Rattle.log_reader.specs.LogReading.{HasReadRows};
 ghost use Rattle.log_reader.specs.Row.{AreRowsOf, IsFirstFaultyRow, IsLogFault, IsLogRow, fields_of_row, text_of_rows};
 ghost use Rattle.log_reader.specs.RowBytes.{BeginsWithRows, HasNoMark};
 ghost use Rattle.log_reader.specs.declared.log_fault.LogFault.TheVariants.{Memory, Row};
@@ -70,7 +70,7 @@ fn has_mark(text: &[u8]) -> bool
 /// A reader of the rows of a text from the first one on that is not in the form in which it is written.
 fn reader_behind<'a>(alloc: Global, bytes: &'a [u8], rest: &'a [u8], count: u64) -> LogReader<'a>
     requires rows { BeginsWithRows bytes.now rest.now count }
-    ensures behind { (rows : List LogRow) × IsBehind bytes.now result rows }
+    ensures behind { (rows : List LogRow) × HasReadRows bytes.now result rows }
 {
     if has_mark(rest) {
         return LogReader::new(alloc, bytes);

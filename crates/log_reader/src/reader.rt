@@ -1,7 +1,7 @@
 //! The rows of a log, one after the other.
 
 ghost use Rattle.std.specs.Prelude.{◌≡◌, ◌++◌, ℕ, All, List, [], IfErr, IfNone, IfOk, IfSome, length};
-ghost use Rattle.log_reader.specs.LogReading.{CountsAtFault, IsBehind, ReadsRow};
+ghost use Rattle.log_reader.specs.LogReading.{CountsAtFault, HasReadRows, ReadsRow};
 ghost use Rattle.log_reader.specs.Row.{AreRowsOf, IsLogFault, IsLogRow, text_of_rows};
 ghost use Rattle.log_reader.specs.RowBytes.{HasNoMark};
 ghost use Rattle.log_reader.specs.declared.row.LogRow.{LogRow};
@@ -36,7 +36,7 @@ impl<'a> Model for LogReader<'a> {
 impl<'a> LogReader<'a> {
     /// Before the first row of a text.
     pub fn new(alloc: Global, bytes: &'a [u8]) -> LogReader<'a>
-        ensures before { IsBehind bytes.now result [] }
+        ensures before { HasReadRows bytes.now result [] }
     {
         LogReader {
             records: records_in(alloc, bytes),
@@ -50,7 +50,7 @@ impl<'a> LogReader<'a> {
     pub(crate) fn behind(alloc: Global, bytes: &[u8], rest: &'a [u8], count: u64) -> LogReader<'a>
         requires no_mark { HasNoMark rest.now }
         ensures behind { (rows : List LogRow) → All IsLogRow rows → bytes.now ≡ text_of_rows rows ++ rest.now
-            → count ≡ length rows → IsBehind bytes.now result rows }
+            → count ≡ length rows → HasReadRows bytes.now result rows }
     {
         LogReader {
             records: records_in(alloc, rest),
@@ -73,11 +73,11 @@ impl<'a> LogReader<'a> {
     /// `Row` where the fields of the next record are those of no row, or `Memory`. No row is to be read behind an error.
     pub fn next_row(&mut self) -> Result<Option<LogRow>, LogFault>
         ensures more { IfOk result (λ found. IfSome found (λ row. (bytes : List ℕ) (rows : List LogRow)
-            → IsBehind bytes self.old rows → ReadsRow bytes self.old self.new rows row)) }
+            → HasReadRows bytes self.old rows → ReadsRow bytes self.old self.new rows row)) }
         ensures all { IfOk result (λ found. IfNone found ((bytes : List ℕ) (rows : List LogRow)
-            → IsBehind bytes self.old rows → AreRowsOf bytes rows)) }
+            → HasReadRows bytes self.old rows → AreRowsOf bytes rows)) }
         ensures faulty { IfErr result (λ fault. (bytes : List ℕ) (rows : List LogRow)
-            → IsBehind bytes self.old rows → IsLogFault bytes fault) }
+            → HasReadRows bytes self.old rows → IsLogFault bytes fault) }
         ensures count_at_end { IfOk result (λ found. IfNone found (self.new.count ≡ self.old.count)) }
         ensures count_at_fault { IfErr result (CountsAtFault self.old.count self.new.count) }
     {

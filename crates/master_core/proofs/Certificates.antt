@@ -13,7 +13,7 @@ use Rattle.planner_policies.specs.Plan.{NeverMisses, Planning, Ranking, is_misse
 use Rattle.planner_policies.proofs.Shared.{on-missed}
 use Rattle.plan_check.specs.Certificate.{CertificateView, length_of}
 use Rattle.plan_check.specs.PlanKept.{IsTaken}
-use Rattle.plan_check.specs.PlanText.{IsPlanOf, plan_text}
+use Rattle.plan_check.specs.PlanText.{IsTextOfPlan, plan_text}
 use Rattle.plan_check.specs.declared.plan_runs.Version.TheVariants.{Two}
 use Rattle.admission_rules.specs.declared.Rules.{Rules}
 use Rattle.admission.specs.declared.certify_fault.CertifyFault.{CertifyFault}
@@ -27,7 +27,7 @@ use Rattle.master_core.specs.declared.event.Event.TheVariants.{Submit, Look, Ope
 use Rattle.master_core.specs.Cores.{CoreView, IsCore, onward, state_of}
 use Rattle.master_core.specs.Certificates.{IsCertificateOfPlan, onward_of}
 use Rattle.master_core.specs.History.{next_of, placed_of, plan_of}
-use Rattle.master_core.specs.Keeping.{IsKept}
+use Rattle.master_core.specs.Keeping.{IsMasterKept}
 use Rattle.master_core.specs.Openings.{opening_of, openings_of}
 use Rattle.master_core.proofs.Earlier.{AreOpened, IsBy, opened-of_legal, range-more}
 use Rattle.master_core.proofs.Histories.{openings_of-push}
@@ -122,7 +122,7 @@ core-end core is certificate of =
 
 -- its text is read back
 pub core-read : ((plan : Planning) (n : ℕ) → All (λ mask. mask < 2 ^ most_slots) (masks_of plan n)) → (core : CoreView) → IsCore core → (certificate : CertificateView)
-    → IsCertificateFrom core.rules core.placed (state_of core) certificate → IsPlanOf (plan_text certificate) certificate
+    → IsCertificateFrom core.rules core.placed (state_of core) certificate → IsTextOfPlan (plan_text certificate) certificate
 core-read masks core is certificate of =
     let start = of.start in
     let before = of.before in
@@ -155,7 +155,7 @@ IsDue rules history change verdict =
     (plan_from rules (applied (placed_of history) change) (next_of history) (pending_at (plan_of rules (placed_of history)) (next_of history))) verdict
 
 module _ (rules : Rules) (history : List Event) (list : List Placed) (since : ℕ) (ranked : Ranking) (cycle pending : ℕ) (learned : Option (List Placed))
-    (kept : IsKept rules history list since ranked cycle pending learned) where
+    (kept : IsMasterKept rules history list since ranked cycle pending learned) where
   onward-is : plan_from rules list cycle pending ≡ onward_of rules history
   onward-is =
       ap (λ (set : ℕ). plan_from rules list cycle set) kept.waiting

@@ -18,7 +18,7 @@ use Rattle.master_core.specs.declared.answer.Made.{Made}
 use Rattle.master_core.specs.declared.table.Table.{Table}
 use Rattle.master_core.specs.Answers.{IsMade, IsMadeOf, IsTakenOver}
 use Rattle.master_core.specs.History.{IsLegal, IsRightAnswer, accepted_of, accepts, is_changed, is_changed_after, learned_of, next_of, placed_after, placed_of, plan_of}
-use Rattle.master_core.specs.Keeping.{HasRoom, IsKept}
+use Rattle.master_core.specs.Keeping.{HasEventRoom, IsMasterKept}
 use Rattle.master_core.proofs.Earlier.{same-of_legal}
 use Rattle.master_core.proofs.Histories.{is_changed-push, legal-push, next_of-push, placed_of-push}
 
@@ -29,8 +29,8 @@ learned_of-push history event =
     ∙ ap (λ (l : List Placed). if is_changed_after (is_changed history) event then Some l else None) (placed_of-push history event)
 
 module _ (rules : Rules) (history : List Event) (list : List Placed) (since : ℕ) (ranked : Ranking) (cycle pending : ℕ) (learned : Option (List Placed))
-    (kept : IsKept rules history list since ranked cycle pending learned) where
-  pub kept-look : (caller : ℕ) → IsKept rules (history ++ Look caller cycle ∷ []) list since ranked cycle pending learned
+    (kept : IsMasterKept rules history list since ranked cycle pending learned) where
+  pub kept-look : (caller : ℕ) → IsMasterKept rules (history ++ Look caller cycle ∷ []) list since ranked cycle pending learned
   kept-look caller = record {
     ranges = kept.ranges;
     legal = legal-push rules history (Look caller cycle) kept.legal kept.next;
@@ -45,7 +45,7 @@ module _ (rules : Rules) (history : List Event) (list : List Placed) (since : �
 
   -- the table where entries that are over by the next cycle are dropped from those that are planned
   pub kept-passed : (same_list : List Placed) (by : ℕ) (fewer : Ranking) → same_list ≡ list → by ≤ cycle
-      → fewer ≡ record ranked { placed = not_over by same_list } → IsKept rules history same_list by fewer cycle pending learned
+      → fewer ≡ record ranked { placed = not_over by same_list } → IsMasterKept rules history same_list by fewer cycle pending learned
   kept-passed same_list by fewer same passed is = record {
     ranges = kept.ranges;
     legal = kept.legal;
@@ -59,7 +59,7 @@ module _ (rules : Rules) (history : List Event) (list : List Placed) (since : �
   }
 
   pub kept-open : (mask next left : ℕ) → cycle < 2 ^ 41 → mask ≡ mask_at (plan_of rules list) cycle → next ≡ cycle + 1
-      → left ≡ pending_at (plan_of rules list) (cycle + 1) → IsKept rules (history ++ Open cycle mask ∷ []) list since ranked next left None
+      → left ≡ pending_at (plan_of rules list) (cycle + 1) → IsMasterKept rules (history ++ Open cycle mask ∷ []) list since ranked next left None
   kept-open mask next left near by later waiting =
       let passed = kept.passed in
       record {
@@ -87,7 +87,7 @@ module _ (rules : Rules) (history : List Event) (list : List Placed) (since : �
     next-then : next_of (history ++ event ∷ []) ≡ next_of history
     next-then = next_of-push history event ∙ add-zero (next_of history)
 
-    kept-refused : is_accepted answer.verdict ≡ false → IsKept rules (history ++ event ∷ []) list since ranked cycle pending learned
+    kept-refused : is_accepted answer.verdict ≡ false → IsMasterKept rules (history ++ event ∷ []) list since ranked cycle pending learned
     kept-refused refused = record {
       ranges = kept.ranges;
       legal = legal-put;
@@ -108,7 +108,7 @@ module _ (rules : Rules) (history : List Event) (list : List Placed) (since : �
     }
 
     kept-taken : (made : Made) → IsMadeOf rules history answer made
-        → IsKept rules (history ++ event ∷ []) made.table.placed.items made.table.since made.table.planner.ranking cycle pending (Some made.learned)
+        → IsMasterKept rules (history ++ event ∷ []) made.table.placed.items made.table.since made.table.planner.ranking cycle pending (Some made.learned)
     kept-taken made is =
         let same = same-of_legal rules history event kept.legal right in
         let next = kept.next in
@@ -140,12 +140,12 @@ module _ (rules : Rules) (history : List Event) (list : List Placed) (since : �
 
     pub kept-put : (made : Option Made) (old new : Table) (old_learned new_learned : Option (List Placed)) → IsMade rules history answer made
         → IsTakenOver made old new old_learned new_learned → list ≡ old.placed.items → since ≡ old.since → ranked ≡ old.planner.ranking → learned ≡ old_learned
-        → IsKept rules (history ++ event ∷ []) new.placed.items new.since new.planner.ranking cycle pending new_learned
+        → IsMasterKept rules (history ++ event ∷ []) new.placed.items new.since new.planner.ranking cycle pending new_learned
     kept-put None old new old_learned new_learned refused same list_is since_is ranked_is learned_is =
         rw (same.0, same.1, ← list_is, ← since_is, ← ranked_is, ← learned_is) (kept-refused refused)
     kept-put (Some made) old new old_learned new_learned is taken list_is since_is ranked_is learned_is = rw (taken.0, taken.1) (kept-taken made is)
 
-pub kept-new : (rules : Rules) → IsRules rules → IsKept rules [] [] 0 (ranking_by rules []) 0 0 None
+pub kept-new : (rules : Rules) → IsRules rules → IsMasterKept rules [] [] 0 (ranking_by rules []) 0 0 None
 kept-new rules ranges = record {
   ranges = ranges;
   legal = tt;
@@ -162,8 +162,8 @@ kept-new rules ranges = record {
 
 -- the room
 
-pub room-used : (history : List Event) (event : Event) (room wider spare : ℕ) → HasRoom (length history) room spare → 1 ≤ spare → room ≤ wider
-    → HasRoom (length (history ++ event ∷ [])) wider (spare - 1)
+pub room-used : (history : List Event) (event : Event) (room wider spare : ℕ) → HasEventRoom (length history) room spare → 1 ≤ spare → room ≤ wider
+    → HasEventRoom (length (history ++ event ∷ [])) wider (spare - 1)
 room-used history event room wider spare has some wide =
     let spared = has.spared in
     let few = has.few in
@@ -171,7 +171,7 @@ room-used history event room wider spare has some wide =
     record { spared = omega arith; few = omega arith }
 
 pub room-made : (history : List Event) (event : Event) (room wider spare : ℕ) → length history + (spare + 1) ≤ room → length history + (spare + 1) < 2 ^ 61
-    → room ≤ wider → HasRoom (length (history ++ event ∷ [])) wider spare
+    → room ≤ wider → HasEventRoom (length (history ++ event ∷ [])) wider spare
 room-made history event room wider spare made few wide =
     let more = length-append history (event ∷ []) in
     record { spared = omega arith; few = omega arith }

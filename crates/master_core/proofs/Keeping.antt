@@ -6,11 +6,11 @@ use Rattle.planner_policies.specs.Plan.{NeverMisses, Ranking}
 use Rattle.admission_rules.specs.declared.Rules.{Rules}
 use Rattle.master_core.specs.declared.event.Event.{Event}
 use Rattle.master_core.specs.History.{plan_of}
-use Rattle.master_core.specs.Keeping.{IsKept}
+use Rattle.master_core.specs.Keeping.{IsMasterKept}
 use Rattle.master_core.proofs.Legal.{sound-of_legal}
 
 module _ (rules : Rules) (history : List Event) (list : List Placed) (since : ℕ) (ranked : Ranking) (cycle pending : ℕ) (learned : Option (List Placed))
-    (kept : IsKept rules history list since ranked cycle pending learned) where
+    (kept : IsMasterKept rules history list since ranked cycle pending learned) where
   pub kept-well_placed : IsWellPlaced list
   kept-well_placed = subst IsWellPlaced (sym kept.placed) (sound-of_legal rules history kept.legal).well_placed
 

@@ -18,7 +18,7 @@ use Rattle.master_core.specs.Answers.{AreMadeTo, IsAnswer, IsAnswerTo, IsMade}
 use Rattle.master_core.specs.Cores.{CoreView, IsCore, IsCoreOrder, IsHeld, IsStateOf, answered_by, kept_by}
 use Rattle.admission_rules.specs.declared.Rules.{Rules}
 use Rattle.master_core.specs.History.{IsPlainlyLegal, IsPlannedNow, IsRightAnswer, is_changed, learned_of, placed_of, plan_of}
-use Rattle.master_core.specs.Keeping.{IsKept}
+use Rattle.master_core.specs.Keeping.{IsMasterKept}
 use Rattle.master_core.specs.Orders.{IsOrder}
 use Rattle.master_core.proofs.Histories.{plain-push}
 use Rattle.master_core.proofs.Legal.{sound-of_legal}
@@ -35,7 +35,7 @@ module _ (history : List Event) (core : CoreView) (is : IsCore core) (of : IsSta
   pub whole-held : (from : ℕ) → IsHeld core.forgets from (placed_of history) core.placed
   whole-held from = subst (λ (b : Bool). IsHeld b from (placed_of history) core.placed) (sym all) placed-is
 
-  pub whole-kept : IsKept core.rules history core.placed core.cycle (ranking_by core.rules (not_over core.cycle core.placed)) core.cycle core.pending core.learned
+  pub whole-kept : IsMasterKept core.rules history core.placed core.cycle (ranking_by core.rules (not_over core.cycle core.placed)) core.cycle core.pending core.learned
   whole-kept = record {
     ranges = is.safe.in_range;
     legal = of.legal;

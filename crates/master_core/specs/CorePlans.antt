@@ -73,8 +73,8 @@ pub record IsAnsweredAt (core : CoreView) (state : PlanState) (change : Change) 
       ≡ trail_of (plan_from core.rules (applied core.placed change) state.cycle state.pending) answered.verdict
 
 -- a change that is in time and is planned from this state on is accepted where that is due
-abbrev pub IsDueAt : CoreView → PlanState → Change → Verdict → Type 0
-IsDueAt core state change verdict =
+abbrev pub IsTakenFrom : CoreView → PlanState → Change → Verdict → Type 0
+IsTakenFrom core state change verdict =
     IsInTime core.rules core.placed core.cycle change
     → IsTakenWhereDue core.rules (plan_from core.rules (applied core.placed change) state.cycle state.pending) verdict
 
@@ -95,13 +95,13 @@ pub record IsSettledByPlan (core : CoreView) (planned : CorePlannedView) (answer
   pub led : IsLedTo core planned.snapshot
   pub same : answered ≡ planned_answer core.cycle planned
   pub answer : IsAnsweredAt core planned.snapshot.state planned.change answered
-  pub due : IsDueAt core planned.snapshot.state planned.change answered.verdict
+  pub due : IsTakenFrom core planned.snapshot.state planned.change answered.verdict
 
 -- the change is planned anew, from the next cycle on, since its plan does not lead to the core
 pub record IsSettledAnew (core : CoreView) (planned : CorePlannedView) (answered : Answered) : Type 0 where
   pub apart : IsLedTo core planned.snapshot → ⊥
   pub answer : IsAnswered core planned.change answered
-  pub due : IsDueAt core (state_of core) planned.change answered.verdict
+  pub due : IsTakenFrom core (state_of core) planned.change answered.verdict
 
 -- *Settled*: the plan of a change decides exactly where it leads to the core
 abbrev pub IsSettled : CoreView → CorePlannedView → Answered → Type 0

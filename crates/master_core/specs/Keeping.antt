@@ -17,7 +17,7 @@ pub record MasterView : Type 0 where
 
 -- the fields agree with the history: the placed entries, the next cycle and what is pending before it, and what the
 -- nodes are to learn; the plan is made from the entries that were not over by the cycle `since`
-pub record IsKept (rules : Rules) (history : List Event) (list : List Placed) (since : ℕ) (ranked : Ranking)
+pub record IsMasterKept (rules : Rules) (history : List Event) (list : List Placed) (since : ℕ) (ranked : Ranking)
     (cycle pending : ℕ) (learned : Option (List Placed)) : Type 0 where
   pub ranges : IsRules rules
   pub legal : IsLegal rules history
@@ -31,6 +31,6 @@ pub record IsKept (rules : Rules) (history : List Event) (list : List Placed) (s
 
 -- the room of a history: it has so many events, a vector that holds them has so much room in all, and so many more are
 -- spared
-pub record HasRoom (events room spare : ℕ) : Type 0 where
+pub record HasEventRoom (events room spare : ℕ) : Type 0 where
   pub spared : events + spare ≤ room
   pub few : events + spare < 2 ^ 61

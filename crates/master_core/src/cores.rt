@@ -4,7 +4,7 @@ ghost use Rattle.std.specs.Prelude.{◌≡◌, ◌+◌, ◌^◌, ◌<◌, ◌≤
 ghost use Rattle.profile.specs.Limits.{cycles_end, openings_end};
 ghost use Rattle.change_protocol.specs.Applied.{applied};
 ghost use Rattle.plan_check.specs.PlanKept.{IsTaken};
-ghost use Rattle.plan_check.specs.PlanText.{IsPlanOf, plan_text};
+ghost use Rattle.plan_check.specs.PlanText.{IsTextOfPlan, plan_text};
 ghost use Rattle.planner_policies.specs.Plan.{mask_at};
 ghost use Rattle.admission.specs.Certified.{IsCertificateFrom, end_of};
 ghost use Rattle.admission.specs.Verdict.{IsInTime, IsRules, IsTakenWhereDue, is_accepted, plan_from};
@@ -331,7 +331,7 @@ impl Core {
         requires next { self.now.cycle < openings_end }
         ensures upcoming { IsCoreUpcoming self.now result }
     {
-        let planner_policies::Planned { mask, width, next } = plan_next(
+        let planner_policies::PlannedCycle { mask, width, next } = plan_next(
             self.table.planner.ranked(),
             self.rules.window,
             &self.state,
@@ -388,7 +388,7 @@ impl Core {
         ensures taken { IfOk result (IsTaken self.now.placed self.now.rules.window) }
         ensures cycles { IfOk result (λ certificate. end_of certificate ≤ cycles_end) }
         ensures core { IsCore self.now }
-        ensures read { IfOk result (λ certificate. IsPlanOf (plan_text certificate) certificate) }
+        ensures read { IfOk result (λ certificate. IsTextOfPlan (plan_text certificate) certificate) }
     {
         certificates_in_range();
         self.known();

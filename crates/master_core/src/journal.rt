@@ -3,7 +3,7 @@
 ghost use Rattle.std.specs.Prelude.{◌≡◌, ◌+◌, ◌^◌, ◌<◌, ◌≤◌, ◌++◌, ◌∷◌, [], OnOk, OnErr, IfSome, is_some, length, vec_capacity};
 ghost use Rattle.master_core.specs.Accepted.{all_accepted};
 ghost use Rattle.master_core.specs.Journals.{IsLast};
-ghost use Rattle.master_core.specs.Keeping.{HasRoom};
+ghost use Rattle.master_core.specs.Keeping.{HasEventRoom};
 
 use crate::event::Event;
 use crate::past::{Past, past_of};
@@ -62,7 +62,7 @@ impl Journal {
 
     /// These events, of which all are kept for the present.
     pub(crate) fn of(history: Vec<Event>, keeps: bool) -> Journal
-        requires room { HasRoom (length history.items) (vec_capacity history) 0 }
+        requires room { HasEventRoom (length history.items) (vec_capacity history) 0 }
         ensures history { result.history ≡ history.items }
         ensures keeps { result.keeps ≡ keeps }
         ensures spare { result.spare ≡ 0 }
@@ -80,7 +80,7 @@ impl Journal {
     /// All events, where they are kept.
     pub(crate) fn into_events(self) -> Option<Vec<Event>>
         ensures all { IfSome result (λ events. events.items ≡ self.history) }
-        ensures room { IfSome result (λ events. HasRoom (length events.items) (vec_capacity events) 0) }
+        ensures room { IfSome result (λ events. HasEventRoom (length events.items) (vec_capacity events) 0) }
         ensures kept { is_some result ≡ self.keeps }
     {
         let Journal { recent, keeps, .. } = self;

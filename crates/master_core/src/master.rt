@@ -46,14 +46,14 @@ pub struct Master {
 impl Model for Master {
     ghost use Rattle.std.specs.Prelude.{◌≡◌, false, length, vec_capacity};
     ghost use Rattle.master_core.specs.Cores.{IsStateOf};
-    ghost use Rattle.master_core.specs.Keeping.{HasRoom, MasterView};
+    ghost use Rattle.master_core.specs.Keeping.{HasEventRoom, MasterView};
 
     ghost Value = { MasterView };
 
     ghost view = { λ m. record { rules = m.core.rules; history = m.history.items; spare = m.spare } };
 
     ghost invariant = { λ m. IsStateOf m.history.items m.core × (m.core.forgets ≡ false)
-        × HasRoom (length m.history.items) (vec_capacity m.history) m.spare };
+        × HasEventRoom (length m.history.items) (vec_capacity m.history) m.spare };
 }
 
 impl Master {

@@ -6,10 +6,10 @@ ghost use Rattle.bit_sets.specs.Sets.{has_bit, set_of, most_slots};
 ghost use Rattle.requirement_table.specs.Table.{width_in};
 ghost use Rattle.planner_policies.specs.Plan.{HasNoMissIn, IsValid, left_after, planned_in, planning_of};
 
-use planner_policies::{PlanState, Planned, Ranked, plan_with_width};
+use planner_policies::{PlanState, PlannedCycle, Ranked, plan_with_width};
 
 /// Plans the cycle of the state, in which no deadline is missed, within a window of `window` bit times.
-pub fn plan_next(ranked: &Ranked, window: u32, state: &PlanState) -> Planned
+pub fn plan_next(ranked: &Ranked, window: u32, state: &PlanState) -> PlannedCycle
     requires cycle { state.now.cycle < cycles_end }
     requires valid { IsValid ranked.now.placed state.now.cycle state.now.pending }
     requires in_time { let plan = planning_of ranked.now window state.now.cycle state.now.pending in

@@ -14,11 +14,11 @@ use Rattle.requirement_table.specs.Instance.{Instance}
 use Rattle.requirement_table.specs.Table.{IsWellPlaced, instance_in}
 use Rattle.async_window.specs.declared.request.Owner.{Owner}
 use Rattle.async_window.specs.declared.request.Request.{Request}
-use Rattle.async_window.specs.Mailbox.{IsLeastWith, IsMail, Mail, Offers, mail_offer, without_first}
+use Rattle.async_window.specs.Mailbox.{IsLeastWith, IsMail, Mail, OffersIdentifier, mail_offer, without_first}
 use Rattle.bit_sets.specs.Least.{least_where}
 use Rattle.node_model.specs.Node.{NodeState, Opened, after_hearing, entries_of, identifiers_of, is_due, learnt, node_offer, offer_in}
 use Rattle.async_window.specs.Owners.{AreOwners}
-use Rattle.node_model.specs.Own.{AreApart, Stands}
+use Rattle.node_model.specs.Own.{AreApart, StandsOnBus}
 use Rattle.node_model.proofs.OtherFrames.{after_hearing-keeps}
 use Rattle.node_model.proofs.OwnEntries.{Contains-from_filter, Contains-from_map, passes-from_filter, instance-of_all}
 use Rattle.bit_sets.proofs.Shared.{IsLeastBelow, least_where-least}
@@ -66,7 +66,7 @@ no_common-instance placed one other slot c mine theirs well apart is_mine is_the
     apart (sym first.1 ∙ ap (λ i. i.placed.entry.node) (same_Some mine theirs (sym first.0 ∙ second.0)) ∙ second.1)
 
 own_identifiers : (layout : CycleLayout) (owners : List Owner) (requests : List Request) (placed : List Placed) (past : List TimedFrame)
-    (next : ℕ) (node : NodeState) (id : ℕ) → Stands layout owners requests placed past next node
+    (next : ℕ) (node : NodeState) (id : ℕ) → StandsOnBus layout owners requests placed past next node
     → Contains (map (λ box. box.identifier) node.mail) id → Contains (identifiers_of node.number owners) id
 own_identifiers layout owners requests placed past next node id stands among =
     subst (λ ids. Contains ids id)
@@ -84,8 +84,8 @@ no_common-slot placed others one other slot c mine theirs well apart (inr none) 
 
 pub apart-by_number : (layout : CycleLayout) (owners : List Owner) (requests other_requests : List Request) (placed others : List Placed)
     (past heard : List TimedFrame) (next then : ℕ) (one other : NodeState) → one.number ≢ other.number → AreOwners owners → IsWellPlaced placed
-    → (others ≡ placed) ⊎ (others ≡ []) → Stands layout owners requests placed past next one
-    → Stands layout owners other_requests others heard then other → AreApart one other
+    → (others ≡ placed) ⊎ (others ≡ []) → StandsOnBus layout owners requests placed past next one
+    → StandsOnBus layout owners other_requests others heard then other → AreApart one other
 apart-by_number layout owners requests other_requests placed others past heard next then one other apart are well which stands also = record {
   mail = λ id mine theirs.
       no_common-identifier owners one.number other.number id are apart
@@ -153,10 +153,10 @@ slot-part entries opened c id (Some slot) same least is =
     (slot, sym (same_Some _ _ is), least.0, (found.0, ap (instance_in entries slot) same ∙ found.1))
 
 module _ (node : NodeState) (at : ℕ)
-    (least : (l : ℕ) → IsLeastWith (Offers node.layout l node.mail at) (mail_offer node.layout l node.mail at))
-    (among : (l id : ℕ) → Offers node.layout l node.mail at id → Contains (map (λ box. box.identifier) node.mail) id)
+    (least : (l : ℕ) → IsLeastWith (OffersIdentifier node.layout l node.mail at) (mail_offer node.layout l node.mail at))
+    (among : (l id : ℕ) → OffersIdentifier node.layout l node.mail at id → Contains (map (λ box. box.identifier) node.mail) id)
     (known : IsMail node.mail) where
-  mail-part : (l id : ℕ) (found : Option ℕ) → IsLeastWith (Offers node.layout l node.mail at) found → found ≡ Some id
+  mail-part : (l id : ℕ) (found : Option ℕ) → IsLeastWith (OffersIdentifier node.layout l node.mail at) found → found ≡ Some id
       → (0x200 ≤ id) × Contains (map (λ box. box.identifier) node.mail) id
   mail-part l id None none is = absurd (none-some id is)
   mail-part l id (Some found) is_least is =

@@ -24,7 +24,7 @@ use Rattle.requirement_table.specs.Opening.{Opening, width_of}
 use Rattle.node_model.specs.Opening.{start_of}
 use Rattle.node_model.specs.Node.{NodeState, after_hearing, counted, entries_of, identifiers_of, is_own_slot}
 use Rattle.async_window.specs.Owners.{AreOwners}
-use Rattle.node_model.specs.Own.{Stands, StandsIn, was_sent}
+use Rattle.node_model.specs.Own.{StandsIn, StandsOnBus, was_sent}
 use Rattle.node_model.specs.Offered.{trigger_frames}
 use Rattle.node_model.proofs.OtherFrames.{other-frame}
 use Rattle.node_model.proofs.Triggers.{IsBelowTwo, opened_with, opening_done, opens-next, trigger-identifiers}
@@ -207,7 +207,7 @@ module _ (layout : CycleLayout) (owners : List Owner) (requests : List Request) 
     (taken : (ids : List ℕ) (earlier : List TimedFrame) (one : TimedFrame)
     → mail_after ids requests (earlier ++ one ∷ []) ≡ without_first one.frame.identifier (mail_after ids requests earlier)) (are : AreOwners owners) where
   stands-opened : (node : NodeState) (frames : ℕ) → All (λ earlier. earlier.start < start_of layout opening) past → All IsBelowTwo sent
-      → Stands layout owners requests opening.placed past opening.cycle node
+      → StandsOnBus layout owners requests opening.placed past opening.cycle node
       → StandsIn layout owners requests opening (past ++ sent) (opening_done node (width_of opening) opening.mask frames)
   stands-opened node frames before triggers stands = record {
     stands = record {
@@ -228,7 +228,7 @@ module _ (layout : CycleLayout) (owners : List Owner) (requests : List Request) 
 
   pub stands-trigger : (node : NodeState) → IsLayout layout → width_of opening ≤ layout.window → opening.mask < 2 ^ layout.slots
       → All (λ earlier. earlier.start < start_of layout opening) past → map (λ one. one.frame) sent ≡ trigger_frames layout opening
-      → Stands layout owners requests opening.placed past opening.cycle node
+      → StandsOnBus layout owners requests opening.placed past opening.cycle node
       → StandsIn layout owners requests opening (past ++ sent) (fold after_hearing node sent)
   stands-trigger node is small below before triggers stands =
       let same = sym stands.same_layout in

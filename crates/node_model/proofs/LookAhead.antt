@@ -6,9 +6,9 @@ use Rattle.cycle_layout.specs.Layout.{sync_start}
 use Rattle.async_window.specs.declared.mailboxes.Offer.{Offer}
 use Rattle.async_window.specs.Mailbox.{IsMail, StaysUntil}
 use Rattle.node_model.specs.Node.{IsNextOffer, NodeState, node_offer}
-use Rattle.node_model.specs.Ahead.{IsAhead, IsTold, Stays, next_time}
+use Rattle.node_model.specs.Ahead.{IsAhead, IsTold, StaysOffered, next_time}
 use Rattle.node_model.specs.Kept.{IsOpenAt}
-use Rattle.node_model.specs.declared.ahead.Ahead.{Ahead}
+use Rattle.node_model.specs.declared.ahead.OfferAhead.{OfferAhead}
 use Rattle.node_model.specs.declared.ahead.Next.{Next}
 use Rattle.node_model.specs.declared.cycle.Open.{Open}
 use Rattle.node_model.proofs.Mail.{offered-early}
@@ -33,19 +33,19 @@ next-between node since at None next behind before = λ later has. next later (o
 next-between node since at (Some found) next behind before =
     ((before, next.0.1), λ later has. next.1 later (omega (arith, has.0), has.1))
 
-pub next-behind : (node : NodeState) (look : Ahead) (at : ℕ) → IsAhead node look → look.since ≤ at
+pub next-behind : (node : NodeState) (look : OfferAhead) (at : ℕ) → IsAhead node look → look.since ≤ at
     → IfSome look.next (λ next. at < next.from) → IsNextOffer node at (next_time look.next)
 next-behind node look at ahead since before = next-between node look.since at look.next ahead.0 since before
 
 -- what a look ahead tells is so
-told : (node : NodeState) (look : Ahead) (at : ℕ) (offered : Option ℕ) → IsAhead node look → IsTold look at offered → node_offer node at ≡ offered
+told : (node : NodeState) (look : OfferAhead) (at : ℕ) (offered : Option ℕ) → IsAhead node look → IsTold look at offered → node_offer node at ≡ offered
 told node look at None ahead is =
     never-some (node_offer node at) (not-between node look.since at look.next ahead.0 is.behind is.before)
 told node look at (Some id) ahead is =
-    let stays = subst (λ (found : Option Next). IfSome found (λ next. Stays node next.from next.offer)) is.found ahead.1 in
+    let stays = subst (λ (found : Option Next). IfSome found (λ next. StaysOffered node next.from next.offer)) is.found ahead.1 in
     stays at is.from is.until ∙ ap (λ n. Some n) is.same
 
-pub told-all : (node : NodeState) (look : Ahead) (at : ℕ) (found : Option (Option ℕ)) → IsAhead node look → IfSome found (IsTold look at)
+pub told-all : (node : NodeState) (look : OfferAhead) (at : ℕ) (found : Option (Option ℕ)) → IsAhead node look → IfSome found (IsTold look at)
     → IfSome found (λ offered. node_offer node at ≡ offered)
 told-all node look at None ahead is = tt
 told-all node look at (Some offered) ahead is = told node look at offered ahead is
@@ -58,7 +58,7 @@ next-here node at id offered =
 -- how long an offer of a node stays, where it comes from the mailboxes and where it is that of a slot
 module _ (node : NodeState) (at : ℕ) (o : Open) (is : IsOpenAt node at o) where
   pub stays-mail : (found : Option Offer) → IsMail node.mail
-      → IfSome found (λ offer. StaysUntil node.layout o.width node.mail at offer.id offer.until) → IfSome found (Stays node at)
+      → IfSome found (λ offer. StaysUntil node.layout o.width node.mail at offer.id offer.until) → IfSome found (StaysOffered node at)
   stays-mail None known stays = tt
   stays-mail (Some offer) known stays = λ later from until.
       let same : later / node.layout.cycle ≡ at / node.layout.cycle = stays.cycle later from until in
@@ -71,7 +71,7 @@ module _ (node : NodeState) (at : ℕ) (o : Open) (is : IsOpenAt node at o) wher
 
   pub stays-due : (found : Option Offer) → 0 < node.layout.cycle → sync_start node.layout o.cycle o.width ≤ at
       → option_map (λ offer. offer.id) found ≡ due_identifier o → IfSome found (λ offer. offer.until ≡ sync_start node.layout o.cycle 0 - 1)
-      → IfSome found (Stays node at)
+      → IfSome found (StaysOffered node at)
   stays-due None some late due ends = tt
   stays-due (Some offer) some late due ends = λ later from until.
       let times = in_cycle-times node.layout.cycle at o.cycle some is.cycle in

@@ -8,7 +8,7 @@ use Rattle.std.proofs.lemmas.List.Elements.{All-head, All-tail, All-map}
 use Rattle.can_frame.specs.DataFrame.{DataFrame}
 use Rattle.cycle_layout.specs.Layout.{CycleLayout, sync_start}
 use Rattle.async_window.specs.declared.request.Request.{Request}
-use Rattle.async_window.specs.Mailbox.{Mail, IsMail, Offers, IsLeastWith, mail_offer, unsent_of, without_first}
+use Rattle.async_window.specs.Mailbox.{Mail, IsMail, OffersIdentifier, IsLeastWith, mail_offer, unsent_of, without_first}
 use Rattle.async_window.proofs.Shared.{unsent_of-here, unsent_of-later}
 use Rattle.async_window.proofs.Shared.{Offers-least, Offers-among}
 use Rattle.async_window.proofs.Shared.{without_first-nothing}
@@ -47,9 +47,9 @@ first-identifier id (box ∷ rest) request own first =
     (cases_Bool (box.identifier == id))
 
 -- what is offered has a first unsent request that may start, and an asynchronous identifier
-pub offered-request : (layout : CycleLayout) (l at id : ℕ) (mail : List Mail) → IsMail mail → mail_offer layout l mail at ≡ Some id → Offers layout l mail at id
+pub offered-request : (layout : CycleLayout) (l at id : ℕ) (mail : List Mail) → IsMail mail → mail_offer layout l mail at ≡ Some id → OffersIdentifier layout l mail at id
 offered-request layout l at id mail known offered =
-    (subst (λ least. IsLeastWith (Offers layout l mail at) least) offered (Offers-least layout l at mail known)).0
+    (subst (λ least. IsLeastWith (OffersIdentifier layout l mail at) least) offered (Offers-least layout l at mail known)).0
 
 pub offered-asynchronous : (layout : CycleLayout) (l at id : ℕ) (mail : List Mail) → IsMail mail → mail_offer layout l mail at ≡ Some id → 0x200 ≤ id
 offered-asynchronous layout l at id mail known offered =

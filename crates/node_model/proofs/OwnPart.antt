@@ -17,7 +17,7 @@ use Rattle.requirement_table.specs.Table.{IsWellPlaced, instance_in}
 use Rattle.async_window.specs.declared.request.Owner.{Owner}
 use Rattle.async_window.specs.declared.request.Request.{Request}
 use Rattle.async_window.specs.Waiting.{MayStart, frames_with, requests_of, unsent_after}
-use Rattle.async_window.specs.Mailbox.{IsLeastWith, IsMail, Mail, Offers, mail_after, mail_offer, unsent_of}
+use Rattle.async_window.specs.Mailbox.{IsLeastWith, IsMail, Mail, OffersIdentifier, mail_after, mail_offer, unsent_of}
 use Rattle.requirement_table.specs.Opening.{Opening, width_of}
 use Rattle.trigger_codec.specs.Heard.{Noted}
 use Rattle.node_model.specs.Opening.{start_of, window_start}
@@ -192,7 +192,7 @@ module _ (layout : CycleLayout) (owners : List Owner) (requests : List Request) 
 
   -- before it
   module _ (known : IsMail mail)
-      (among_mail : (id : ℕ) → Offers layout (width_of opening) mail at id → Contains (map (λ box. box.identifier) mail) id)
+      (among_mail : (id : ℕ) → OffersIdentifier layout (width_of opening) mail at id → Contains (map (λ box. box.identifier) mail) id)
       (unsent_among : (id : ℕ) → Contains ids id → unsent_of mail id ≡ unsent_after requests past id) where
     may_start-same : (c d : ℕ) (one other : List Request) (request : Request) → c ≡ d → one ≡ other
         → MayStart layout c (width_of opening) one at request → MayStart layout d (width_of opening) other at request
@@ -200,7 +200,7 @@ module _ (layout : CycleLayout) (owners : List Owner) (requests : List Request) 
         subst (λ n. MayStart layout n (width_of opening) other at request) same
         (subst (λ unsent. MayStart layout c (width_of opening) unsent at request) also may)
 
-    mail-offers : (id : ℕ) → Offers layout (width_of opening) mail at id → Own (node_frame node at id)
+    mail-offers : (id : ℕ) → OffersIdentifier layout (width_of opening) mail at id → Own (node_frame node at id)
     mail-offers id offers =
         let among : Contains ids id = subst (λ all. Contains all id) (identifiers-after ids requests past) (among_mail id offers) in
         let above : 0x200 ≤ id = All-contains (λ n. 0x200 ≤ n) (map (λ box. box.identifier) mail) id (All-map (λ n. 0x200 ≤ n) (λ box. box.identifier) mail known.least) (among_mail id offers) in
@@ -216,7 +216,7 @@ module _ (layout : CycleLayout) (owners : List Owner) (requests : List Request) 
           among,
         )
 
-    offers-mail : at < window_start layout opening → (frame : DataFrame) → Own frame → Offers layout (width_of opening) mail at frame.identifier
+    offers-mail : at < window_start layout opening → (frame : DataFrame) → Own frame → OffersIdentifier layout (width_of opening) mail at frame.identifier
     offers-mail early frame (inl (offers, among)) = (
       offers.request,
       may_start-same opening.cycle (at / layout.cycle) (unsent_after requests past frame.identifier) (unsent_of mail frame.identifier) offers.request
@@ -224,22 +224,22 @@ module _ (layout : CycleLayout) (owners : List Owner) (requests : List Request) 
     )
     offers-mail early frame (inr (slot, offers, own)) = let late = offers.late_enough in absurd (omega arith)
 
-    offers-early : IsLeastWith (Offers layout (width_of opening) mail at) (mail_offer layout (width_of opening) mail at) → at < window_start layout opening
+    offers-early : IsLeastWith (OffersIdentifier layout (width_of opening) mail at) (mail_offer layout (width_of opening) mail at) → at < window_start layout opening
         → OffersLeastOwn layout owners requests opening past at node
     offers-early least early =
         let value : node_offer node at ≡ mail_offer layout (width_of opening) mail at
         = cond-true (eqb (at / layout.cycle) opening.cycle) _ _ (eq-eqb _ _ time) ∙ cond-false (leb (window_start layout opening) at) _ _ (lt-leb _ _ early) in
         subst (IsLeastFrame Own (node_frame node at)) (sym value)
-        (least_mail-frame Own (node_frame node at) (Offers layout (width_of opening) mail at) (mail_offer layout (width_of opening) mail at)
+        (least_mail-frame Own (node_frame node at) (OffersIdentifier layout (width_of opening) mail at) (mail_offer layout (width_of opening) mail at)
         mail-offers (offers-mail early) least)
 
-    pub offers-least : IsLeastWith (Offers layout (width_of opening) mail at) (mail_offer layout (width_of opening) mail at)
+    pub offers-least : IsLeastWith (OffersIdentifier layout (width_of opening) mail at) (mail_offer layout (width_of opening) mail at)
         → OffersLeastOwn layout owners requests opening past at node
     offers-least least = elim (cases_lt at (window_start layout opening)) [ inl early ↦ offers-early least early | inr late ↦ offers-late late ]
 
 pub offers_own_part : (layout : CycleLayout) (owners : List Owner) (requests : List Request) (opening : Opening) (past : List TimedFrame) (at : ℕ) (node : NodeState)
-    → ((mail : List Mail) → IsMail mail → IsLeastWith (Offers layout (width_of opening) mail at) (mail_offer layout (width_of opening) mail at))
-    → ((mail : List Mail) (id : ℕ) → Offers layout (width_of opening) mail at id → Contains (map (λ box. box.identifier) mail) id)
+    → ((mail : List Mail) → IsMail mail → IsLeastWith (OffersIdentifier layout (width_of opening) mail at) (mail_offer layout (width_of opening) mail at))
+    → ((mail : List Mail) (id : ℕ) → OffersIdentifier layout (width_of opening) mail at id → Contains (map (λ box. box.identifier) mail) id)
     → ((ids : List ℕ) (id : ℕ) → Contains ids id → unsent_of (mail_after ids requests past) id ≡ unsent_after requests past id)
     → IsNode node → IsWellPlaced opening.placed → StandsIn layout owners requests opening past node → at / layout.cycle ≡ opening.cycle
     → OffersLeastOwn layout owners requests opening past at node

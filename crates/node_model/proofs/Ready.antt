@@ -10,7 +10,7 @@ use Rattle.requirement_table.specs.Instance.{Instance, MaySend, bytes_of, payloa
 use Rattle.requirement_table.specs.Table.{IsInRange, IsWellPlaced, instance_in}
 use Rattle.requirement_table.proofs.Shared.{instance_in-found}
 use Rattle.node_model.specs.declared.entries.Ready.{Ready}
-use Rattle.node_model.specs.Kept.{AreReady, IsReady, IsSendableIn, carried_after, ready_of, released_after}
+use Rattle.node_model.specs.Kept.{AreReady, IsSendableIn, IsSlotReady, carried_after, ready_of, released_after}
 
 module _ {X : Type 0} where
   each-of : (P : ℕ → X → Type 0) (n : ℕ) (x : X) → ((k : ℕ) → P k x) → (j : ℕ) → IfSome (slice_get (replicate n x) j) (P j)
@@ -43,7 +43,7 @@ abbrev pub unknown : Ready
 unknown = record { release = 0; end = 0; number = 0; period = 0; deadline = 0; length = 0 }
 
 pub nothing-ready : (entries : List Placed) (n : ℕ) → AreReady entries (replicate n unknown)
-nothing-ready entries n = each-of (IsReady entries) n unknown (λ slot. record {
+nothing-ready entries n = each-of (IsSlotReady entries) n unknown (λ slot. record {
   number = omega arith;
   deadline = omega arith;
   length = omega arith;
@@ -51,9 +51,9 @@ nothing-ready entries n = each-of (IsReady entries) n unknown (λ slot. record {
 })
 
 -- more is known of one slot
-pub one-ready : (entries : List Placed) (slots : List Ready) (slot : ℕ) (found : Ready) → IsReady entries slot found → AreReady entries slots
+pub one-ready : (entries : List Placed) (slots : List Ready) (slot : ℕ) (found : Ready) → IsSlotReady entries slot found → AreReady entries slots
     → AreReady entries (set slots slot found)
-one-ready entries slots slot found known before = each-set (IsReady entries) slots slot found known before
+one-ready entries slots slot found known before = each-set (IsSlotReady entries) slots slot found known before
 
 -- The instances of an entry
 
@@ -67,7 +67,7 @@ times-some k (suc n) some = let parts : k * suc n ≡ k * n + k = omega arith in
 
 -- what is known once an instance of an entry was found
 pub entry-ready : (entries : List Placed) (place k : ℕ) (p : Placed) → IsWellPlaced entries → slice_get entries place ≡ Some p → IsInRange p
-    → IsReady entries p.entry.slot (ready_of p k)
+    → IsSlotReady entries p.entry.slot (ready_of p k)
 entry-ready entries place k p well at range = record {
   number = omega (arith, times-some k p.entry.period (omega (arith, range.entry.some_time, range.entry.deadline)));
   deadline = range.entry.deadline;
@@ -83,9 +83,9 @@ entry-ready entries place k p well at range = record {
 }
 
 -- what is known of the instance that the entry releases next
-pub next-ready : (entries : List Placed) (slot : ℕ) (found : Ready) (release number c : ℕ) → IsReady entries slot found
+pub next-ready : (entries : List Placed) (slot : ℕ) (found : Ready) (release number c : ℕ) → IsSlotReady entries slot found
     → release ≡ found.release + found.period → number ≡ (found.number + 1) % 2 ^ 64 → c < 2 ^ 64
-    → IsSendableIn c (record found { release = release; number = number }) → IsReady entries slot (record found { release = release; number = number })
+    → IsSendableIn c (record found { release = release; number = number }) → IsSlotReady entries slot (record found { release = release; number = number })
 next-ready entries slot found release number c known later wraps small now =
     let some : 1 ≤ found.period = omega (arith, now.released, now.in_time, known.deadline) in
     let next : number ≡ found.number + 1 = omega (arith, wraps, later, known.number, now.released, small, some) in
@@ -100,7 +100,7 @@ next-ready entries slot found release number c known later wraps small now =
     }
 
 -- an instance that is known and may be sent is the slot's
-pub known-instance : (entries : List Placed) (slot c : ℕ) (found : Ready) → IsReady entries slot found → IsSendableIn c found
+pub known-instance : (entries : List Placed) (slot c : ℕ) (found : Ready) → IsSlotReady entries slot found → IsSendableIn c found
     → option_map bytes_of (instance_in entries slot c) ≡ Some (carried_after found 0)
 known-instance entries slot c found known now =
     known.each 0 c (omega (arith, now.exists)) (omega (arith, now.released)) (omega (arith, now.in_time))
@@ -112,7 +112,7 @@ some-mapped None bytes is = absurd (none-some bytes is)
 pub known-slot : (entries : List Placed) (slots : List Ready) (slot c : ℕ) (d : Ready) → AreReady entries slots → IsSomeAnd (slice_get slots slot) (IsSendableIn c)
     → (option_map bytes_of (instance_in entries slot c) ≡ Some (carried_after (get_or slots slot d) 0)) × ((get_or slots slot d).length ≤ 8)
 known-slot entries slots slot c d ready now =
-    let both = at-both (IsSendableIn c) (IsReady entries slot) slots slot d now (ready slot) in
+    let both = at-both (IsSendableIn c) (IsSlotReady entries slot) slots slot d now (ready slot) in
     (known-instance entries slot c (get_or slots slot d) both.1 both.0, both.1.length)
 
 pub is_some-known : (entries : List Placed) (slots : List Ready) (slot c : ℕ) → AreReady entries slots → IsSomeAnd (slice_get slots slot) (IsSendableIn c)

@@ -9,7 +9,7 @@ use Rattle.trigger_codec.specs.Heard.{Noted}
 use Rattle.async_window.specs.Mailbox.{Mail, mail_after}
 use Rattle.requirement_table.specs.Opening.{Opening, width_of}
 use Rattle.node_model.specs.Node.{NodeState, Opened, entries_of, identifiers_of}
-use Rattle.node_model.specs.Own.{Stands, StandsIn}
+use Rattle.node_model.specs.Own.{StandsIn, StandsOnBus}
 
 same_node : (node : NodeState) (layout : CycleLayout) (entries : List Placed) (mail : List Mail) (opened : Option Opened) (next : ℕ)
     → node.layout ≡ layout → node.entries ≡ entries → node.mail ≡ mail → node.opened ≡ opened → node.next ≡ next
@@ -48,7 +48,7 @@ abbrev pub opened_for : Opening → ℕ → Opened
 opened_for opening heard = record { cycle = opening.cycle; width = width_of opening; mask = opening.mask; heard = heard }
 
 pub standing-is : (layout : CycleLayout) (owners : List Owner) (requests : List Request) (placed : List Placed) (past : List TimedFrame) (next : ℕ)
-    (node : NodeState) → Stands layout owners requests placed past next node
+    (node : NodeState) → StandsOnBus layout owners requests placed past next node
     → node ≡ standing layout owners requests placed past next node.number node.opened node.frames node.noted
 standing-is layout owners requests placed past next node stands =
     same_node node layout (entries_of node.number placed) (mail_after (identifiers_of node.number owners) requests past) node.opened next

@@ -9,7 +9,7 @@ use Rattle.bit_sets.specs.Sets.{has_bit, most_slots}
 use Rattle.requirement_table.specs.Table.{instance_in, IsWellPlaced}
 use Rattle.node_model.specs.Node.{IsNode, NodeState, Opened, is_due, node_offer}
 use Rattle.node_model.specs.declared.cycle.Open.{Open}
-use Rattle.node_model.specs.declared.ahead.Ahead.{Ahead}
+use Rattle.node_model.specs.declared.ahead.OfferAhead.{OfferAhead}
 use Rattle.node_model.specs.declared.entries.Ready.{Ready}
 use Rattle.node_model.specs.Ahead.{IsAhead}
 
@@ -56,7 +56,7 @@ carried_after ready k = payload ready.length (ready.number + k)
 
 -- what is known of the slot's instances is right, where something is: the known one, and each that its entry releases
 -- after it, may be sent in as many cycles from its release on as the deadline says, and its frame carries this
-pub record IsReady (entries : List Placed) (slot : ℕ) (ready : Ready) : Type 0 where
+pub record IsSlotReady (entries : List Placed) (slot : ℕ) (ready : Ready) : Type 0 where
   pub number : ready.number ≤ ready.release
   pub deadline : ready.deadline ≤ ready.period
   pub length : ready.length ≤ 8
@@ -66,7 +66,7 @@ pub record IsReady (entries : List Placed) (slot : ℕ) (ready : Ready) : Type 0
 
 -- the same of each slot
 abbrev pub AreReady : List Placed → List Ready → Type 0
-AreReady entries slots = (slot : ℕ) → IfSome (slice_get slots slot) (IsReady entries slot)
+AreReady entries slots = (slot : ℕ) → IfSome (slice_get slots slot) (IsSlotReady entries slot)
 
 -- the known instance exists, and may be sent in this cycle
 pub record IsSendableIn (c : ℕ) (ready : Ready) : Type 0 where
@@ -83,8 +83,8 @@ abbrev pub KnowsInstances : List Ready → Open → Type 0
 KnowsInstances slots open_cycle = AreSendableIn open_cycle.cycle open_cycle.due slots
 
 -- what is true of the fields of every node: those that contracts see make a node, and the others follow from them
-pub record IsKept (state : NodeState) (own : ℕ) (left : List Placed) (slots : List Ready) (current : Option Open)
-    (look : Option Ahead) : Type 0 where
+pub record IsNodeKept (state : NodeState) (own : ℕ) (left : List Placed) (slots : List Ready) (current : Option Open)
+    (look : Option OfferAhead) : Type 0 where
   pub node : IsNode state
   pub own_slots : AreSlotsOf state.entries own
   pub placed : IsWellPlaced left

@@ -38,7 +38,7 @@ OffersLeastOwn layout owners requests opening past at node =
 
 -- a node that has this layout, knows its own entries of a list, and heard the frames `past` of a bus with these owners
 -- and requests, so that these of its requests are unsent; `next` is its next cycle
-pub record Stands (layout : CycleLayout) (owners : List Owner) (requests : List Request) (placed : List Placed)
+pub record StandsOnBus (layout : CycleLayout) (owners : List Owner) (requests : List Request) (placed : List Placed)
     (past : List TimedFrame) (next : ℕ) (node : NodeState) : Type 0 where
   pub same_layout : node.layout ≡ layout
   pub own_entries : node.entries ≡ entries_of node.number placed
@@ -64,7 +64,7 @@ pub record IsOpenFor (layout : CycleLayout) (opening : Opening) (past : List Tim
 -- a node within an opened cycle, after the frames `past`
 pub record StandsIn (layout : CycleLayout) (owners : List Owner) (requests : List Request)
     (opening : Opening) (past : List TimedFrame) (node : NodeState) : Type 0 where
-  pub stands : Stands layout owners requests opening.placed past (opening.cycle + 1) node
+  pub stands : StandsOnBus layout owners requests opening.placed past (opening.cycle + 1) node
   pub opened : Opened
   pub is_open : IsOpenFor layout opening past node opened
 

@@ -16,12 +16,12 @@ pub struct Next {
 
 /// A look ahead: what the node offers next behind the time `since`, in bit times, where it ever does.
 #[derive(Clone, Copy)]
-pub struct Ahead {
+pub struct OfferAhead {
     pub since: u64,
     pub next: Option<Next>,
 }
 
-impl Ahead {
+impl OfferAhead {
     /// The first time behind the look at which something is offered, in bit times.
     pub fn next_time(&self) -> Option<u64>
         ensures next { result ≡ next_time self.now.next }

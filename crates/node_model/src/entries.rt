@@ -8,7 +8,7 @@ ghost use Rattle.bit_sets.specs.Sets.{has_bit, most_slots};
 ghost use Rattle.requirement_table.specs.Instance.{instance_of, latest, release_of};
 ghost use Rattle.requirement_table.specs.Table.{IsInRange, IsWellPlaced, instance_in, not_over};
 ghost use Rattle.node_model.specs.Node.{entries_of, identifiers_of};
-ghost use Rattle.node_model.specs.Kept.{AreReady, AreSendableIn, AreSlotsOf, HaveInstances, IsReady, IsSendableIn, ready_of};
+ghost use Rattle.node_model.specs.Kept.{AreReady, AreSendableIn, AreSlotsOf, HaveInstances, IsSendableIn, IsSlotReady, ready_of};
 
 use async_window::Owner;
 use bit_sets::{least_slot, without_least};
@@ -299,7 +299,7 @@ fn latest_of(p: &Placed, cycle: u64) -> Option<Ready>
 fn note_other(slots: Mask, slot: u8, found: Ready, ready: &mut ReadySlots)
     requires slot { slot < most_slots }
     ensures sendable { (cycle : ℕ) → AreSendableIn cycle slots ready.old → AreSendableIn cycle slots ready.new }
-    ensures ready { (entries : List Placed) → IsReady entries slot found
+    ensures ready { (entries : List Placed) → IsSlotReady entries slot found
         → AreReady entries ready.old → AreReady entries ready.new }
 {
     if !slots.has(slot) {

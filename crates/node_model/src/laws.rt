@@ -20,7 +20,7 @@ ghost use Rattle.node_model.specs.Node.{node_offer};
 ghost use Rattle.node_model.specs.Offered.{trigger_frames};
 ghost use Rattle.node_model.specs.Window.{IsInWindow, due_frame, is_due_slot};
 ghost use Rattle.async_window.specs.Owners.{AreOwners};
-ghost use Rattle.node_model.specs.Own.{AreApart, HasRequest, OffersLeastOwn, Stands, StandsIn, counting};
+ghost use Rattle.node_model.specs.Own.{AreApart, HasRequest, OffersLeastOwn, StandsIn, StandsOnBus, counting};
 
 use async_window::laws::{offer_laws, taking_laws, unsent_laws};
 
@@ -41,14 +41,14 @@ pub fn offers_its_part()
 pub fn hears_a_cycle()
     ensures learnt { (layout : CycleLayout) (owners : List Owner) (requests : List Request) (placed other : List Placed)
         (past : List TimedFrame) (next : ℕ) (node : NodeState)
-        → Stands layout owners requests other past next node
-        → Stands layout owners requests placed past next (learnt placed node) }
+        → StandsOnBus layout owners requests other past next node
+        → StandsOnBus layout owners requests placed past next (learnt placed node) }
     ensures trigger { (layout : CycleLayout) (owners : List Owner) (requests : List Request) (opening : Opening)
         (past sent : List TimedFrame) (node : NodeState)
         → AreOwners owners → IsLayout layout → width_of opening ≤ layout.window → opening.mask < 2 ^ layout.slots
         → All (λ earlier. earlier.start < start_of layout opening) past
         → map (λ one. one.frame) sent ≡ trigger_frames layout opening
-        → Stands layout owners requests opening.placed past opening.cycle node
+        → StandsOnBus layout owners requests opening.placed past opening.cycle node
         → StandsIn layout owners requests opening (past ++ sent) (fold after_hearing node sent) }
     ensures between { (node : NodeState) (sent : TimedFrame) (at : ℕ)
         → IsNode node → sent.frame.identifier ≡ 0 → opening_identifier node.layout.slots ≢ 0
@@ -73,8 +73,8 @@ pub fn nodes_are_apart()
     ensures by_number { (layout : CycleLayout) (owners : List Owner) (requests other_requests : List Request)
         (placed others : List Placed) (past heard : List TimedFrame) (next then : ℕ) (one other : NodeState)
         → one.number ≢ other.number → AreOwners owners → IsWellPlaced placed → (others ≡ placed) ⊎ (others ≡ [])
-        → Stands layout owners requests placed past next one
-        → Stands layout owners other_requests others heard then other
+        → StandsOnBus layout owners requests placed past next one
+        → StandsOnBus layout owners other_requests others heard then other
         → AreApart one other }
     ensures learning { (placed : List Placed) (one other : NodeState)
         → one.number ≢ other.number → IsWellPlaced placed → AreApart one other

@@ -12,11 +12,11 @@ ghost use Rattle.node_model.specs.Node.{IsNextOffer, IsNode, after_hearing, afte
 ghost use Rattle.node_model.specs.Node.{is_own_slot, learnt, next_trigger, node_frame, node_offer};
 ghost use Rattle.trigger_kind.specs.Kind.{opening_identifier};
 ghost use Rattle.node_model.specs.Node.{opened_by, opening_trigger};
-ghost use Rattle.node_model.specs.Ahead.{IsAhead, Stays, next_time};
+ghost use Rattle.node_model.specs.Ahead.{IsAhead, StaysOffered, next_time};
 ghost use Rattle.node_model.specs.Kept.{IsClosedAt, IsOpenAt};
 ghost use Rattle.node_model.specs.Own.{HasRequest, counting};
 
-use crate::ahead::{Ahead, Next};
+use crate::ahead::{Next, OfferAhead};
 use crate::cycle::{self, Open};
 use crate::entries::{self, Remaining};
 use async_window::{Mailboxes, Offer, Owner, Request};
@@ -36,7 +36,7 @@ pub struct Node {
     pub(crate) own: Mask,
     mailboxes: Mailboxes,
     /// What the node found when it last looked ahead, where nothing has changed since.
-    pub(crate) ahead: Option<Ahead>,
+    pub(crate) ahead: Option<OfferAhead>,
     pub(crate) opened: Option<Open>,
     next: u64,
     /// What the node heard of the trigger frames of the next cycle, of which the last one did not come yet.
@@ -53,7 +53,7 @@ pub struct Node {
 impl Model for Node {
     ghost use Rattle.std.specs.Prelude.{min, option_map, vec_capacity};
     ghost use Rattle.node_model.specs.Node.{NodeView};
-    ghost use Rattle.node_model.specs.Kept.{IsKept, opened_of};
+    ghost use Rattle.node_model.specs.Kept.{IsNodeKept, opened_of};
 
     ghost Value = { NodeView };
 
@@ -71,7 +71,7 @@ impl Model for Node {
       spare = min (vec_capacity n.entries) (vec_capacity n.remaining.entries);
     } };
 
-    ghost invariant = { λ n. IsKept (record {
+    ghost invariant = { λ n. IsNodeKept (record {
       number = n.number;
       layout = n.layout;
       entries = n.entries.items;
@@ -256,7 +256,7 @@ impl Node {
             return;
         }
         if let Some(next) = self.soon(at) {
-            self.ahead = Some(Ahead {
+            self.ahead = Some(OfferAhead {
                 since: at,
                 next: Some(next),
             });
@@ -270,7 +270,7 @@ impl Node {
     fn soon(&self, at: u64) -> Option<Next>
         requires time { at < times_end }
         ensures next { IfSome result (λ next. IsNextOffer self.now.state at (Some next.from)) }
-        ensures stays { IfSome result (λ next. Stays self.now.state next.from next.offer) }
+        ensures stays { IfSome result (λ next. StaysOffered self.now.state next.from next.offer) }
     {
         if self.mailboxes.left() == 0 {
             return None;
@@ -300,13 +300,13 @@ impl Node {
 
     /// What a search finds that the node offers next behind a time.
     #[inline(always)]
-    fn find_ahead(&self, at: u64) -> Option<Ahead>
+    fn find_ahead(&self, at: u64) -> Option<OfferAhead>
         requires time { at < times_end }
         ensures ahead { IfSome result (IsAhead self.now.state) }
     {
         match self.find_next_offer(at) {
             Some(from) => self.ahead_to(at, from),
-            None => Some(Ahead {
+            None => Some(OfferAhead {
                 since: at,
                 next: None,
             }),
@@ -315,7 +315,7 @@ impl Node {
 
     /// The look ahead behind a time, where the time of the next offer is known.
     #[inline(never)]
-    fn ahead_to(&self, since: u64, from: u64) -> Option<Ahead>
+    fn ahead_to(&self, since: u64, from: u64) -> Option<OfferAhead>
         requires next { IsNextOffer self.now.state since (Some from) }
         ensures ahead { IfSome result (IsAhead self.now.state) }
     {
@@ -323,7 +323,7 @@ impl Node {
             return None;
         }
         match self.find_offer(from) {
-            Some(offer) => Some(Ahead {
+            Some(offer) => Some(OfferAhead {
                 since,
                 next: Some(Next { from, offer }),
             }),
@@ -441,7 +441,7 @@ impl Node {
     fn find_offer(&self, at: u64) -> Option<Offer>
         requires time { at < times_end }
         ensures offer { option_map (λ offer. offer.id) result ≡ node_offer self.now.state at }
-        ensures stays { IfSome result (Stays self.now.state at) }
+        ensures stays { IfSome result (StaysOffered self.now.state at) }
         ensures known { IsNode self.now.state }
     {
         let open_cycle = self.open_at(at)?;
@@ -526,7 +526,7 @@ impl Node {
 
     /// What the node found when it looked ahead, where by that the next offer behind a time is the same. Right behind a
     /// frame, the time is that of the look.
-    fn told_behind(&self, at: u64) -> Option<Ahead>
+    fn told_behind(&self, at: u64) -> Option<OfferAhead>
         ensures told { IfSome result (λ look. IsNextOffer self.now.state at (next_time look.next)) }
     {
         match self.ahead {

@@ -3,13 +3,13 @@ use Rattle.std.proofs.Common.{◌≡◌, ℕ, suc, ◌+◌, ◌-◌, ◌^◌, �
 use Rattle.std.specs.Fmt.{decimal}
 use Rattle.std.proofs.lemmas.List.{append-nil, append_cancel_left, length-append, length-map, map-append, take_all, take_more}
 use Rattle.std.proofs.Math.Seq.{take-append_seam}
-use Rattle.plan_check.specs.declared.plan_runs.Run.{Run}
+use Rattle.plan_check.specs.declared.plan_runs.MaskRun.{MaskRun}
 use Rattle.plan_check.specs.declared.plan_runs.Version.{Version}
 use Rattle.plan_check.specs.declared.plan_runs.Version.TheVariants.{Two}
 use Rattle.plan_check.specs.declared.text_fault.PlanTextFault.{PlanTextFault}
 use Rattle.plan_check.specs.declared.text_fault.PlanTextFault.TheVariants.{Line, Memory}
 use Rattle.plan_check.specs.Certificate.{CertificateView, length_of}
-use Rattle.plan_check.specs.PlanText.{AreListed, AreRead, IsBody, IsFirstWrongLine, IsPlanOf, IsReadable, IsReadableHead, IsRunFault, IsTextFault, IsWrongRun, MayFollow, first_line, head_lines, last_mask, lines_of_head, lines_of_runs, listed_runs, mask_bound, plan_lines, run_line, spread, text_in, text_of, total}
+use Rattle.plan_check.specs.PlanText.{AreListed, AreRead, IsBody, IsFirstWrongLine, IsReadable, IsReadableHead, IsRunFault, IsTextFault, IsTextOfPlan, IsWrongRun, MayFollow, first_line, head_lines, last_mask, lines_of_head, lines_of_runs, listed_runs, mask_bound, plan_lines, run_line, spread, text_in, text_of, total}
 use Rattle.text_fields.specs.MaskText.{mask_digits}
 use Rattle.text_fields.proofs.Shared.{mask-injective, same_line}
 use Rattle.plan_check.proofs.LineReads.{line-not-end, of-version, run-same}
@@ -46,7 +46,7 @@ head-same version bytes rest other certificate from pending first size readable 
       rest_is = sym parts.1;
     }
 
-abbrev runs_in : Version → CertificateView → List Run
+abbrev runs_in : Version → CertificateView → List MaskRun
 runs_in version certificate = listed_runs version certificate.masks
 
 abbrev body_in : Version → CertificateView → List (List ℕ)
@@ -69,7 +69,7 @@ behind-head version bytes certificate j k r at split =
     ∙ ap (λ t. t ++ r) (text_of-append (head_lines version certificate) (take j (body_in version certificate)))
     ∙ append_assoc (text_of (head_lines version certificate)) (text_of (take j (body_in version certificate))) r
 
-count-body : (version : Version) (runs : List Run) → length (lines_of_runs version runs) ≡ length runs + 1
+count-body : (version : Version) (runs : List MaskRun) → length (lines_of_runs version runs) ≡ length runs + 1
 count-body version runs =
     let all = length-append (map (run_line version) runs) (codes "end" ∷ []) in
     let same = length-map runs (run_line version) in
@@ -89,12 +89,12 @@ view-same certificate from pending first masks one two three four =
 
 -- Runs that go on
 
-pub record GoesOn (runs its : List Run) : Type 0 where
-  pub more : List Run
+pub record GoesOn (runs its : List MaskRun) : Type 0 where
+  pub more : List MaskRun
   pub is : its ≡ runs ++ more
 
 -- a list of runs with these lines at its front has these runs there
-goes-on : (version : Version) (last last' : Option ℕ) (runs its : List Run) → AreListed version last runs → AreListed version last' its → total runs < 2 ^ 42
+goes-on : (version : Version) (last last' : Option ℕ) (runs its : List MaskRun) → AreListed version last runs → AreListed version last' its → total runs < 2 ^ 42
     → total its < 2 ^ 42 → map (run_line version) runs ≡ take (length runs) (lines_of_runs version its) → GoesOn runs its
 goes-on version last last' [] its listed other few short same = record { more = its; is = refl }
 goes-on version last last' (run ∷ runs) [] listed other few short same =
@@ -107,18 +107,18 @@ goes-on version last last' (run ∷ runs) (it ∷ its) listed other few short sa
     record { more = rest.more; is = ap (λ r. r ∷ its) (sym here) ∙ ap (λ l. run ∷ l) rest.is }
 
 -- no cycle is left behind these runs
-all-there : (version : Version) (runs its more : List Run) → AreListed version None its → its ≡ runs ++ more → total its ≡ total runs → more ≡ []
+all-there : (version : Version) (runs its more : List MaskRun) → AreListed version None its → its ≡ runs ++ more → total its ≡ total runs → more ≡ []
 all-there version runs its more listed is same =
-    let P : List Run → Type 0 = λ l. AreListed version None l in
+    let P : List MaskRun → Type 0 = λ l. AreListed version None l in
     let behind = listed-behind version None runs more (subst P is listed) in
     let parts = ap total is ∙ total-append runs more in
     none-left version (last_mask None runs) more behind (omega arith)
 
-line-behind : (version : Version) (runs more : List Run) → get_or (lines_of_runs version (runs ++ more)) (length runs) [] ≡ get_or (lines_of_runs version more) 0 []
+line-behind : (version : Version) (runs more : List MaskRun) → get_or (lines_of_runs version (runs ++ more)) (length runs) [] ≡ get_or (lines_of_runs version more) 0 []
 line-behind version [] more = refl
 line-behind version (run ∷ runs) more = line-behind version runs more
 
-lines-behind : (version : Version) (runs : List Run) → drop (length runs) (lines_of_runs version runs) ≡ codes "end" ∷ []
+lines-behind : (version : Version) (runs : List MaskRun) → drop (length runs) (lines_of_runs version runs) ≡ codes "end" ∷ []
 lines-behind version [] = refl
 lines-behind version (run ∷ runs) = lines-behind version runs
 
@@ -163,7 +163,7 @@ begins-less version bytes k number at begins = record {
 }
 
 module _ (version : Version) (bytes : List ℕ) (from pending first size : ℕ) (rest : List ℕ) (head : IsReadableHead version from pending first size)
-    (is : bytes ≡ text_of (lines_of_head version from pending first size) ++ rest) (masks after : List ℕ) (runs : List Run)
+    (is : bytes ≡ text_of (lines_of_head version from pending first size) ++ rest) (masks after : List ℕ) (runs : List MaskRun)
     (read : AreRead version rest after masks runs) (few : total runs ≤ first - from + size) where
   abbrev count : ℕ
   count = first - from + size
@@ -200,7 +200,7 @@ module _ (version : Version) (bytes : List ℕ) (from pending first size : ℕ) 
 
   -- what a plan has where the text begins with its lines up to the one behind these runs
   record Behind (certificate : CertificateView) (later : List ℕ) : Type 0 where
-    more : List Run
+    more : List MaskRun
     are : runs_in version certificate ≡ runs ++ more
     listed : AreListed version (last_mask None runs) more
     count_is : total runs + total more ≡ count
@@ -221,7 +221,7 @@ module _ (version : Version) (bytes : List ℕ) (from pending first size : ℕ) 
       let parts = next-line (map (run_line version) runs) lines after begins.rest j lines-clean (clean-body version its same.short)
       (length-map runs (run_line version)) inside (sym read.read ∙ same.head_is.rest_is) in
       let on = goes-on version None None runs its read.listed same.listed small same.short parts.0 in
-      let P : List Run → Type 0 = λ l. AreListed version None l in
+      let P : List MaskRun → Type 0 = λ l. AreListed version None l in
       let totals = ap total on.is ∙ total-append runs on.more in
       let sum = same.count_is in
       record {
@@ -237,7 +237,7 @@ module _ (version : Version) (bytes : List ℕ) (from pending first size : ℕ) 
   -- what a plan has whose text this is
   record OfPlan (certificate : CertificateView) : Type 0 where
     same : SameHead certificate (text_of (body_in version certificate))
-    more : List Run
+    more : List MaskRun
     are : runs_in version certificate ≡ runs ++ more
     rest_is : after ≡ text_of (drop (length runs) (body_in version certificate))
 
@@ -262,7 +262,7 @@ module _ (version : Version) (bytes : List ℕ) (from pending first size : ℕ) 
   abbrev heads : List (List ℕ)
   heads = lines_of_head version from pending first size
 
-  abbrev tail : List Run
+  abbrev tail : List MaskRun
   tail = filling version (last_mask None runs) (first - from + size - total runs)
 
   front-begins : BeginsIn version bytes (5 + length runs)
@@ -282,7 +282,7 @@ module _ (version : Version) (bytes : List ℕ) (from pending first size : ℕ) 
 
   -- a line behind these runs that no plan has there
   body-wrong : (number : ℕ) → number ≡ 6 + length runs
-      → ((more : List Run) (later : List ℕ) → AreListed version (last_mask None runs) more → total runs + total more ≡ count
+      → ((more : List MaskRun) (later : List ℕ) → AreListed version (last_mask None runs) more → total runs + total more ≡ count
       → after ≡ get_or (lines_of_runs version more) 0 [] ++ 10 ∷ later → ⊥)
       → IsWrongIn version bytes number
   body-wrong number at none =
@@ -302,11 +302,11 @@ module _ (version : Version) (bytes : List ℕ) (from pending first size : ℕ) 
 
   -- no run that may follow
   wrong-run-of : (number : ℕ) → number ≡ 6 + length runs → total runs < count
-      → ((run : Run) (later : List ℕ) → MayFollow version (last_mask None runs) run → run.count ≤ count - total runs → after ≡ run_line version run ++ 10 ∷ later → ⊥)
+      → ((run : MaskRun) (later : List ℕ) → MayFollow version (last_mask None runs) run → run.count ≤ count - total runs → after ≡ run_line version run ++ 10 ∷ later → ⊥)
       → IsWrongIn version bytes number
   wrong-run-of number at less none = body-wrong number at by
     where
-      by : (more : List Run) (later : List ℕ) → AreListed version (last_mask None runs) more → total runs + total more ≡ count
+      by : (more : List MaskRun) (later : List ℕ) → AreListed version (last_mask None runs) more → total runs + total more ≡ count
           → after ≡ get_or (lines_of_runs version more) 0 [] ++ 10 ∷ later → ⊥
       by [] later listed sum line = omega arith
       by (run ∷ more) later listed sum line = none run later listed.0 (omega arith) line
@@ -316,7 +316,7 @@ module _ (version : Version) (bytes : List ℕ) (from pending first size : ℕ) 
       → IsWrongIn version bytes number
   wrong-end-of number at all none = body-wrong number at by
     where
-      by : (more : List Run) (later : List ℕ) → AreListed version (last_mask None runs) more → total runs + total more ≡ count
+      by : (more : List MaskRun) (later : List ℕ) → AreListed version (last_mask None runs) more → total runs + total more ≡ count
           → after ≡ get_or (lines_of_runs version more) 0 [] ++ 10 ∷ later → ⊥
       by [] later listed sum line = none later line
       by (run ∷ more) later listed sum line = let some = listed.0.some in omega arith
@@ -443,9 +443,9 @@ wrong-behind version bytes from pending first size rest head is masks after numb
 
 -- what was read, where nothing follows the last line
 pub record WasRead (bytes : List ℕ) (certificate : CertificateView) : Type 0 where
-  pub plan : IsPlanOf bytes certificate
+  pub plan : IsTextOfPlan bytes certificate
   pub readable : IsReadable Two certificate
-  pub back : (other : CertificateView) → IsPlanOf bytes other → certificate ≡ other
+  pub back : (other : CertificateView) → IsTextOfPlan bytes other → certificate ≡ other
 
 -- version 2 names all slots
 pub readable-wider : (version : Version) (certificate : CertificateView) → IsReadable version certificate → IsReadable Two certificate
@@ -492,7 +492,7 @@ pub run-fault : (version : Version) (bytes rest : List ℕ) (count : ℕ) (fault
 run-fault version bytes rest cycles (Line number) wrong text = text number wrong
 run-fault version bytes rest cycles Memory wrong text = tt
 
-pub fault-back : (bytes : List ℕ) (fault : PlanTextFault) → IsTextFault bytes fault → (certificate : CertificateView) → IsPlanOf bytes certificate
+pub fault-back : (bytes : List ℕ) (fault : PlanTextFault) → IsTextFault bytes fault → (certificate : CertificateView) → IsTextOfPlan bytes certificate
     → fault ≡ Memory
 fault-back bytes (Line number) wrong certificate plan = absurd (wrong.other certificate plan)
 fault-back bytes Memory wrong certificate plan = refl

@@ -7,7 +7,7 @@ use Rattle.requirement_table.specs.declared.entries.Placed.{Placed}
 use Rattle.requirement_table.specs.Instance.{Instance, MaySend, instance_of, release_of}
 use Rattle.requirement_table.specs.Table.{GoesBefore, IsFreeAt, IsWellPlaced, free_from, instance_in, is_over}
 use Rattle.requirement_table.proofs.Shared.{IsFound, MaySend-from_instance, found-in, instance_in-found}
-use Rattle.plan_check.specs.Places.{AreCurrent, ArePassed, AreSlotsBelow, IsCurrent, IsPassed, release_by, released_at}
+use Rattle.plan_check.specs.Places.{AreCurrent, ArePassed, AreSlotsBelow, IsCurrent, IsPlacePassed, release_by, released_at}
 
 over-sends : (end : Option ℕ) (deadline release c : ℕ) → option_map_or (λ from. nat_le from c) (option_map (λ e. e + deadline - 1) end) false ≡ true
     → IfSome end (λ e. release < e) → release ≤ c → c < release + deadline → ⊥
@@ -170,10 +170,10 @@ places-next placed c slots places k i x same within before here =
     rw same (filled-next (λ s place. IsCurrent placed c s place) places k x 0 within before here)
 
 pub places-later : (placed : List Placed) (c slots : ℕ) (places : List ℕ) (k i x : ℕ) → i ≡ k
-    → ((s : ℕ) → k ≤ s → s < slots → IsPassed placed c s (get_or places s 0))
-    → (s : ℕ) → k + 1 ≤ s → s < slots → IsPassed placed c s (get_or (set places i x) s 0)
+    → ((s : ℕ) → k ≤ s → s < slots → IsPlacePassed placed c s (get_or places s 0))
+    → (s : ℕ) → k + 1 ≤ s → s < slots → IsPlacePassed placed c s (get_or (set places i x) s 0)
 places-later placed c slots places k i x same before =
-    rw same (kept-behind (λ s place. IsPassed placed c s place) places k slots x 0 before)
+    rw same (kept-behind (λ s place. IsPlacePassed placed c s place) places k slots x 0 before)
 
 -- no instance is of a slot above those of the entries
 pub absent-instance : (placed : List Placed) (c slots slot : ℕ) → IsWellPlaced placed → AreSlotsBelow slots placed → slots ≤ slot → instance_in placed slot c ≡ None

@@ -8,10 +8,10 @@ use Rattle.text_fields.specs.MaskText.{mask_digits}
 use Rattle.text_fields.proofs.Shared.{length-mask, mask-injective, same_last, same_split}
 use Rattle.std.proofs.lemmas.Bool.{cases_lt}
 use Rattle.std.proofs.Common.{inl, inr}
-use Rattle.plan_check.specs.declared.plan_runs.Run.{Run}
+use Rattle.plan_check.specs.declared.plan_runs.MaskRun.{MaskRun}
 use Rattle.plan_check.specs.declared.plan_runs.Version.{Version}
 use Rattle.plan_check.specs.declared.plan_runs.Version.TheVariants.{One, Two}
-use Rattle.plan_check.specs.PlanText.{Follows, HasNoSpace, IsOfVersion, MayFollow, first_line, is_other, mask_bound, run_line}
+use Rattle.plan_check.specs.PlanText.{FollowsRun, HasNoSpace, IsOfVersion, MayFollow, first_line, is_other, mask_bound, run_line}
 use Rattle.plan_check.proofs.Runs.{mask-small, run_with}
 use Rattle.plan_check.proofs.Spaces.{decimal-space, mask-space}
 
@@ -44,7 +44,7 @@ counted-last line digits behind m n small split last is =
     (sym split ∙ is ∙ counted-parts m n)
 
 -- a line gives one run
-pub run-same : (version : Version) (r s : Run) → IsOfVersion version r → IsOfVersion version s → run_line version r ≡ run_line version s → r ≡ s
+pub run-same : (version : Version) (r s : MaskRun) → IsOfVersion version r → IsOfVersion version s → run_line version r ≡ run_line version s → r ≡ s
 run-same One r s one other same =
     let masks = mask-injective r.mask s.mask (mask-small One r.mask one.below) (mask-small One s.mask other.below) same in
     let counts : r.count ≡ s.count = one.one ∙ sym other.one in
@@ -57,12 +57,12 @@ run-same Two r s one other same =
     let counts = decimal_injective r.count s.count (omega arith) (omega arith) parts.1 in
     ap (λ m. run_with m r.count) masks ∙ ap (run_with s.mask) counts
 
-pub other-follows : (version : Version) (last : Option ℕ) (run : Run) → is_other last run.mask version ≡ true → IsOfVersion version run → Follows version last run
+pub other-follows : (version : Version) (last : Option ℕ) (run : MaskRun) → is_other last run.mask version ≡ true → IsOfVersion version run → FollowsRun version last run
 other-follows One last run other of_version = of_version.one
 other-follows Two None run other of_version = tt
 other-follows Two (Some last) run other of_version = λ same. let test = eq-eqb last run.mask same in absurd (cc)
 
-pub follows-other : (version : Version) (last : Option ℕ) (run : Run) → Follows version last run → is_other last run.mask version ≡ true
+pub follows-other : (version : Version) (last : Option ℕ) (run : MaskRun) → FollowsRun version last run → is_other last run.mask version ≡ true
 follows-other One last run follows = refl
 follows-other Two None run follows = refl
 follows-other Two (Some last) run follows = differs last run.mask follows
@@ -74,12 +74,12 @@ follows-other Two (Some last) run follows = differs last run.mask follows
         by true is = absurd (other (eqb-true a b is))
         by false is = rw is refl
 
-pub of-version : (version : Version) (last : Option ℕ) (run : Run) → MayFollow version last run → run.count < 2 ^ 42 → IsOfVersion version run
+pub of-version : (version : Version) (last : Option ℕ) (run : MaskRun) → MayFollow version last run → run.count < 2 ^ 42 → IsOfVersion version run
 of-version One last run may small = record { below = may.below; small = small; one = may.follows }
 of-version Two last run may small = record { below = may.below; small = small; one = tt }
 
 -- the line of a run is not the last one of a text
-pub line-not-end : (version : Version) (run : Run) → run_line version run ≡ codes "end" → ⊥
+pub line-not-end : (version : Version) (run : MaskRun) → run_line version run ≡ codes "end" → ⊥
 line-not-end version run is =
     let size = ap length is in
     let long = run-long version run in
@@ -93,7 +93,7 @@ line-not-end version run is =
           | inr high ↦ let long = size.1 high in omega arith
         ]
 
-    run-long : (version : Version) (run : Run) → 10 ≤ length (run_line version run)
+    run-long : (version : Version) (run : MaskRun) → 10 ≤ length (run_line version run)
     run-long One run = mask-long run.mask
     run-long Two run =
         let long = mask-long run.mask in

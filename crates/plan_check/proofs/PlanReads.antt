@@ -6,10 +6,10 @@ use Rattle.std.proofs.lemmas.Bool.{and_from, and_parts, le-leb}
 use Rattle.std.proofs.lemmas.Fmt.{decimal_injective}
 use Rattle.std.proofs.lemmas.List.{append_cancel_left, length-append, length-map, length-take-le, append-nil, take-append-drop, take-append-le, take_more}
 use Rattle.plan_check.specs.Certificate.{CertificateView, length_of}
-use Rattle.plan_check.specs.declared.plan_runs.Run.{Run}
+use Rattle.plan_check.specs.declared.plan_runs.MaskRun.{MaskRun}
 use Rattle.plan_check.specs.declared.plan_runs.Version.{Version}
 use Rattle.plan_check.specs.declared.plan_runs.Version.TheVariants.{One, Two}
-use Rattle.plan_check.specs.PlanText.{AreListed, BeginsAsPlan, IsFirstWrongLine, IsPlanOf, IsReadable, IsReadableHead, first_line, head_lines, last_mask, lines_of_head, lines_of_runs, listed_runs, mask_bound, plan_lines, run_line, spread, text_in, text_of, total}
+use Rattle.plan_check.specs.PlanText.{AreListed, BeginsAsPlan, IsFirstWrongLine, IsReadable, IsReadableHead, IsTextOfPlan, first_line, head_lines, last_mask, lines_of_head, lines_of_runs, listed_runs, mask_bound, plan_lines, run_line, spread, text_in, text_of, total}
 use Rattle.text_fields.specs.Lines.{HasNoFeed}
 use Rattle.text_fields.specs.MaskText.{mask_digits}
 use Rattle.text_fields.proofs.Shared.{no_feed-append, no_feed-decimal, no_feed-mask, same_line}
@@ -65,17 +65,17 @@ pub clean-first : (version : Version) → HasNoFeed (first_line version)
 clean-first One = literal-clean (codes "fttcan plan 1") refl
 clean-first Two = literal-clean (codes "fttcan plan 2") refl
 
-pub clean-run : (version : Version) (run : Run) → run.count < 2 ^ 42 → HasNoFeed (run_line version run)
+pub clean-run : (version : Version) (run : MaskRun) → run.count < 2 ^ 42 → HasNoFeed (run_line version run)
 clean-run One run small = no_feed-mask run.mask
 clean-run Two run small =
     no_feed-append (mask_digits run.mask ++ codes " ") (decimal run.count)
     (no_feed-append (mask_digits run.mask) (codes " ") (no_feed-mask run.mask) (literal-clean (codes " ") refl)) (no_feed-decimal run.count (omega arith))
 
-pub clean-runs : (version : Version) (runs : List Run) → total runs < 2 ^ 42 → AllClean (map (run_line version) runs)
+pub clean-runs : (version : Version) (runs : List MaskRun) → total runs < 2 ^ 42 → AllClean (map (run_line version) runs)
 clean-runs version [] few = tt
 clean-runs version (run ∷ runs) few = (clean-run version run (omega arith), clean-runs version runs (omega arith))
 
-pub clean-body : (version : Version) (runs : List Run) → total runs < 2 ^ 42 → AllClean (lines_of_runs version runs)
+pub clean-body : (version : Version) (runs : List MaskRun) → total runs < 2 ^ 42 → AllClean (lines_of_runs version runs)
 clean-body version runs few =
     clean-append (map (run_line version) runs) (codes "end" ∷ []) (clean-runs version runs few) (literal-clean (codes "end") refl, tt)
 
@@ -167,7 +167,7 @@ begins-in : (version : Version) (bytes after : List ℕ) (k : ℕ) → bytes ≡
 begins-in version bytes after k begun some begins =
     begins-by_count version begins.version bytes after k begins.certificate begins.rest begun some begins.readable begins.within begins.split
 
-pub plan-in : (version : Version) (bytes after : List ℕ) (certificate : CertificateView) → bytes ≡ first_line version ++ 10 ∷ after → IsPlanOf bytes certificate
+pub plan-in : (version : Version) (bytes after : List ℕ) (certificate : CertificateView) → bytes ≡ first_line version ++ 10 ∷ after → IsTextOfPlan bytes certificate
     → IsPlanIn version bytes certificate
 plan-in version bytes after certificate begun plan =
     let w = plan.version in
@@ -289,7 +289,7 @@ counted-readable version certificate size head count small =
     }
 
 -- the certificate with these runs and others behind them, as many as its head says
-abbrev pub filler : Version → ℕ → ℕ → ℕ → ℕ → List Run → CertificateView
+abbrev pub filler : Version → ℕ → ℕ → ℕ → ℕ → List MaskRun → CertificateView
 filler version from pending first size runs = record {
   from = from;
   pending = pending;
@@ -297,8 +297,8 @@ filler version from pending first size runs = record {
   masks = spread (runs ++ filling version (last_mask None runs) (first - from + size - total runs));
 }
 
-module _ (version : Version) (from pending first size : ℕ) (runs : List Run) (listed : AreListed version None runs) (few : total runs ≤ first - from + size) where
-  abbrev tail_runs : List Run
+module _ (version : Version) (from pending first size : ℕ) (runs : List MaskRun) (listed : AreListed version None runs) (few : total runs ≤ first - from + size) where
+  abbrev tail_runs : List MaskRun
   tail_runs = filling version (last_mask None runs) (first - from + size - total runs)
 
   all-listed : AreListed version None (runs ++ tail_runs)

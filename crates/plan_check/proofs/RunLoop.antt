@@ -1,7 +1,7 @@
 -- Runs are read one by one.
 use Rattle.std.proofs.Common.{◌≡◌, ℕ, ◌+◌, ◌-◌, ◌^◌, ◌<◌, ◌≤◌, List, [], ◌∷◌, ◌++◌, Option, Some, None, length, map, replicate, refl, sym, ap, ◌∙◌, arith}
 use Rattle.std.proofs.lemmas.List.{append-nil, length-append, map-append}
-use Rattle.plan_check.specs.declared.plan_runs.Run.{Run}
+use Rattle.plan_check.specs.declared.plan_runs.MaskRun.{MaskRun}
 use Rattle.plan_check.specs.declared.plan_runs.Version.{Version}
 use Rattle.plan_check.specs.PlanText.{AreRead, IsBody, IsWrongRun, MayFollow, last_mask, run_line, spread, text_of, total}
 use Rattle.plan_check.proofs.PlanReads.{front-more}
@@ -9,7 +9,7 @@ use Rattle.plan_check.proofs.Runs.{last-append, length-spread, listed-append, sp
 
 -- runs were read, the cycles of which are not left
 pub record IsReading (version : Version) (text rest masks : List ℕ) (last : Option ℕ) (count left number : ℕ) : Type 0 where
-  pub runs : List Run
+  pub runs : List MaskRun
   pub read : AreRead version text rest masks runs
   pub last_is : last ≡ last_mask None runs
   pub sum : total runs + left ≡ count
@@ -26,7 +26,7 @@ reading-start version text masks count none = record {
   few = omega arith;
 }
 
-pub reading-next : (version : Version) (text rest masks after new : List ℕ) (last : Option ℕ) (count left number : ℕ) (run : Run)
+pub reading-next : (version : Version) (text rest masks after new : List ℕ) (last : Option ℕ) (count left number : ℕ) (run : MaskRun)
     → IsReading version text rest masks last count left number → MayFollow version last run → run.count ≤ left
     → rest ≡ run_line version run ++ 10 ∷ after → new ≡ masks ++ replicate run.count run.mask
     → IsReading version text after new (Some run.mask) count (left - run.count) (number + 1)
@@ -58,7 +58,7 @@ reading-next version text rest masks after new last count left number run readin
 
 pub reading-wrong : (version : Version) (text rest masks : List ℕ) (last : Option ℕ) (count left number : ℕ) → count ≤ 400000
     → IsReading version text rest masks last count left number → 0 < left
-    → ((run : Run) (after : List ℕ) → MayFollow version last run → run.count ≤ left → run.count < 2 ^ 42 → rest ≡ run_line version run ++ 10 ∷ after → ⊥)
+    → ((run : MaskRun) (after : List ℕ) → MayFollow version last run → run.count ≤ left → run.count < 2 ^ 42 → rest ≡ run_line version run ++ 10 ∷ after → ⊥)
     → IsWrongRun version text count number
 reading-wrong version text rest masks last count left number small reading some none =
     let sum = reading.sum in

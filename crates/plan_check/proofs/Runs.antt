@@ -4,7 +4,7 @@ use Rattle.std.proofs.lemmas.Bool.{cases_Bool, eqb-true, eq-eqb}
 use Rattle.std.proofs.lemmas.List.{get_or_default, length-append, length-replicate}
 use Rattle.std.proofs.lemmas.List.Elements.{All-append, All-head, All-nil, All-replicate, All-tail}
 use Rattle.std.proofs.Math.Seq.{drop-cons, drop-length}
-use Rattle.plan_check.specs.declared.plan_runs.Run.{Run}
+use Rattle.plan_check.specs.declared.plan_runs.MaskRun.{MaskRun}
 use Rattle.plan_check.specs.declared.plan_runs.Version.{Version}
 use Rattle.plan_check.specs.declared.plan_runs.Version.TheVariants.{One, Two}
 use Rattle.plan_check.specs.PlanText.{AreListed, joined, last_mask, listed_runs, mask_bound, runs_of, spread, total}
@@ -21,30 +21,30 @@ pub few-masks : (version : Version) (m : ℕ) → m < 2 → m < mask_bound versi
 few-masks One m small = omega arith
 few-masks Two m small = omega arith
 
-abbrev pub single : ℕ → Run
+abbrev pub single : ℕ → MaskRun
 single mask = record { mask = mask; count = 1 }
 
 -- Runs one behind the other
 
-pub listed-append : (version : Version) (last : Option ℕ) (runs more : List Run) → AreListed version last runs → AreListed version (last_mask last runs) more
+pub listed-append : (version : Version) (last : Option ℕ) (runs more : List MaskRun) → AreListed version last runs → AreListed version (last_mask last runs) more
     → AreListed version last (runs ++ more)
 listed-append version last [] more front back = back
 listed-append version last (run ∷ runs) more front back = (front.0, listed-append version (Some run.mask) runs more front.1 back)
 
-pub listed-behind : (version : Version) (last : Option ℕ) (runs more : List Run) → AreListed version last (runs ++ more) → AreListed version (last_mask last runs) more
+pub listed-behind : (version : Version) (last : Option ℕ) (runs more : List MaskRun) → AreListed version last (runs ++ more) → AreListed version (last_mask last runs) more
 listed-behind version last [] more all = all
 listed-behind version last (run ∷ runs) more all = listed-behind version (Some run.mask) runs more all.1
 
-pub total-append : (runs more : List Run) → total (runs ++ more) ≡ total runs + total more
+pub total-append : (runs more : List MaskRun) → total (runs ++ more) ≡ total runs + total more
 total-append [] more = let none : total more ≡ 0 + total more = omega arith in none
 total-append (run ∷ runs) more = let rest = total-append runs more in omega arith
 
-pub spread-append : (runs more : List Run) → spread (runs ++ more) ≡ spread runs ++ spread more
+pub spread-append : (runs more : List MaskRun) → spread (runs ++ more) ≡ spread runs ++ spread more
 spread-append [] more = refl
 spread-append (run ∷ runs) more =
     ap (λ l. replicate run.count run.mask ++ l) (spread-append runs more) ∙ sym (append_assoc (replicate run.count run.mask) (spread runs) (spread more))
 
-pub length-spread : (runs : List Run) → length (spread runs) ≡ total runs
+pub length-spread : (runs : List MaskRun) → length (spread runs) ≡ total runs
 length-spread [] = refl
 length-spread (run ∷ runs) =
     let rest = length-spread runs in
@@ -52,11 +52,11 @@ length-spread (run ∷ runs) =
     let whole = length-append (replicate run.count run.mask) (spread runs) in
     omega arith
 
-pub last-append : (last : Option ℕ) (runs : List Run) (run : Run) → last_mask last (runs ++ run ∷ []) ≡ Some run.mask
+pub last-append : (last : Option ℕ) (runs : List MaskRun) (run : MaskRun) → last_mask last (runs ++ run ∷ []) ≡ Some run.mask
 last-append last [] run = refl
 last-append last (other ∷ runs) run = last-append (Some other.mask) runs run
 
-pub masks-below : (version : Version) (last : Option ℕ) (runs : List Run) → AreListed version last runs → All (λ m. m < mask_bound version) (spread runs)
+pub masks-below : (version : Version) (last : Option ℕ) (runs : List MaskRun) → AreListed version last runs → All (λ m. m < mask_bound version) (spread runs)
 masks-below version last [] listed = All-nil (λ m. m < mask_bound version)
 masks-below version last (run ∷ runs) listed =
     All-append (λ m. m < mask_bound version) (replicate run.count run.mask) (spread runs)
@@ -64,13 +64,13 @@ masks-below version last (run ∷ runs) listed =
     (masks-below version (Some run.mask) runs listed.1)
 
 -- no cycle is left for runs behind these
-pub none-left : (version : Version) (last : Option ℕ) (runs : List Run) → AreListed version last runs → total runs ≡ 0 → runs ≡ []
+pub none-left : (version : Version) (last : Option ℕ) (runs : List MaskRun) → AreListed version last runs → total runs ≡ 0 → runs ≡ []
 none-left version last [] listed none = refl
 none-left version last (run ∷ runs) listed none = let some = listed.0.some in absurd (omega arith)
 
 -- What a list of masks has as its runs
 
-spread-joined : (mask : ℕ) (runs : List Run) → spread (joined mask runs) ≡ mask ∷ spread runs
+spread-joined : (mask : ℕ) (runs : List MaskRun) → spread (joined mask runs) ≡ mask ∷ spread runs
 spread-joined mask [] = refl
 spread-joined mask (run ∷ runs) =
     elim (cases_Bool (nat_eq mask run.mask)) [
@@ -81,7 +81,7 @@ spread-joined mask (run ∷ runs) =
       | inr other ↦ rw other refl
     ]
 
-listed-joined : (mask : ℕ) (runs : List Run) → mask < mask_bound Two → AreListed Two None runs → AreListed Two None (joined mask runs)
+listed-joined : (mask : ℕ) (runs : List MaskRun) → mask < mask_bound Two → AreListed Two None runs → AreListed Two None (joined mask runs)
 listed-joined mask [] small listed = (record { below = small; some = omega arith; follows = tt }, tt)
 listed-joined mask (run ∷ runs) small listed =
     elim (cases_Bool (nat_eq mask run.mask)) [
@@ -127,11 +127,11 @@ total-listed version masks = sym (length-spread (listed_runs version masks)) ∙
 -- What is listed are the runs of the masks
 
 -- the first run has another mask
-abbrev IsOther : ℕ → List Run → Type 0
+abbrev IsOther : ℕ → List MaskRun → Type 0
 IsOther mask [] = Unit {0}
 IsOther mask (run ∷ runs) = mask ≢ run.mask
 
-joined-other : (mask : ℕ) (runs : List Run) → IsOther mask runs → joined mask runs ≡ single mask ∷ runs
+joined-other : (mask : ℕ) (runs : List MaskRun) → IsOther mask runs → joined mask runs ≡ single mask ∷ runs
 joined-other mask [] other = refl
 joined-other mask (run ∷ runs) other =
     elim (cases_Bool (nat_eq mask run.mask)) [
@@ -139,10 +139,10 @@ joined-other mask (run ∷ runs) other =
       | inr differs ↦ rw differs refl
     ]
 
-abbrev pub run_with : ℕ → ℕ → Run
+abbrev pub run_with : ℕ → ℕ → MaskRun
 run_with mask count = record { mask = mask; count = count }
 
-joined-same : (mask count : ℕ) (runs : List Run) → joined mask (run_with mask count ∷ runs) ≡ run_with mask (count + 1) ∷ runs
+joined-same : (mask count : ℕ) (runs : List MaskRun) → joined mask (run_with mask count ∷ runs) ≡ run_with mask (count + 1) ∷ runs
 joined-same mask count runs = let same : nat_eq mask mask ≡ true = eq-eqb mask mask refl in rw same refl
 
 pub runs-of_run : (count mask : ℕ) (masks : List ℕ) → IsOther mask (runs_of masks) → 1 ≤ count
@@ -158,7 +158,7 @@ runs-of_run (suc (suc count)) mask masks other some =
 
 -- The run that begins at a place of a list
 
-other-joined : (mask x : ℕ) (runs : List Run) → mask ≢ x → IsOther mask (joined x runs)
+other-joined : (mask x : ℕ) (runs : List MaskRun) → mask ≢ x → IsOther mask (joined x runs)
 other-joined mask x [] other = other
 other-joined mask x (run ∷ runs) other =
     elim (cases_Bool (nat_eq x run.mask)) [
@@ -231,11 +231,11 @@ no-runs masks k behind within =
     let all : k ≡ length masks = omega arith in
     ap (λ n. runs_of (drop n masks)) all ∙ ap runs_of (drop-length masks)
 
-other-listed : (mask : ℕ) (runs : List Run) → AreListed Two (Some mask) runs → IsOther mask runs
+other-listed : (mask : ℕ) (runs : List MaskRun) → AreListed Two (Some mask) runs → IsOther mask runs
 other-listed mask [] listed = tt
 other-listed mask (run ∷ runs) listed = listed.0.follows
 
-runs-two : (last : Option ℕ) (runs : List Run) → AreListed Two last runs → runs_of (spread runs) ≡ runs
+runs-two : (last : Option ℕ) (runs : List MaskRun) → AreListed Two last runs → runs_of (spread runs) ≡ runs
 unfolding runs_of
 runs-two last [] listed = refl
 runs-two last (run ∷ runs) listed =
@@ -243,14 +243,14 @@ runs-two last (run ∷ runs) listed =
     let other : IsOther run.mask (runs_of (spread runs)) = subst (IsOther run.mask) (sym rest) (other-listed run.mask runs listed.1) in
     runs-of_run run.count run.mask (spread runs) other listed.0.some ∙ ap (λ l. run ∷ l) rest
 
-runs-one : (last : Option ℕ) (runs : List Run) → AreListed One last runs → listed_runs One (spread runs) ≡ runs
+runs-one : (last : Option ℕ) (runs : List MaskRun) → AreListed One last runs → listed_runs One (spread runs) ≡ runs
 runs-one last [] listed = refl
 runs-one last (run ∷ runs) listed =
     ap (λ n. map single (replicate n run.mask ++ spread runs)) listed.0.follows
     ∙ ap (λ n. run_with run.mask n ∷ map single (spread runs)) (sym listed.0.follows)
     ∙ ap (λ l. run ∷ l) (runs-one (Some run.mask) runs listed.1)
 
-pub listed-spread : (version : Version) (runs : List Run) → AreListed version None runs → listed_runs version (spread runs) ≡ runs
+pub listed-spread : (version : Version) (runs : List MaskRun) → AreListed version None runs → listed_runs version (spread runs) ≡ runs
 listed-spread One runs listed = runs-one None runs listed
 listed-spread Two runs listed = runs-two None runs listed
 
@@ -261,7 +261,7 @@ other_mask None = 0
 other_mask (Some zero) = 1
 other_mask (Some (suc mask)) = 0
 
-abbrev pub filling : Version → Option ℕ → ℕ → List Run
+abbrev pub filling : Version → Option ℕ → ℕ → List MaskRun
 filling One last n = map single (replicate n 0)
 filling Two last zero = []
 filling Two last (suc n) = run_with (other_mask last) (suc n) ∷ []

@@ -41,8 +41,8 @@ IsFilled placed from count block = (slot : ℕ) → slot < most_slots → IsFill
 
 -- where the last block is said to repeat, it says of the same number of cycles from this one on what the slots do in
 -- them, and all entries go round with these cycles
-abbrev pub IsLast : List Placed → ℕ → LastBlock → Type 0
-IsLast placed c last = last.repeats ≡ true
+abbrev pub IsLastBlock : List Placed → ℕ → LastBlock → Type 0
+IsLastBlock placed c last = last.repeats ≡ true
     → IsFilled placed c last.cycles last.block × All (λ p. goes_round c last.cycles p ≡ true) placed
 
 -- the slot stands in none of so many sets

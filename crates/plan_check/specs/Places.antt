@@ -8,15 +8,15 @@ use Rattle.requirement_table.specs.Table.{is_over}
 -- Places of entries in the list
 
 -- the entries of the slot that stand before the place are over by the cycle
-abbrev pub IsPassed : List Placed → ℕ → ℕ → ℕ → Type 0
-IsPassed placed c slot place =
+abbrev pub IsPlacePassed : List Placed → ℕ → ℕ → ℕ → Type 0
+IsPlacePassed placed c slot place =
     (j : ℕ) (p : Placed) → j < place → slice_get placed j ≡ Some p → p.entry.slot ≡ slot → is_over c p ≡ true
 
 -- the place is that of the first entry of the slot that is not over by the cycle, or the length of the list where there
 -- is none
 pub record IsCurrent (placed : List Placed) (c slot place : ℕ) : Type 0 where
   pub within : place ≤ length placed
-  pub passed : IsPassed placed c slot place
+  pub passed : IsPlacePassed placed c slot place
   pub of_slot : (p : Placed) → slice_get placed place ≡ Some p → p.entry.slot ≡ slot
   pub not_over : (p : Placed) → slice_get placed place ≡ Some p → is_over c p ≡ false
 
@@ -27,7 +27,7 @@ AreSlotsBelow slots placed = All (λ p. p.entry.slot < slots) placed
 -- for each slot below `slots` there is a place before which its entries are over
 pub record ArePassed (placed : List Placed) (c slots : ℕ) (places : List ℕ) : Type 0 where
   pub count : length places ≡ most_slots
-  pub each : (slot : ℕ) → slot < slots → IsPassed placed c slot (slice_index_or places slot 0)
+  pub each : (slot : ℕ) → slot < slots → IsPlacePassed placed c slot (slice_index_or places slot 0)
 
 -- for each slot below `slots` there is the place of its current entry
 pub record AreCurrent (placed : List Placed) (c slots : ℕ) (places : List ℕ) : Type 0 where

@@ -8,7 +8,7 @@ use Rattle.bit_sets.specs.Sets.{most_slots}
 use Rattle.text_fields.specs.MaskText.{mask_digits}
 use Rattle.plan_check.specs.declared.text_fault.PlanTextFault.{PlanTextFault}
 use Rattle.plan_check.specs.declared.text_fault.PlanTextFault.TheVariants.{Line, Memory}
-use Rattle.plan_check.specs.declared.plan_runs.Run.{Run}
+use Rattle.plan_check.specs.declared.plan_runs.MaskRun.{MaskRun}
 use Rattle.plan_check.specs.declared.plan_runs.Version.{Version}
 use Rattle.plan_check.specs.declared.plan_runs.Version.TheVariants.{One, Two}
 use Rattle.plan_check.specs.Certificate.{CertificateView, length_of}
@@ -16,19 +16,19 @@ use Rattle.plan_check.specs.Certificate.{CertificateView, length_of}
 -- Runs: cycles one after the other that have the same mask
 
 -- the runs with one more mask before them: it joins the first run, where that has the same mask
-abbrev pub joined : ℕ → List Run → List Run
+abbrev pub joined : ℕ → List MaskRun → List MaskRun
 joined mask [] = record { mask = mask; count = 1 } ∷ []
 joined mask (run ∷ runs) =
     if nat_eq mask run.mask then record { mask = mask; count = run.count + 1 } ∷ runs
     else record { mask = mask; count = 1 } ∷ (run ∷ runs)
 
 -- the runs of a list of masks, each as long as it can be
-unfoldable pub runs_of : List ℕ → List Run
+unfoldable pub runs_of : List ℕ → List MaskRun
 runs_of [] = []
 runs_of (mask ∷ masks) = joined mask (runs_of masks)
 
 -- the masks of a list of runs
-abbrev pub spread : List Run → List ℕ
+abbrev pub spread : List MaskRun → List ℕ
 spread [] = []
 spread (run ∷ runs) = replicate run.count run.mask ++ spread runs
 
@@ -45,28 +45,28 @@ first_line One = codes "fttcan plan 1"
 first_line Two = codes "fttcan plan 2"
 
 -- the runs that have a line each: in version 1 each cycle has one of its own
-abbrev pub listed_runs : Version → List ℕ → List Run
+abbrev pub listed_runs : Version → List ℕ → List MaskRun
 listed_runs One masks = map (λ mask. record { mask = mask; count = 1 }) masks
 listed_runs Two masks = runs_of masks
 
 -- what a version asks of a run behind one with that mask
-abbrev pub Follows : Version → Option ℕ → Run → Type 0
-Follows One last run = run.count ≡ 1
-Follows Two last run = IfSome last (λ mask. mask ≢ run.mask)
+abbrev pub FollowsRun : Version → Option ℕ → MaskRun → Type 0
+FollowsRun One last run = run.count ≡ 1
+FollowsRun Two last run = IfSome last (λ mask. mask ≢ run.mask)
 
 -- a version lists such a run behind one with that mask
-pub record MayFollow (version : Version) (last : Option ℕ) (run : Run) : Type 0 where
+pub record MayFollow (version : Version) (last : Option ℕ) (run : MaskRun) : Type 0 where
   pub below : run.mask < mask_bound version
   pub some : 1 ≤ run.count
-  pub follows : Follows version last run
+  pub follows : FollowsRun version last run
 
 -- a version lists runs so behind one with that mask
-abbrev pub AreListed : Version → Option ℕ → List Run → Type 0
+abbrev pub AreListed : Version → Option ℕ → List MaskRun → Type 0
 AreListed version last [] = Unit {0}
 AreListed version last (run ∷ runs) = MayFollow version last run × AreListed version (Some run.mask) runs
 
 -- the line of a run: version 1 gives the mask alone
-abbrev pub run_line : Version → Run → List ℕ
+abbrev pub run_line : Version → MaskRun → List ℕ
 run_line One run = mask_digits run.mask
 run_line Two run = mask_digits run.mask ++ codes " " ++ decimal run.count
 
@@ -91,7 +91,7 @@ abbrev pub head_lines : Version → CertificateView → List (List ℕ)
 head_lines version certificate =
     lines_of_head version certificate.from certificate.pending certificate.first (length_of certificate)
 
-abbrev pub lines_of_runs : Version → List Run → List (List ℕ)
+abbrev pub lines_of_runs : Version → List MaskRun → List (List ℕ)
 lines_of_runs version runs = map (run_line version) runs ++ codes "end" ∷ []
 
 abbrev pub plan_lines : Version → CertificateView → List (List ℕ)
@@ -118,7 +118,7 @@ pub record IsReadable (version : Version) (certificate : CertificateView) : Type
   pub masks : All (λ mask. mask < mask_bound version) certificate.masks
 
 -- the bytes are the text of the certificate in one of the versions
-pub record IsPlanOf (bytes : List ℕ) (certificate : CertificateView) : Type 0 where
+pub record IsTextOfPlan (bytes : List ℕ) (certificate : CertificateView) : Type 0 where
   pub version : Version
   pub readable : IsReadable version certificate
   pub text : bytes ≡ text_in version certificate
@@ -137,7 +137,7 @@ pub record BeginsAsPlan (bytes : List ℕ) (count : ℕ) : Type 0 where
 pub record IsFirstWrongLine (bytes : List ℕ) (number : ℕ) : Type 0 where
   pub count : ℕ
   pub at : number ≡ count + 1
-  pub other : (certificate : CertificateView) → IsPlanOf bytes certificate → ⊥
+  pub other : (certificate : CertificateView) → IsTextOfPlan bytes certificate → ⊥
   pub before : BeginsAsPlan bytes count
   pub wrong : BeginsAsPlan bytes number → ⊥
 
@@ -159,24 +159,24 @@ pub record IsReadableHead (version : Version) (from pending first length : ℕ) 
   pub few : length ≤ 200000
 
 -- how many cycles the runs have
-abbrev pub total : List Run → ℕ
+abbrev pub total : List MaskRun → ℕ
 total [] = 0
 total (run ∷ runs) = run.count + total runs
 
 -- the mask of the last run, or the one before the runs
-abbrev pub last_mask : Option ℕ → List Run → Option ℕ
+abbrev pub last_mask : Option ℕ → List MaskRun → Option ℕ
 last_mask last [] = last
 last_mask last (run ∷ runs) = last_mask (Some run.mask) runs
 
 -- these runs stand at the front of the text, and the masks are theirs
-pub record AreRead (version : Version) (text rest masks : List ℕ) (runs : List Run) : Type 0 where
+pub record AreRead (version : Version) (text rest masks : List ℕ) (runs : List MaskRun) : Type 0 where
   pub read : text ≡ text_of (map (run_line version) runs) ++ rest
   pub are : masks ≡ spread runs
   pub listed : AreListed version None runs
 
 -- the masks of so many cycles were read, and the line behind them has this number
 pub record IsBody (version : Version) (text rest masks : List ℕ) (count number : ℕ) : Type 0 where
-  pub runs : List Run
+  pub runs : List MaskRun
   pub read : AreRead version text rest masks runs
   pub all : total runs ≡ count
   pub at : number ≡ 6 + length runs
@@ -184,12 +184,12 @@ pub record IsBody (version : Version) (text rest masks : List ℕ) (count number
 -- runs were read, of fewer cycles than `count`, and no line with a run that may follow stands behind them; the number
 -- is that of this line
 pub record IsWrongRun (version : Version) (text : List ℕ) (count number : ℕ) : Type 0 where
-  pub runs : List Run
+  pub runs : List MaskRun
   pub masks : List ℕ
   pub rest : List ℕ
   pub read : AreRead version text rest masks runs
   pub more : total runs < count
-  pub none : (run : Run) (after : List ℕ) → MayFollow version (last_mask None runs) run
+  pub none : (run : MaskRun) (after : List ℕ) → MayFollow version (last_mask None runs) run
       → run.count ≤ count - total runs → rest ≡ run_line version run ++ 10 ∷ after → ⊥
   pub at : number ≡ 6 + length runs
 
@@ -202,7 +202,7 @@ abbrev pub HasNoSpace : List ℕ → Type 0
 HasNoSpace bytes = (i : ℕ) → i < length bytes → get_or bytes i 0 ≢ 32
 
 -- version 1 has no counts
-abbrev pub IsCountOf : Version → Run → Type 0
+abbrev pub IsCountOf : Version → MaskRun → Type 0
 IsCountOf One run = run.count ≡ 1
 IsCountOf Two run = Unit {0}
 
@@ -211,7 +211,7 @@ abbrev pub numbers_end : ℕ
 numbers_end = 2 ^ 42
 
 -- a line of the version can give this run
-pub record IsOfVersion (version : Version) (run : Run) : Type 0 where
+pub record IsOfVersion (version : Version) (run : MaskRun) : Type 0 where
   pub below : run.mask < mask_bound version
   pub small : run.count < numbers_end
   pub one : IsCountOf version run

@@ -5,7 +5,7 @@ ghost use Rattle.profile.specs.Limits.{cycles_end};
 ghost use Rattle.requirement_table.specs.Instance.{released_by};
 ghost use Rattle.bit_sets.specs.Sets.{most_slots};
 ghost use Rattle.requirement_table.specs.Table.{IsInRange, IsWellPlaced, is_over};
-ghost use Rattle.plan_check.specs.Blocks.{AreMarked, IsClearFor, IsFilled, IsFilledFor, IsLast, IsSameBut, ends_by, meets};
+ghost use Rattle.plan_check.specs.Blocks.{AreMarked, IsClearFor, IsFilled, IsFilledFor, IsLastBlock, IsSameBut, ends_by, meets};
 ghost use Rattle.plan_check.specs.Places.{AreCurrent, AreSlotsBelow, IsCurrent};
 ghost use Rattle.plan_check.specs.PlanKept.{goes_round};
 
@@ -113,9 +113,9 @@ pub fn renew(
     requires known { slots ≤ most_slots }
     requires below { AreSlotsBelow slots placed.now }
     requires current { (i : ℕ) → i < count → AreCurrent placed.now (cycle + i) slots places.now }
-    requires last { IsLast placed.now cycle last.old }
+    requires last { IsLastBlock placed.now cycle last.old }
     ensures filled { IsFilled placed.now cycle count last.new.block }
-    ensures last { IsLast placed.now (cycle + count) last.new }
+    ensures last { IsLastBlock placed.now (cycle + count) last.new }
 {
     if last.repeats && count <= last.cycles {
         last.repeats = count == last.cycles;

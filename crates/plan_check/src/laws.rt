@@ -5,7 +5,7 @@ ghost use Rattle.requirement_table.specs.declared.entries.Placed.{Placed};
 ghost use Rattle.bit_sets.specs.Sets.{has_bit};
 ghost use Rattle.requirement_table.specs.Table.{IsWellPlaced};
 ghost use Rattle.plan_check.specs.declared.breach.Breach.{Breach};
-ghost use Rattle.plan_check.specs.declared.plan_runs.Run.{Run};
+ghost use Rattle.plan_check.specs.declared.plan_runs.MaskRun.{MaskRun};
 ghost use Rattle.plan_check.specs.declared.plan_runs.Version.{Version};
 ghost use Rattle.plan_check.specs.Breaches.{IsBreach, IsGoodAt};
 ghost use Rattle.plan_check.specs.Certificate.{CertificateView, IsCertificate};
@@ -42,6 +42,6 @@ pub fn runs()
     ensures masks { (version : Version) (masks : List ℕ) → spread (listed_runs version masks) ≡ masks }
     ensures listed { (version : Version) (masks : List ℕ) → All (λ mask. mask < mask_bound version) masks
         → AreListed version None (listed_runs version masks) }
-    ensures only { (version : Version) (runs : List Run) → AreListed version None runs
+    ensures only { (version : Version) (runs : List MaskRun) → AreListed version None runs
         → listed_runs version (spread runs) ≡ runs }
 {}

@@ -4,7 +4,7 @@ ghost use Rattle.std.specs.Prelude.{◌≡◌, ◌≤◌, slice_get};
 ghost use Rattle.std.specs.Option.{option_and_then};
 ghost use Rattle.bit_sets.specs.Sets.{most_slots};
 ghost use Rattle.requirement_table.specs.Table.{IsInRange, IsWellPlaced, is_over};
-ghost use Rattle.plan_check.specs.Places.{AreCurrent, ArePassed, AreSlotsBelow, IsCurrent, IsPassed, release_by};
+ghost use Rattle.plan_check.specs.Places.{AreCurrent, ArePassed, AreSlotsBelow, IsCurrent, IsPlacePassed, release_by};
 ghost use Rattle.plan_check.specs.PlanKept.{goes_round};
 
 use requirement_table::{MOST_SLOTS, Placed, current_instance};
@@ -39,7 +39,7 @@ pub fn goes_round(p: &Placed, first: u64, length: u64) -> bool
 /// the list where there is none.
 pub fn place_at(placed: &[Placed], cycle: u64, slot: u8, place: usize) -> usize
     requires well_placed { IsWellPlaced placed.now }
-    requires passed { IsPassed placed.now cycle slot place }
+    requires passed { IsPlacePassed placed.now cycle slot place }
     ensures current { IsCurrent placed.now cycle slot result }
 {
     for next in place..placed.len() {

@@ -4,11 +4,11 @@ ghost use Rattle.std.specs.Prelude.{◌≡◌, ℕ, ◌<◌, ◌≤◌, ◌++◌
 ghost use Rattle.std.specs.Fmt.{decimal};
 ghost use Rattle.text_fields.specs.Lines.{HasNoFeed};
 ghost use Rattle.text_fields.specs.MaskText.{mask_digits};
-ghost use Rattle.plan_check.specs.declared.plan_runs.Run.{Run};
+ghost use Rattle.plan_check.specs.declared.plan_runs.MaskRun.{MaskRun};
 ghost use Rattle.plan_check.specs.declared.plan_runs.Version.{Version};
 ghost use Rattle.plan_check.specs.PlanText.{HasNoSpace, IsOfVersion, MayFollow, first_line, is_other, mask_bound, numbers_end, run_line};
 
-use crate::plan_runs::{Run, Version};
+use crate::plan_runs::{MaskRun, Version};
 use requirement_table::Mask;
 use text_fields::{read_decimal, read_mask, split_line};
 
@@ -86,11 +86,11 @@ pub fn next_run(
     version: Version,
     last: Option<Mask>,
     most: u64,
-) -> Option<(Run, &[u8])>
+) -> Option<(MaskRun, &[u8])>
     ensures found { IfSome result (λ r. text.now ≡ run_line version r.0 ++ 10 ∷ r.1.now) }
     ensures follows { IfSome result (λ r. MayFollow version last r.0) }
     ensures most { IfSome result (λ r. r.0.count ≤ most) }
-    ensures none { IfNone result ((run : Run) (after : List ℕ) → MayFollow version last run → run.count ≤ most
+    ensures none { IfNone result ((run : MaskRun) (after : List ℕ) → MayFollow version last run → run.count ≤ most
         → run.count < numbers_end → text.now ≡ run_line version run ++ 10 ∷ after → ⊥) }
 {
     let (line, after) = split_line(text)?;
@@ -113,10 +113,10 @@ fn is_other(last: Option<Mask>, mask: Mask, version: Version) -> bool
 }
 
 /// The run of a line.
-fn run_of(line: &[u8], version: Version) -> Option<Run>
+fn run_of(line: &[u8], version: Version) -> Option<MaskRun>
     ensures found { IfSome result (λ run. line.now ≡ run_line version run) }
     ensures of_version { IfSome result (IsOfVersion version) }
-    ensures none { IfNone result ((run : Run) → IsOfVersion version run → line.now ≡ run_line version run → ⊥) }
+    ensures none { IfNone result ((run : MaskRun) → IsOfVersion version run → line.now ≡ run_line version run → ⊥) }
 {
     match version {
         Version::One => cycle_of(line),
@@ -125,27 +125,27 @@ fn run_of(line: &[u8], version: Version) -> Option<Run>
 }
 
 /// The one cycle of a line of version 1.
-fn cycle_of(line: &[u8]) -> Option<Run>
+fn cycle_of(line: &[u8]) -> Option<MaskRun>
     ensures found { IfSome result (λ run. line.now ≡ run_line Version.One run) }
     ensures of_version { IfSome result (IsOfVersion Version.One) }
-    ensures none { IfNone result ((run : Run) → IsOfVersion Version.One run
+    ensures none { IfNone result ((run : MaskRun) → IsOfVersion Version.One run
         → line.now ≡ run_line Version.One run → ⊥) }
 {
     let mask = mask_of(line, Version::One)?;
-    Some(Run { mask, count: 1 })
+    Some(MaskRun { mask, count: 1 })
 }
 
 /// The run of a line of version 2.
-fn counted_of(line: &[u8]) -> Option<Run>
+fn counted_of(line: &[u8]) -> Option<MaskRun>
     ensures found { IfSome result (λ run. line.now ≡ run_line Version.Two run) }
     ensures of_version { IfSome result (IsOfVersion Version.Two) }
-    ensures none { IfNone result ((run : Run) → IsOfVersion Version.Two run
+    ensures none { IfNone result ((run : MaskRun) → IsOfVersion Version.Two run
         → line.now ≡ run_line Version.Two run → ⊥) }
 {
     let (digits, behind) = split_space(line)?;
     let mask = mask_of(digits, Version::Two)?;
     let count = read_number(behind)?;
-    Some(Run { mask, count })
+    Some(MaskRun { mask, count })
 }
 
 /// What stands before the last space of a line, and what stands behind it; nothing where there is no space. It looks

@@ -7,7 +7,7 @@ use requirement_table::Mask;
 
 /// Cycles one after the other that have the same mask.
 #[derive(Clone, Copy, Debug)]
-pub struct Run {
+pub struct MaskRun {
     /// The flagged slots.
     pub mask: Mask,
     /// The number of cycles.

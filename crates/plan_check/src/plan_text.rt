@@ -27,13 +27,13 @@ ghost use Rattle.std.specs.Prelude.{MatchResult};
 ghost use Rattle.std.specs.Fmt.{decimal};
 ghost use Rattle.plan_check.specs.declared.plan_runs.Version.TheVariants.{Two};
 ghost use Rattle.plan_check.specs.Certificate.{CertificateView};
-ghost use Rattle.plan_check.specs.PlanText.{IsBody, IsFirstWrongLine, IsPlanOf, IsReadable, IsReadableHead, IsRunFault, IsTextFault};
+ghost use Rattle.plan_check.specs.PlanText.{IsBody, IsFirstWrongLine, IsReadable, IsReadableHead, IsRunFault, IsTextFault, IsTextOfPlan};
 ghost use Rattle.plan_check.specs.PlanText.{head_lines, lines_of_head, plan_text, run_line, runs_of, text_of};
 ghost use Rattle.text_fields.specs.MaskText.{mask_digits};
 
 use crate::certificate::Certificate;
 use crate::plan_reading::{mask_line, next_run, number_line, version_line, word_line};
-use crate::plan_runs::{Run, Version};
+use crate::plan_runs::{MaskRun, Version};
 use crate::text_fault::PlanTextFault;
 use requirement_table::Mask;
 use std::alloc::{AllocError, Global};
@@ -96,7 +96,7 @@ fn push_runs(text: &mut Vec<u8>, masks: &[Mask]) -> Result<(), AllocError>
     let mut start = 0;
     while start < masks.len() {
         let end = end_of_run(masks, start);
-        let run = Run {
+        let run = MaskRun {
             mask: masks[start],
             count: (end - start) as u64,
         };
@@ -124,7 +124,7 @@ fn end_of_run(masks: &[Mask], start: usize) -> usize
 }
 
 /// Appends the line of a run, which is made in `row`.
-fn push_run(text: &mut Vec<u8>, row: &mut [u8; ROOM], run: &Run) -> Result<(), AllocError>
+fn push_run(text: &mut Vec<u8>, row: &mut [u8; ROOM], run: &MaskRun) -> Result<(), AllocError>
     ensures ok { OnOk result (text.new.items
         ≡ text.old.items ++ (run_line Version.Two run.now ++ 10 ∷ [])) }
 {
@@ -157,9 +157,9 @@ struct Head {
 ///
 /// The first line that breaks the form, or want of memory.
 pub fn read_plan(alloc: Global, bytes: &[u8]) -> Result<Certificate, PlanTextFault>
-    ensures plan { IfOk result (IsPlanOf bytes.now) }
+    ensures plan { IfOk result (IsTextOfPlan bytes.now) }
     ensures readable { IfOk result (IsReadable Version.Two) }
-    ensures back { (certificate : CertificateView) → IsPlanOf bytes.now certificate
+    ensures back { (certificate : CertificateView) → IsTextOfPlan bytes.now certificate
         → MatchResult result (λ read. read ≡ certificate) (λ fault. fault ≡ PlanTextFault.Memory) }
     ensures line { IfErr result (λ fault. IsTextFault bytes.now fault) }
 {
@@ -262,7 +262,7 @@ fn read_runs(
 }
 
 /// Appends the masks of the cycles of a run.
-fn push_cycles(masks: &mut Vec<Mask>, run: &Run) -> Result<(), PlanTextFault>
+fn push_cycles(masks: &mut Vec<Mask>, run: &MaskRun) -> Result<(), PlanTextFault>
     ensures ok { OnOk result (masks.new.items ≡ masks.old.items ++ replicate run.now.count run.now.mask) }
     ensures memory { IfErr result (λ fault. fault ≡ PlanTextFault.Memory) }
 {

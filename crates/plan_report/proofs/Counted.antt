@@ -16,12 +16,12 @@ use Rattle.requirement_table.specs.Instance.{Exists, MaySend, exists, latest, in
 use Rattle.bit_sets.specs.Sets.{most_slots}
 use Rattle.requirement_table.specs.Table.{IsInRange, IsWellPlaced}
 use Rattle.requirement_table.proofs.Shared.{Exists-from_test, MaySend-from_instance, latest-of_sent}
-use Rattle.bus_trace.specs.Log.{triggers_in, triggers_with}
+use Rattle.bus_trace.specs.Log.{trigger_count_with, triggers_in}
 use Rattle.bus_trace.proofs.Shared.{triggers_with-le}
 use Rattle.plan_report.specs.Report.{Sending, delay_of, first_sendings, greatest_of, is_sent, least_of, sendings, sending_at, sent_by, sent_of}
-use Rattle.plan_report.specs.Current.{IsCurrent, IsTheOne}
-use Rattle.plan_report.specs.declared.current.Current.{Current}
-use Rattle.plan_report.specs.Tally.{AreReleased, AreTallies, CountsOne, IsCounted, IsLast, IsNext, IsReleased, IsTally, count_with, is_last, tally_of, tally_with}
+use Rattle.plan_report.specs.Current.{IsCurrentInstance, IsTheOne}
+use Rattle.plan_report.specs.declared.current.CurrentInstance.{CurrentInstance}
+use Rattle.plan_report.specs.Tally.{AreReleased, AreTallies, CountsOne, IsCounted, IsLastSent, IsNextCount, IsTally, TellsRelease, count_with, is_last, tally_of, tally_with}
 use Rattle.plan_report.specs.declared.tally.Count.{Count}
 use Rattle.plan_report.specs.declared.tally.Tally.{Tally}
 use Rattle.plan_report.proofs.OneOfSlot.{the-one}
@@ -33,10 +33,10 @@ reduce-push f [] x = refl
 reduce-push f (y ∷ ys) x = ap (λ z. Some z) (fold-append f y ys (x ∷ []))
 
 sendings-push : (p : Placed) (seen : ℕ) (frames : List TimedFrame) (sent : TimedFrame)
-    → sendings p seen (frames ++ sent ∷ []) ≡ sendings p seen frames ++ sent_by p (triggers_with (fold triggers_with seen frames) sent) sent
+    → sendings p seen (frames ++ sent ∷ []) ≡ sendings p seen frames ++ sent_by p (trigger_count_with (fold trigger_count_with seen frames) sent) sent
 sendings-push p seen [] sent = append-nil _
 sendings-push p seen (first ∷ frames) sent =
-    let now = triggers_with seen first in
+    let now = trigger_count_with seen first in
     ap (λ l. sent_by p now first ++ l) (sendings-push p now frames sent) ∙ sym (append_assoc (sent_by p now first) (sendings p now frames) _)
 
 first_sendings-push : (before xs : List Sending) (s : Sending)
@@ -49,18 +49,18 @@ first_sendings-push before (x ∷ xs) s =
     ∙ ap (λ b. first_sendings (before ++ x ∷ []) xs ++ cond (is_sent b s.number) [] (s ∷ [])) (append_assoc before (x ∷ []) xs))
     ∙ sym (append_assoc front (first_sendings (before ++ x ∷ []) xs) _)
 
-triggers-push : (frames : List TimedFrame) (sent : TimedFrame) → triggers_in (frames ++ sent ∷ []) ≡ triggers_with (triggers_in frames) sent
-triggers-push frames sent = fold-append triggers_with 0 frames (sent ∷ [])
+triggers-push : (frames : List TimedFrame) (sent : TimedFrame) → triggers_in (frames ++ sent ∷ []) ≡ trigger_count_with (triggers_in frames) sent
+triggers-push frames sent = fold-append trigger_count_with 0 frames (sent ∷ [])
 
 -- An entry
 
 -- more triggers leave the last instance the last one
-last-later : (p : Placed) (seen now : ℕ) (xs : List Sending) (last : Option ℕ) → seen ≤ now → IsLast p seen xs last → IsLast p now xs last
+last-later : (p : Placed) (seen now : ℕ) (xs : List Sending) (last : Option ℕ) → seen ≤ now → IsLastSent p seen xs last → IsLastSent p now xs last
 last-later p seen now xs None more is = is
 last-later p seen now xs (Some n) more is = (is.0, λ cycle above. is.1 cycle (omega arith))
 
 -- whether it was sent is known by the last one
-last-tells : (p : Placed) (seen cycle : ℕ) (xs : List Sending) (last : Option ℕ) → seen ≤ cycle + 1 → IsLast p seen xs last
+last-tells : (p : Placed) (seen cycle : ℕ) (xs : List Sending) (last : Option ℕ) → seen ≤ cycle + 1 → IsLastSent p seen xs last
     → is_sent xs (latest p cycle) ≡ is_last last (latest p cycle)
 last-tells p seen cycle xs None on is = is (latest p cycle)
 last-tells p seen cycle xs (Some n) on is = is.0 (latest p cycle) (is.1 cycle on)
@@ -79,14 +79,14 @@ latest-mono p c d some on =
     le-div (latest p c) (d - (p.origin + p.entry.phase)) p.entry.period some (omega arith)
 
 -- the instance that was sent now is the last one
-last-next : (p : Placed) (seen cycle : ℕ) (xs : List Sending) (last : Option ℕ) → 0 < p.entry.period → seen ≤ cycle + 1 → IsLast p seen xs last
-    → IsLast p (suc cycle) (xs ++ record { number = latest p cycle; cycle = cycle } ∷ []) (Some (latest p cycle))
+last-next : (p : Placed) (seen cycle : ℕ) (xs : List Sending) (last : Option ℕ) → 0 < p.entry.period → seen ≤ cycle + 1 → IsLastSent p seen xs last
+    → IsLastSent p (suc cycle) (xs ++ record { number = latest p cycle; cycle = cycle } ∷ []) (Some (latest p cycle))
 last-next p seen cycle xs last some on is = (tells, λ later above. latest-mono p cycle later some (omega arith))
   where
     number : ℕ
     number = latest p cycle
 
-    earlier : (last : Option ℕ) → IsLast p seen xs last → (k : ℕ) → number ≤ k → is_sent xs k ≡ true → eqb number k ≡ true
+    earlier : (last : Option ℕ) → IsLastSent p seen xs last → (k : ℕ) → number ≤ k → is_sent xs k ≡ true → eqb number k ≡ true
     earlier None is k above sent = absurd (let no = is k in let none : ⊥ = cc in none)
     earlier (Some n) is k above sent =
         let before : n ≤ number = is.1 cycle on in
@@ -101,7 +101,7 @@ last-next p seen cycle xs last some on is = (tells, λ later above. latest-mono 
 
 -- a frame that sends nothing of the entry
 pub tally-same : (frames : List TimedFrame) (p : Placed) (sent : TimedFrame) (tally : Tally)
-    → sent_by p (triggers_with (triggers_in frames) sent) sent ≡ [] → IsTally frames p tally → IsTally (frames ++ sent ∷ []) p tally
+    → sent_by p (trigger_count_with (triggers_in frames) sent) sent ≡ [] → IsTally frames p tally → IsTally (frames ++ sent ∷ []) p tally
 tally-same frames p sent tally nothing is =
     let same : sendings p 0 (frames ++ sent ∷ []) ≡ sendings p 0 frames =
     sendings-push p 0 frames sent ∙ ap (λ l. sendings p 0 frames ++ l) nothing ∙ append-nil _ in
@@ -111,9 +111,9 @@ tally-same frames p sent tally nothing is =
       instances = is.instances ∙ ap (λ l. length (first_sendings [] l)) (sym same);
       least = is.least ∙ ap (λ l. least_of (map (delay_of p) (first_sendings [] l))) (sym same);
       greatest = is.greatest ∙ ap (λ l. greatest_of (map (delay_of p) (first_sendings [] l))) (sym same);
-      last = subst (λ l. IsLast p (triggers_in (frames ++ sent ∷ [])) l tally.last) (sym same)
-          (subst (λ n. IsLast p n (sendings p 0 frames) tally.last) (sym (triggers-push frames sent))
-          (last-later p (triggers_in frames) (triggers_with (triggers_in frames) sent) (sendings p 0 frames) tally.last (triggers_with-le _ sent) is.last));
+      last = subst (λ l. IsLastSent p (triggers_in (frames ++ sent ∷ [])) l tally.last) (sym same)
+          (subst (λ n. IsLastSent p n (sendings p 0 frames) tally.last) (sym (triggers-push frames sent))
+          (last-later p (triggers_in frames) (trigger_count_with (triggers_in frames) sent) (sendings p 0 frames) tally.last (triggers_with-le _ sent) is.last));
       few = omega arith;
     }
 
@@ -123,7 +123,7 @@ is_last-some (Some n) number is = ap (λ k. Some k) (eqb-true n number is)
 
 -- a frame that sends the instance of a cycle
 module _ (frames : List TimedFrame) (p : Placed) (sent : TimedFrame) (tally : Tally) (cycle : ℕ) (some : 0 < p.entry.period)
-    (now : triggers_with (triggers_in frames) sent ≡ suc cycle)
+    (now : trigger_count_with (triggers_in frames) sent ≡ suc cycle)
     (sends : sent_by p (suc cycle) sent ≡ record { number = latest p cycle; cycle = cycle } ∷ [])
     (is : IsTally frames p tally) where
   abbrev number : ℕ
@@ -147,10 +147,10 @@ module _ (frames : List TimedFrame) (p : Placed) (sent : TimedFrame) (tally : Ta
   tells : is_sent xs number ≡ is_last tally.last number
   tells = last-tells p (triggers_in frames) cycle xs tally.last on is.last
 
-  after : IsLast p (triggers_in (frames ++ sent ∷ [])) (sendings p 0 (frames ++ sent ∷ [])) (Some number)
+  after : IsLastSent p (triggers_in (frames ++ sent ∷ [])) (sendings p 0 (frames ++ sent ∷ [])) (Some number)
   after =
-      subst (λ l. IsLast p (triggers_in (frames ++ sent ∷ [])) l (Some number)) (sym all)
-      (subst (λ n. IsLast p n (xs ++ this ∷ []) (Some number)) (sym (triggers-push frames sent ∙ now))
+      subst (λ l. IsLastSent p (triggers_in (frames ++ sent ∷ [])) l (Some number)) (sym all)
+      (subst (λ n. IsLastSent p n (xs ++ this ∷ []) (Some number)) (sym (triggers-push frames sent ∙ now))
       (last-next p (triggers_in frames) cycle xs tally.last some on is.last))
 
   more : length (frames ++ sent ∷ []) ≡ length frames + 1
@@ -167,7 +167,7 @@ module _ (frames : List TimedFrame) (p : Placed) (sent : TimedFrame) (tally : Ta
         instances = is.instances ∙ ap length (sym same);
         least = is.least ∙ ap (λ l. least_of (map (delay_of p) l)) (sym same);
         greatest = is.greatest ∙ ap (λ l. greatest_of (map (delay_of p) l)) (sym same);
-        last = subst (λ o. IsLast p (triggers_in (frames ++ sent ∷ [])) (sendings p 0 (frames ++ sent ∷ [])) o) (sym (is_last-some tally.last number known)) after;
+        last = subst (λ o. IsLastSent p (triggers_in (frames ++ sent ∷ [])) (sendings p 0 (frames ++ sent ∷ [])) o) (sym (is_last-some tally.last number known)) after;
         few = omega arith;
       }
 
@@ -214,7 +214,7 @@ module _ (frames : List TimedFrame) (p : Placed) (sent : TimedFrame) (tally : Ta
 
 -- none of them is sent by the frame
 pub tallies-same : (frames : List TimedFrame) (placed : List Placed) (sent : TimedFrame) (counts : List (Option Count))
-    → ((place : ℕ) (p : Placed) → slice_get placed place ≡ Some p → sent_by p (triggers_with (triggers_in frames) sent) sent ≡ [])
+    → ((place : ℕ) (p : Placed) → slice_get placed place ≡ Some p → sent_by p (trigger_count_with (triggers_in frames) sent) sent ≡ [])
     → AreTallies frames placed counts → AreTallies (frames ++ sent ∷ []) placed counts
 tallies-same frames placed sent counts nothing are = record {
   count = are.count;
@@ -243,7 +243,7 @@ tallies-start placed counts is = record {
 -- that at the place alone is
 pub tallies-next : (frames : List TimedFrame) (placed : List Placed) (sent : TimedFrame) (counts : List (Option Count)) (at : ℕ) (d count next : Option Count)
     → at < length counts → count ≡ get_or counts at d
-    → ((place : ℕ) (p : Placed) → slice_get placed place ≡ Some p → (place ≡ at → ⊥) → sent_by p (triggers_with (triggers_in frames) sent) sent ≡ [])
+    → ((place : ℕ) (p : Placed) → slice_get placed place ≡ Some p → (place ≡ at → ⊥) → sent_by p (trigger_count_with (triggers_in frames) sent) sent ≡ [])
     → ((p : Placed) → slice_get placed at ≡ Some p → IsCounted frames p count → IsCounted (frames ++ sent ∷ []) p next)
     → AreTallies frames placed counts → AreTallies (frames ++ sent ∷ []) placed (slice_set counts at next)
 tallies-next frames placed sent counts at d count next within this others step are = record {
@@ -313,7 +313,7 @@ in-range placed well place p here =
 
 -- a frame before the first trigger
 pub tallies-before : (frames : List TimedFrame) (placed : List Placed) (sent : TimedFrame) (counts : List (Option Count))
-    → triggers_with (triggers_in frames) sent ≡ 0 → AreTallies frames placed counts → AreTallies (frames ++ sent ∷ []) placed counts
+    → trigger_count_with (triggers_in frames) sent ≡ 0 → AreTallies frames placed counts → AreTallies (frames ++ sent ∷ []) placed counts
 tallies-before frames placed sent counts none are =
     tallies-same frames placed sent counts (λ place p here. ap (λ n. sent_by p n sent) none) are
 
@@ -324,27 +324,27 @@ pub tallies-strange : (frames : List TimedFrame) (placed : List Placed) (sent : 
 tallies-strange frames placed sent counts well strange are =
     tallies-same frames placed sent counts (λ place p here.
     let range = in-range placed well place p here in
-    other-slot p (triggers_with (triggers_in frames) sent) sent (strange p.entry.slot range.entry.slot)) are
+    other-slot p (trigger_count_with (triggers_in frames) sent) sent (strange p.entry.slot range.entry.slot)) are
 
 -- a frame of a slot, in a cycle
 module _ (frames : List TimedFrame) (placed : List Placed) (sent : TimedFrame) (counts : List (Option Count)) (slot cycle : ℕ) (well : IsWellPlaced placed)
-    (of_slot : sent.frame.identifier ≡ first_identifier + slot) (now : triggers_with (triggers_in frames) sent ≡ suc cycle)
+    (of_slot : sent.frame.identifier ≡ first_identifier + slot) (now : trigger_count_with (triggers_in frames) sent ≡ suc cycle)
     (are : AreTallies frames placed counts) where
-  nothing : (p : Placed) → (p.entry.slot ≡ slot → instance_of p cycle ≡ None) → sent_by p (triggers_with (triggers_in frames) sent) sent ≡ []
+  nothing : (p : Placed) → (p.entry.slot ≡ slot → instance_of p cycle ≡ None) → sent_by p (trigger_count_with (triggers_in frames) sent) sent ≡ []
   nothing p none =
       elim (cases_eq p.entry.slot slot) [
         | inl same ↦ ap (λ n. sent_by p n sent) now ∙ no-instance p cycle sent (none same)
-        | inr other ↦ other-slot p (triggers_with (triggers_in frames) sent) sent (λ identifier. other (omega arith))
+        | inr other ↦ other-slot p (trigger_count_with (triggers_in frames) sent) sent (λ identifier. other (omega arith))
       ]
 
   -- of which no entry has an instance to send
-  pub tallies-none : IsCurrent placed slot cycle None → AreTallies (frames ++ sent ∷ []) placed counts
+  pub tallies-none : IsCurrentInstance placed slot cycle None → AreTallies (frames ++ sent ∷ []) placed counts
   tallies-none none = tallies-same frames placed sent counts (λ place p here. nothing p (none place p here)) are
 
   -- and one has
-  pub tallies-one : (found : Current) (d next : Option Count) → IsTheOne placed slot cycle found
+  pub tallies-one : (found : CurrentInstance) (d next : Option Count) → IsTheOne placed slot cycle found
       → tally_of next ≡ tally_with (tally_of (get_or counts found.place d)) found.number (cycle - release_of found.placed found.number)
-      → IfSome next (IsReleased found.placed)
+      → IfSome next (TellsRelease found.placed)
       → AreTallies (frames ++ sent ∷ []) placed (slice_set counts found.place next)
   tallies-one found d next one is released =
       let count = are.count in
@@ -394,9 +394,9 @@ fresh-tally : (count : Count) (number release delay : ℕ) → (count.number ≡
     → tally_of (Some (count_with count number release delay)) ≡ tally_with (tally_of (Some count)) number delay
 fresh-tally count number release delay other = sym (cond-false (eqb count.number number) _ _ (ne_eqb count.number number other))
 
-pub is-next : (p : Placed) (cycle : ℕ) (count : Count) (release : ℕ) → IsInRange p → IsReleased p count → cycle < 2 ^ 63
+pub is-next : (p : Placed) (cycle : ℕ) (count : Count) (release : ℕ) → IsInRange p → TellsRelease p count → cycle < 2 ^ 63
     → release ≡ count.release + p.entry.period → release ≤ cycle → cycle - release < p.entry.deadline → exists p release ≡ true
-    → IsNext p cycle count (count_with count (count.number + 1) release (cycle - release))
+    → IsNextCount p cycle count (count_with count (count.number + 1) release (cycle - release))
 is-next p cycle count release range known near is released in_time exists =
     let number = count.number + 1 in
     let same : release ≡ release_of p number = is ∙ ap (λ n. n + p.entry.period) known.release ∙ sym (next-release p count.number) in
@@ -425,10 +425,10 @@ is-released p number release cycle range sends near is =
 
 -- the instance after the last one is counted at its place
 pub counts-next : (placed : List Placed) (slot cycle place : ℕ) (p : Placed) (counts : List (Option Count)) (d : Option Count) (known next : Count)
-    → IsWellPlaced placed → slice_get placed place ≡ Some p → p.entry.slot ≡ slot → get_or counts place d ≡ Some known → IsNext p cycle known next
+    → IsWellPlaced placed → slice_get placed place ≡ Some p → p.entry.slot ≡ slot → get_or counts place d ≡ Some known → IsNextCount p cycle known next
     → CountsOne placed slot cycle counts (slice_set counts place (Some next))
 counts-next placed slot cycle place p counts d known next well here of_slot known_is is = λ frames sent are identifier seen.
-    let now : triggers_with (triggers_in frames) sent ≡ suc cycle = omega (arith, seen) in
+    let now : trigger_count_with (triggers_in frames) sent ≡ suc cycle = omega (arith, seen) in
     tallies-one frames placed sent counts slot cycle well identifier now are (record { place = place; placed = p; number = next.number }) d (Some next)
     (the-one placed slot cycle place p next.number well here of_slot is.sends)
     (is.tally ∙ ap (λ k. tally_with (tally_of k) next.number (cycle - release_of p next.number)) (sym known_is))

@@ -11,7 +11,7 @@ use Rattle.can_frame.specs.declared.data_frame.TimedFrame.{TimedFrame}
 use Rattle.requirement_table.specs.declared.entries.Placed.{Placed}
 use Rattle.requirement_table.specs.Instance.{MaySend, instance_of}
 use Rattle.requirement_table.proofs.Shared.{MaySend-from_instance, instance_of-sent}
-use Rattle.bus_trace.specs.Log.{started_in, triggers_with}
+use Rattle.bus_trace.specs.Log.{started_in, trigger_count_with}
 use Rattle.plan_report.specs.Report.{Sending, first_sendings, is_sent, sending_at, sendings, sent_by, sent_of}
 use Rattle.plan_report.specs.Sent.{WasSentIn}
 
@@ -45,23 +45,23 @@ pub record IsAmong (p : Placed) (seen : ℕ) (trace : List TimedFrame) (s : Send
 -- Each sending is of such an instance
 
 module _ (p : Placed) (seen : ℕ) (sent : TimedFrame) (later : List TimedFrame) where
-  among-later : (s : Sending) → IsAmong p (triggers_with seen sent) later s → IsAmong p seen (sent ∷ later) s
+  among-later : (s : Sending) → IsAmong p (trigger_count_with seen sent) later s → IsAmong p seen (sent ∷ later) s
   among-later s is = record {
-    sent = list_any-append (of_slot p) (cond (eqb (triggers_with seen sent) (s.cycle + 1)) (sent ∷ []) []) (started_in s.cycle (triggers_with seen sent) later)
+    sent = list_any-append (of_slot p) (cond (eqb (trigger_count_with seen sent) (s.cycle + 1)) (sent ∷ []) []) (started_in s.cycle (trigger_count_with seen sent) later)
         ∙ or-right _ _ is.sent;
     in_time = is.in_time;
   }
 
-  among-first : (cycle number : ℕ) → triggers_with seen sent ≡ suc cycle → of_slot p sent ≡ true → instance_of p cycle ≡ Some number
+  among-first : (cycle number : ℕ) → trigger_count_with seen sent ≡ suc cycle → of_slot p sent ≡ true → instance_of p cycle ≡ Some number
       → IsAmong p seen (sent ∷ later) (record { number = number; cycle = cycle })
   among-first cycle number now here sends = record {
-    sent = list_any-append (of_slot p) (cond (eqb (triggers_with seen sent) (cycle + 1)) (sent ∷ []) []) (started_in cycle (triggers_with seen sent) later)
-        ∙ or-left _ _ (ap (list_any (of_slot p)) (cond-true (eqb (triggers_with seen sent) (cycle + 1)) (sent ∷ []) [] (eq-eqb _ _ (omega arith)))
+    sent = list_any-append (of_slot p) (cond (eqb (trigger_count_with seen sent) (cycle + 1)) (sent ∷ []) []) (started_in cycle (trigger_count_with seen sent) later)
+        ∙ or-left _ _ (ap (list_any (of_slot p)) (cond-true (eqb (trigger_count_with seen sent) (cycle + 1)) (sent ∷ []) [] (eq-eqb _ _ (omega arith)))
         ∙ or-left _ _ here);
     in_time = MaySend-from_instance p number cycle sends;
   }
 
-  all-at : (cycle : ℕ) (o : Option ℕ) → instance_of p cycle ≡ o → triggers_with seen sent ≡ suc cycle → of_slot p sent ≡ true
+  all-at : (cycle : ℕ) (o : Option ℕ) → instance_of p cycle ≡ o → trigger_count_with seen sent ≡ suc cycle → of_slot p sent ≡ true
       → All (IsAmong p seen (sent ∷ later)) (sending_at cycle o)
   all-at cycle None is now here = λ k d within. absurd (omega arith)
   all-at cycle (Some number) is now here = λ k d within.
@@ -69,7 +69,7 @@ module _ (p : Placed) (seen : ℕ) (sent : TimedFrame) (later : List TimedFrame)
       subst (λ n. IsAmong p seen (sent ∷ later) (get_or (record { number = number; cycle = cycle } ∷ []) n d)) (sym first)
       (among-first cycle number now here is)
 
-  all-by : (now : ℕ) → triggers_with seen sent ≡ now → All (IsAmong p seen (sent ∷ later)) (sent_by p now sent)
+  all-by : (now : ℕ) → trigger_count_with seen sent ≡ now → All (IsAmong p seen (sent ∷ later)) (sent_by p now sent)
   all-by zero is = λ k d within. absurd (omega arith)
   all-by (suc cycle) is =
       elim (cases_Bool (of_slot p sent)) [
@@ -84,9 +84,9 @@ module _ (p : Placed) (seen : ℕ) (sent : TimedFrame) (later : List TimedFrame)
 sound : (p : Placed) (seen : ℕ) (trace : List TimedFrame) → All (IsAmong p seen trace) (sendings p seen trace)
 sound p seen [] = λ k d within. absurd (omega arith)
 sound p seen (sent ∷ later) =
-    All-append (IsAmong p seen (sent ∷ later)) (sent_by p (triggers_with seen sent) sent) (sendings p (triggers_with seen sent) later)
-    (all-by p seen sent later (triggers_with seen sent) refl)
-    (λ k d within. among-later p seen sent later _ (sound p (triggers_with seen sent) later k d within))
+    All-append (IsAmong p seen (sent ∷ later)) (sent_by p (trigger_count_with seen sent) sent) (sendings p (trigger_count_with seen sent) later)
+    (all-by p seen sent later (trigger_count_with seen sent) refl)
+    (λ k d within. among-later p seen sent later _ (sound p (trigger_count_with seen sent) later k d within))
 
 -- And each instance has one
 
@@ -102,7 +102,7 @@ module _ (p : Placed) (number cycle : ℕ) (sends : instance_of p cycle ≡ Some
   complete seen (sent ∷ later) found = by (eqb now (cycle + 1)) refl (complete now later)
     where
       now : ℕ
-      now = triggers_with seen sent
+      now = trigger_count_with seen sent
 
       parts : is_sent (sendings p seen (sent ∷ later)) number ≡ (is_sent (sent_by p now sent) number || is_sent (sendings p now later) number)
       parts = list_any-append (λ s. eqb s.number number) (sent_by p now sent) (sendings p now later)

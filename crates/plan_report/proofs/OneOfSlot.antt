@@ -8,7 +8,7 @@ use Rattle.requirement_table.specs.Instance.{MaySend, instance_of}
 use Rattle.requirement_table.specs.Table.{IsInRange, IsWellPlaced, GoesBefore, free_from, is_over}
 use Rattle.bit_sets.specs.Sets.{most_slots}
 use Rattle.requirement_table.proofs.Shared.{MaySend-from_instance, instance_of-sent, one_instance}
-use Rattle.plan_report.specs.Current.{ArePassed, IsCurrent, IsTheOne}
+use Rattle.plan_report.specs.Current.{AreEntriesPassed, IsCurrentInstance, IsTheOne}
 
 pub zeros-at : (n slot : ℕ) → slice_index (replicate n 0) slot ≡ 0
 zeros-at zero slot = refl
@@ -42,7 +42,7 @@ pub record IsFirst (placed : List Placed) (slot cycle place : ℕ) : Type 0 wher
   pub here : (p : Placed) → slice_get placed place ≡ Some p → (p.entry.slot ≡ slot) × (is_over cycle p ≡ false)
 
 -- as it is found from the place before which all are over
-pub is-first : (placed : List Placed) (places : List ℕ) (slot cycle from place : ℕ) → slot < most_slots → ArePassed placed places cycle
+pub is-first : (placed : List Placed) (places : List ℕ) (slot cycle from place : ℕ) → slot < most_slots → AreEntriesPassed placed places cycle
     → from ≡ slice_index places slot
     → ((other : ℕ) (p : Placed) → from ≤ other → other < place → slice_get placed other ≡ Some p → p.entry.slot ≡ slot → is_over cycle p ≡ true)
     → ((p : Placed) → slice_get placed place ≡ Some p → (p.entry.slot ≡ slot) × (is_over cycle p ≡ false))
@@ -71,7 +71,7 @@ module _ (placed : List Placed) (slot cycle place : ℕ) (well : IsWellPlaced pl
       no-number (instance_of p cycle) (λ k sends. taken-unsendable q p k cycle (first.here q here).1 free (MaySend-from_instance p k cycle sends))
 
   -- no entry of the slot stands from the place on
-  pub current-past : length placed ≤ place → IsCurrent placed slot cycle None
+  pub current-past : length placed ≤ place → IsCurrentInstance placed slot cycle None
   current-past past = λ other p there of_slot.
       let within = slice_get_within placed other p there in none-before other p (omega arith) there of_slot
 
@@ -84,7 +84,7 @@ module _ (placed : List Placed) (slot cycle place : ℕ) (well : IsWellPlaced pl
       ]
 
   -- the entry there has no instance to send
-  pub current-none : (q : Placed) → slice_get placed place ≡ Some q → instance_of q cycle ≡ None → IsCurrent placed slot cycle None
+  pub current-none : (q : Placed) → slice_get placed place ≡ Some q → instance_of q cycle ≡ None → IsCurrentInstance placed slot cycle None
   current-none q here none = λ other p there of_slot.
       elim (cases_eq other place) [
         | inl same ↦

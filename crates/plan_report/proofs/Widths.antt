@@ -12,8 +12,8 @@ use Rattle.requirement_table.specs.Table.{IsInRange, IsWellPlaced, free_from, in
 use Rattle.requirement_table.proofs.Shared.{instance_in-found, instance_in-sound, instance_of-sent, period-parts}
 use Rattle.bit_sets.proofs.Shared.{none-of, sum_where-none, sum_where-without}
 use Rattle.bit_sets.specs.Least.{least_where}
-use Rattle.plan_report.specs.Current.{ArePassed, IsCurrent, IsTheOne}
-use Rattle.plan_report.specs.declared.current.Current.{Current}
+use Rattle.plan_report.specs.Current.{AreEntriesPassed, IsCurrentInstance, IsTheOne}
+use Rattle.plan_report.specs.declared.current.CurrentInstance.{CurrentInstance}
 use Rattle.master_core.specs.declared.event.Event.{Event}
 use Rattle.master_core.specs.History.{is_open}
 use Rattle.plan_report.specs.Opened.{load_of, opened_width, opened_widths}
@@ -22,7 +22,7 @@ use Rattle.plan_report.specs.declared.load.Load.{Load}
 -- Slots
 
 -- what is over stays over
-pub passed-later : (placed : List Placed) (places : List ℕ) (c d : ℕ) → c ≤ d → ArePassed placed places c → ArePassed placed places d
+pub passed-later : (placed : List Placed) (places : List ℕ) (c d : ℕ) → c ≤ d → AreEntriesPassed placed places c → AreEntriesPassed placed places d
 passed-later placed places c d on passed = λ slot place p known before there of_slot. over p (passed slot place p known before there of_slot)
   where
     by : (from : Option ℕ) → option_map_or (λ f. nat_le f c) from false ≡ true → option_map_or (λ f. nat_le f d) from false ≡ true
@@ -33,7 +33,7 @@ passed-later placed places c d on passed = λ slot place p known before there of
     over p is = by (free_from p) is
 
 -- what the slot costs is the worst length of the entry that may send
-pub worst-found : (placed : List Placed) (slot cycle c number : ℕ) (found : Current) → IsWellPlaced placed → IsTheOne placed slot cycle found
+pub worst-found : (placed : List Placed) (slot cycle c number : ℕ) (found : CurrentInstance) → IsWellPlaced placed → IsTheOne placed slot cycle found
     → MaySend found.placed number c → worst_in placed c slot ≡ worst found.placed.entry.length
 worst-found placed slot cycle c number found well one sends =
     let is : instance_in placed slot c ≡ Some (record { placed = found.placed; number = number }) =
@@ -64,7 +64,7 @@ goes-on p number cycle c whole some sends on there =
     )
 
 -- it is nothing where no entry may
-pub worst-none : (placed : List Placed) (slot cycle : ℕ) → IsWellPlaced placed → IsCurrent placed slot cycle None → worst_in placed cycle slot ≡ 0
+pub worst-none : (placed : List Placed) (slot cycle : ℕ) → IsWellPlaced placed → IsCurrentInstance placed slot cycle None → worst_in placed cycle slot ≡ 0
 worst-none placed slot cycle well none = by (instance_in placed slot cycle) (instance_in-sound placed slot cycle)
   where
     by : (o : Option Instance) → IfSome o (λ i. Contains placed i.placed × (i.placed.entry.slot ≡ slot) × MaySend i.placed i.number cycle)

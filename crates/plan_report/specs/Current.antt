@@ -4,11 +4,11 @@ use Rattle.requirement_table.specs.declared.entries.Placed.{Placed}
 use Rattle.requirement_table.specs.Instance.{instance_of}
 use Rattle.bit_sets.specs.Sets.{most_slots}
 use Rattle.requirement_table.specs.Table.{is_over}
-use Rattle.plan_report.specs.declared.current.Current.{Current}
+use Rattle.plan_report.specs.declared.current.CurrentInstance.{CurrentInstance}
 
 -- of each slot all entries before its place are over by the cycle
-abbrev pub ArePassed : List Placed → List ℕ → ℕ → Type 0
-ArePassed placed places cycle = (slot place : ℕ) (p : Placed) → slot < most_slots
+abbrev pub AreEntriesPassed : List Placed → List ℕ → ℕ → Type 0
+AreEntriesPassed placed places cycle = (slot place : ℕ) (p : Placed) → slot < most_slots
     → place < slice_index places slot → slice_get placed place ≡ Some p
     → p.entry.slot ≡ slot → is_over cycle p ≡ true
 
@@ -20,14 +20,14 @@ NoOther placed slot cycle place = (other : ℕ) (p : Placed)
 
 -- this is the entry of the slot, by its place, and the number of its instance, that may be sent in the cycle; and no
 -- other has one
-pub record IsTheOne (placed : List Placed) (slot cycle : ℕ) (found : Current) : Type 0 where
+pub record IsTheOne (placed : List Placed) (slot cycle : ℕ) (found : CurrentInstance) : Type 0 where
   pub within : found.place < length placed
   pub here : slice_get placed found.place ≡ Some found.placed
   pub of_slot : found.placed.entry.slot ≡ slot
   pub instance : instance_of found.placed cycle ≡ Some found.number
   pub alone : NoOther placed slot cycle found.place
 
-abbrev pub IsCurrent : List Placed → ℕ → ℕ → Option Current → Type 0
-IsCurrent placed slot cycle None = (place : ℕ) (p : Placed)
+abbrev pub IsCurrentInstance : List Placed → ℕ → ℕ → Option CurrentInstance → Type 0
+IsCurrentInstance placed slot cycle None = (place : ℕ) (p : Placed)
     → slice_get placed place ≡ Some p → p.entry.slot ≡ slot → instance_of p cycle ≡ None
-IsCurrent placed slot cycle (Some found) = IsTheOne placed slot cycle found
+IsCurrentInstance placed slot cycle (Some found) = IsTheOne placed slot cycle found

@@ -16,7 +16,7 @@ use Rattle.async_window.specs.Waiting.{frames_with, unsent_after}
 use Rattle.master_core.specs.declared.event.Event.{Event}
 use Rattle.master_core.specs.History.{placed_of}
 use Rattle.master_core.specs.Openings.{openings_of}
-use Rattle.bus_trace.specs.Log.{hex_digits, triggers_with}
+use Rattle.bus_trace.specs.Log.{hex_digits, trigger_count_with}
 
 -- What was sent of an entry
 
@@ -41,7 +41,7 @@ sent_by p (suc cycle) sent =
 -- the sendings of an entry's instances by the frames of a trace, in their order, where `seen` triggers came before
 abbrev pub sendings : Placed → ℕ → List TimedFrame → List Sending
 sendings p seen [] = []
-sendings p seen (sent ∷ later) = sent_by p (triggers_with seen sent) sent ++ sendings p (triggers_with seen sent) later
+sendings p seen (sent ∷ later) = sent_by p (trigger_count_with seen sent) sent ++ sendings p (trigger_count_with seen sent) later
 
 -- whether the instance with this number is among those of the sendings
 abbrev pub is_sent : List Sending → ℕ → Bool

@@ -6,7 +6,7 @@ use Rattle.profile.specs.Limits.{first_identifier}
 use Rattle.can_frame.specs.declared.data_frame.TimedFrame.{TimedFrame}
 use Rattle.requirement_table.specs.declared.entries.Placed.{Placed}
 use Rattle.requirement_table.specs.Instance.{MaySend, latest, release_of}
-use Rattle.bus_trace.specs.Log.{triggers_in, triggers_with}
+use Rattle.bus_trace.specs.Log.{trigger_count_with, triggers_in}
 use Rattle.plan_report.specs.Report.{Sending, delay_of, greatest_of, is_sent, least_of, sendings, sent_of}
 use Rattle.plan_report.specs.declared.tally.Count.{Count}
 use Rattle.plan_report.specs.declared.tally.Tally.{Tally}
@@ -28,9 +28,9 @@ tally_with tally number delay =
 
 -- of the sendings of an entry, in the cycles of which `seen` triggers tell, this is the last instance: none behind it
 -- was sent, and none before it may be sent any more
-abbrev pub IsLast : Placed → ℕ → List Sending → Option ℕ → Type 0
-IsLast p seen sendings None = (number : ℕ) → is_sent sendings number ≡ false
-IsLast p seen sendings (Some last) =
+abbrev pub IsLastSent : Placed → ℕ → List Sending → Option ℕ → Type 0
+IsLastSent p seen sendings None = (number : ℕ) → is_sent sendings number ≡ false
+IsLastSent p seen sendings (Some last) =
     ((number : ℕ) → last ≤ number → is_sent sendings number ≡ (last == number))
     × ((cycle : ℕ) → seen ≤ cycle + 1 → last ≤ latest p cycle)
 
@@ -39,7 +39,7 @@ pub record IsTally (frames : List TimedFrame) (p : Placed) (tally : Tally) : Typ
   pub instances : tally.instances ≡ length (sent_of frames p)
   pub least : tally.least ≡ least_of (map (delay_of p) (sent_of frames p))
   pub greatest : tally.greatest ≡ greatest_of (map (delay_of p) (sent_of frames p))
-  pub last : IsLast p (triggers_in frames) (sendings p 0 frames) tally.last
+  pub last : IsLastSent p (triggers_in frames) (sendings p 0 frames) tally.last
   pub few : tally.instances ≤ length frames
 
 -- The counts of the code
@@ -65,21 +65,21 @@ count_with count number release delay = record {
 }
 
 -- the release of the last instance is that of the entry
-pub record IsReleased (p : Placed) (count : Count) : Type 0 where
+pub record TellsRelease (p : Placed) (count : Count) : Type 0 where
   pub release : count.release ≡ release_of p count.number
   pub number : count.number ≤ count.release
   pub early : count.release < 2 ^ 63
 
 -- one instance of the entry more is counted, which may be sent in the cycle
-pub record IsNext (p : Placed) (cycle : ℕ) (count next : Count) : Type 0 where
+pub record IsNextCount (p : Placed) (cycle : ℕ) (count next : Count) : Type 0 where
   pub sends : MaySend p next.number cycle
   pub tally : tally_of (Some next) ≡ tally_with (tally_of (Some count)) next.number (cycle - release_of p next.number)
-  pub released : IsReleased p next
+  pub released : TellsRelease p next
 
 -- what is counted of an entry is what frames send of it
 pub record IsCounted (frames : List TimedFrame) (p : Placed) (count : Option Count) : Type 0 where
   pub tally : IsTally frames p (tally_of count)
-  pub released : IfSome count (IsReleased p)
+  pub released : IfSome count (TellsRelease p)
 
 -- what is counted of each of some entries
 pub record AreTallies (frames : List TimedFrame) (placed : List Placed) (counts : List (Option Count)) : Type 0 where
@@ -91,10 +91,10 @@ pub record AreTallies (frames : List TimedFrame) (placed : List Placed) (counts 
 -- the releases are those of the entries
 abbrev pub AreReleased : List Placed → List (Option Count) → Type 0
 AreReleased placed counts = (place : ℕ) (p : Placed) (count : Option Count)
-    → slice_get placed place ≡ Some p → slice_get counts place ≡ Some count → IfSome count (IsReleased p)
+    → slice_get placed place ≡ Some p → slice_get counts place ≡ Some count → IfSome count (TellsRelease p)
 
 -- whatever frames came before, one of the slot was counted, in the cycle
 abbrev pub CountsOne : List Placed → ℕ → ℕ → List (Option Count) → List (Option Count) → Type 0
 CountsOne placed slot cycle old new = (frames : List TimedFrame) (sent : TimedFrame) → AreTallies frames placed old
-    → sent.frame.identifier ≡ first_identifier + slot → triggers_with (triggers_in frames) sent ≡ cycle + 1
+    → sent.frame.identifier ≡ first_identifier + slot → trigger_count_with (triggers_in frames) sent ≡ cycle + 1
     → AreTallies (frames ++ sent ∷ []) placed new

@@ -5,13 +5,13 @@ ghost use Rattle.std.specs.Prelude.{◌≡◌, ℕ, ◌<◌, ◌≤◌, ◌==◌
 ghost use Rattle.requirement_table.specs.declared.entries.Placed.{Placed};
 ghost use Rattle.bit_sets.specs.Sets.{most_slots};
 ghost use Rattle.requirement_table.specs.Table.{IsInRange, IsWellPlaced, free_from, is_over};
-ghost use Rattle.plan_report.specs.Current.{ArePassed, IsCurrent};
+ghost use Rattle.plan_report.specs.Current.{AreEntriesPassed, IsCurrentInstance};
 
 use requirement_table::{MOST_SLOTS, Placed, current};
 
 /// The entry of a slot that may send in a cycle.
 #[derive(Clone, Copy, Debug)]
-pub struct Current {
+pub struct CurrentInstance {
     /// Its place in the list of placed entries.
     pub place: usize,
     /// The entry.
@@ -22,29 +22,29 @@ pub struct Current {
 
 /// For each slot a place in the list of placed entries, before which all entries of the slot are over.
 #[derive(Drop, Debug)]
-pub struct Places {
+pub struct SlotPlaces {
     /// The place of each slot.
     pub first: [usize; MOST_SLOTS as usize],
 }
 
-impl Places {
+impl SlotPlaces {
     /// The places before any cycle.
-    pub fn new() -> Places
-        ensures passed { (placed : List Placed) (cycle : ℕ) → ArePassed placed result.first cycle }
+    pub fn new() -> SlotPlaces
+        ensures passed { (placed : List Placed) (cycle : ℕ) → AreEntriesPassed placed result.first cycle }
     {
-        Places {
+        SlotPlaces {
             first: [0; MOST_SLOTS as usize],
         }
     }
 
     /// The entry of a slot whose instance may be sent in a cycle, where there is one. No cycle below one that was
     /// asked is asked later.
-    pub fn find(&mut self, placed: &[Placed], slot: u8, cycle: u64) -> Option<Current>
+    pub fn find(&mut self, placed: &[Placed], slot: u8, cycle: u64) -> Option<CurrentInstance>
         requires well_placed { IsWellPlaced placed.now }
         requires slot { slot < most_slots }
-        requires passed { ArePassed placed.now self.old.first cycle }
-        ensures found { IsCurrent placed.now slot cycle result }
-        ensures passed { ArePassed placed.now self.new.first cycle }
+        requires passed { AreEntriesPassed placed.now self.old.first cycle }
+        ensures found { IsCurrentInstance placed.now slot cycle result }
+        ensures passed { AreEntriesPassed placed.now self.new.first cycle }
     {
         let index = usize::from(slot);
         let place = first_left(placed, self.first[index], slot, cycle);
@@ -55,7 +55,7 @@ impl Places {
         let placed = placed[place];
         match current(&placed, cycle) {
             None => None,
-            Some(number) => Some(Current {
+            Some(number) => Some(CurrentInstance {
                 place,
                 placed,
                 number,

@@ -5,10 +5,10 @@ ghost use Rattle.std.specs.Prelude.{◌≡◌, ℕ, ◌+◌, ◌*◌, ◌^◌, �
 ghost use Rattle.requirement_table.specs.Instance.{MaySend, worst};
 ghost use Rattle.bit_sets.specs.Sets.{has_bit, most_slots};
 ghost use Rattle.requirement_table.specs.Table.{IsInRange, IsWellPlaced, width_in, worst_in};
-ghost use Rattle.plan_report.specs.Current.{ArePassed};
+ghost use Rattle.plan_report.specs.Current.{AreEntriesPassed};
 ghost use Rattle.plan_report.specs.Opened.{IsWidthFrom, load_of, opened_width, opened_widths};
 
-use crate::current::Places;
+use crate::current::SlotPlaces;
 use crate::tally::{greater, lesser};
 use bit_sets::least_slot;
 use master_core::Event;
@@ -74,7 +74,7 @@ pub fn opened_load(placed: &[Placed], history: &[Event]) -> Load
     ensures load { result ≡ load_of (opened_widths placed.now 0 history.now) }
 {
     let mut load = Load::none();
-    let mut places = Places::new();
+    let mut places = SlotPlaces::new();
     let mut known = no_width();
     let mut next = 0u64;
     for event in history {
@@ -98,18 +98,18 @@ fn no_width() -> KnownWidth
 /// The load with the width of the cycle that an event opens, where it opens cycle `next`.
 fn with_event(
     load: &Load,
-    places: &mut Places,
+    places: &mut SlotPlaces,
     known: &mut KnownWidth,
     placed: &[Placed],
     next: u64,
     event: &Event,
 ) -> Load
     requires well_placed { IsWellPlaced placed.now }
-    requires passed { ArePassed placed.now places.old.first next }
+    requires passed { AreEntriesPassed placed.now places.old.first next }
     requires known { IsWidthFrom placed.now next known.old }
     requires near { next < 2 ^ 63 }
     requires few { load.now.sum < 2 ^ 127 }
-    ensures passed { ArePassed placed.now places.new.first next }
+    ensures passed { AreEntriesPassed placed.now places.new.first next }
     ensures known { IsWidthFrom placed.now next known.new }
     ensures load { (widths : List ℕ) → load.now ≡ load_of widths
         → result ≡ load_of (widths ++ opened_width placed.now next event.now) }
@@ -126,12 +126,12 @@ fn with_event(
 }
 
 /// Makes the width that of a cycle in which these slots are flagged, where it is not.
-fn renew(known: &mut KnownWidth, places: &mut Places, placed: &[Placed], cycle: u64, mask: Mask)
+fn renew(known: &mut KnownWidth, places: &mut SlotPlaces, placed: &[Placed], cycle: u64, mask: Mask)
     requires well_placed { IsWellPlaced placed.now }
-    requires passed { ArePassed placed.now places.old.first cycle }
+    requires passed { AreEntriesPassed placed.now places.old.first cycle }
     requires known { IsWidthFrom placed.now cycle known.old }
     requires near { cycle < 2 ^ 63 }
-    ensures passed { ArePassed placed.now places.new.first cycle }
+    ensures passed { AreEntriesPassed placed.now places.new.first cycle }
     ensures known { IsWidthFrom placed.now cycle known.new }
     ensures width { known.new.bits ≡ width_in placed.now cycle (has_bit mask) }
     ensures range { known.new.bits ≤ most_slots * worst 8 }
@@ -143,11 +143,11 @@ fn renew(known: &mut KnownWidth, places: &mut Places, placed: &[Placed], cycle: 
 }
 
 /// The worst lengths of the flagged slots of a cycle together.
-fn width(places: &mut Places, placed: &[Placed], cycle: u64, mask: Mask) -> KnownWidth
+fn width(places: &mut SlotPlaces, placed: &[Placed], cycle: u64, mask: Mask) -> KnownWidth
     requires well_placed { IsWellPlaced placed.now }
-    requires passed { ArePassed placed.now places.old.first cycle }
+    requires passed { AreEntriesPassed placed.now places.old.first cycle }
     requires near { cycle < 2 ^ 63 }
-    ensures passed { ArePassed placed.now places.new.first cycle }
+    ensures passed { AreEntriesPassed placed.now places.new.first cycle }
     ensures known { IsWidthFrom placed.now cycle result }
     ensures width { result.bits ≡ width_in placed.now cycle (has_bit mask) }
     ensures range { result.bits ≤ most_slots * worst 8 }
@@ -167,12 +167,12 @@ fn width(places: &mut Places, placed: &[Placed], cycle: u64, mask: Mask) -> Know
 }
 
 /// The worst length of the frame that a slot sends in a cycle.
-fn slot_cost(places: &mut Places, placed: &[Placed], slot: u8, cycle: u64) -> SlotCost
+fn slot_cost(places: &mut SlotPlaces, placed: &[Placed], slot: u8, cycle: u64) -> SlotCost
     requires well_placed { IsWellPlaced placed.now }
     requires slot { slot < most_slots }
-    requires passed { ArePassed placed.now places.old.first cycle }
+    requires passed { AreEntriesPassed placed.now places.old.first cycle }
     requires near { cycle < 2 ^ 63 }
-    ensures passed { ArePassed placed.now places.new.first cycle }
+    ensures passed { AreEntriesPassed placed.now places.new.first cycle }
     ensures later { cycle < result.until }
     ensures cost { (c : ℕ) → cycle ≤ c → c < result.until → worst_in placed.now c slot ≡ result.bits }
 {

@@ -6,11 +6,11 @@ ghost use Rattle.profile.specs.Limits.{first_identifier};
 ghost use Rattle.can_frame.specs.declared.data_frame.TimedFrame.{TimedFrame};
 ghost use Rattle.bit_sets.specs.Sets.{most_slots};
 ghost use Rattle.requirement_table.specs.Table.{IsWellPlaced};
-ghost use Rattle.bus_trace.specs.Log.{triggers_in, triggers_with};
-ghost use Rattle.plan_report.specs.Current.{ArePassed};
+ghost use Rattle.bus_trace.specs.Log.{trigger_count_with, triggers_in};
+ghost use Rattle.plan_report.specs.Current.{AreEntriesPassed};
 ghost use Rattle.plan_report.specs.Tally.{AreReleased, AreTallies, CountsOne, tally_of};
 
-use crate::current::Places;
+use crate::current::SlotPlaces;
 use crate::tally::{Count, counted};
 use can_frame::TimedFrame;
 use profile::FIRST_IDENTIFIER;
@@ -31,7 +31,7 @@ pub fn tallies(
     ensures tallies { IfOk result (λ tallies. AreTallies trace.now placed.now tallies.items) }
 {
     let mut tallies = vec![in alloc; None; placed.len()]?;
-    let mut places = Places::new();
+    let mut places = SlotPlaces::new();
     let mut seen = 0u64;
     for sent in trace {
         seen = triggers_with(seen, sent);
@@ -44,7 +44,7 @@ pub fn tallies(
 #[inline(always)]
 fn triggers_with(seen: u64, sent: &TimedFrame) -> u64
     requires few { seen < 2 ^ 63 }
-    ensures triggers { result ≡ triggers_with seen sent.now }
+    ensures triggers { result ≡ trigger_count_with seen sent.now }
 {
     if sent.frame.id() == 0 { seen + 1 } else { seen }
 }
@@ -66,7 +66,7 @@ fn slot_of(sent: &TimedFrame) -> Option<u8>
 /// Counts what a frame sends, up to which, itself included, there were so many triggers.
 fn count_frame(
     tallies: &mut [Option<Count>],
-    places: &mut Places,
+    places: &mut SlotPlaces,
     placed: &[Placed],
     sent: &TimedFrame,
     seen: u64,
@@ -76,10 +76,10 @@ fn count_frame(
     requires few { All (λ count. (tally_of count).instances < 2 ^ 63) tallies.old }
     requires released { AreReleased placed.now tallies.old }
     requires early { seen < 2 ^ 63 }
-    requires passed { ArePassed placed.now places.old.first (seen - 1) }
-    ensures passed { ArePassed placed.now places.new.first (seen - 1) }
+    requires passed { AreEntriesPassed placed.now places.old.first (seen - 1) }
+    ensures passed { AreEntriesPassed placed.now places.new.first (seen - 1) }
     ensures tallies { (frames : List TimedFrame) → AreTallies frames placed.now tallies.old
-        → seen ≡ triggers_with (triggers_in frames) sent.now
+        → seen ≡ trigger_count_with (triggers_in frames) sent.now
         → AreTallies (frames ++ sent.now ∷ []) placed.now tallies.new }
 {
     if seen == 0 {
@@ -92,7 +92,7 @@ fn count_frame(
 /// Counts what a frame of a slot sends in a cycle.
 fn count_slot(
     tallies: &mut [Option<Count>],
-    places: &mut Places,
+    places: &mut SlotPlaces,
     placed: &[Placed],
     slot: u8,
     cycle: u64,
@@ -103,8 +103,8 @@ fn count_slot(
     requires released { AreReleased placed.now tallies.old }
     requires slot { slot < most_slots }
     requires cycle { cycle < 2 ^ 63 }
-    requires passed { ArePassed placed.now places.old.first cycle }
-    ensures passed { ArePassed placed.now places.new.first cycle }
+    requires passed { AreEntriesPassed placed.now places.old.first cycle }
+    ensures passed { AreEntriesPassed placed.now places.new.first cycle }
     ensures counted { CountsOne placed.now slot cycle tallies.old tallies.new }
 {
     let place = places.first[usize::from(slot)];
@@ -150,7 +150,7 @@ fn next_at(
 /// Counts what a frame of a slot sends in a cycle, of the entry that is found for it.
 fn count_found(
     tallies: &mut [Option<Count>],
-    places: &mut Places,
+    places: &mut SlotPlaces,
     placed: &[Placed],
     slot: u8,
     cycle: u64,
@@ -161,8 +161,8 @@ fn count_found(
     requires released { AreReleased placed.now tallies.old }
     requires slot { slot < most_slots }
     requires cycle { cycle < 2 ^ 63 }
-    requires passed { ArePassed placed.now places.old.first cycle }
-    ensures passed { ArePassed placed.now places.new.first cycle }
+    requires passed { AreEntriesPassed placed.now places.old.first cycle }
+    ensures passed { AreEntriesPassed placed.now places.new.first cycle }
     ensures counted { CountsOne placed.now slot cycle tallies.old tallies.new }
 {
     let Some(found) = places.find(placed, slot, cycle) else {

@@ -4,7 +4,7 @@ ghost use Rattle.std.specs.Prelude.{◌≡◌, ◌-◌, ◌^◌, ◌<◌, IfSome
 ghost use Rattle.std.specs.Option.{option_map_or};
 ghost use Rattle.requirement_table.specs.Instance.{MaySend, release_of};
 ghost use Rattle.requirement_table.specs.Table.{IsInRange};
-ghost use Rattle.plan_report.specs.Tally.{IsNext, IsReleased, count_with, tally_of, tally_with};
+ghost use Rattle.plan_report.specs.Tally.{IsNextCount, TellsRelease, count_with, tally_of, tally_with};
 
 use requirement_table::{Placed, exists};
 
@@ -58,9 +58,9 @@ impl Count {
     pub fn next(&self, p: &Placed, cycle: u64) -> Option<Count>
         requires range { IsInRange p.now }
         requires few { self.now.instances < 2 ^ 63 }
-        requires released { IsReleased p.now self.now }
+        requires released { TellsRelease p.now self.now }
         requires cycle { cycle < 2 ^ 63 }
-        ensures next { IfSome result (IsNext p.now cycle self.now) }
+        ensures next { IfSome result (IsNextCount p.now cycle self.now) }
     {
         let release = self.release + u64::from(p.entry.period);
         if cycle < release {
@@ -90,11 +90,11 @@ pub fn counted(count: &Option<Count>, p: &Placed, number: u64, cycle: u64) -> Op
     requires range { IsInRange p.now }
     requires sends { MaySend p.now number cycle }
     requires few { (tally_of count.now).instances < 2 ^ 63 }
-    requires released { IfSome count.now (IsReleased p.now) }
+    requires released { IfSome count.now (TellsRelease p.now) }
     requires cycle { cycle < 2 ^ 63 }
     ensures tally { tally_of result
         ≡ tally_with (tally_of count.now) number (cycle - release_of p.now number) }
-    ensures released { IfSome result (IsReleased p.now) }
+    ensures released { IfSome result (TellsRelease p.now) }
 {
     let release = release_of(p, number, cycle);
     let delay = cycle - release;

@@ -13,7 +13,7 @@ mod ranking;
 mod state;
 
 pub use planning::{
-    Planned, Taken, cycle_mask, is_held, plan_cycle, plan_of_line, plan_with_width, valid,
+    PlannedCycle, Taken, cycle_mask, is_held, plan_cycle, plan_of_line, plan_with_width, valid,
 };
 pub use ranking::{Ranked, rank, rank_list};
 pub use state::{Miss, PlanState};

@@ -78,7 +78,7 @@ pub fn plan_cycle(ranked: &Ranked, w: u32, state: &PlanState) -> Result<(Mask, P
 
 /// What is planned in a cycle.
 #[derive(Clone, Copy, PartialEq, Eq, Debug)]
-pub struct Planned {
+pub struct PlannedCycle {
     /// The slots that are planned.
     pub mask: Mask,
     /// What they cost together, in bit times: the length of the synchronous window.
@@ -95,7 +95,7 @@ pub struct Planned {
 /// # Errors
 ///
 /// Those of `plan_cycle`.
-pub fn plan_with_width(ranked: &Ranked, w: u32, state: &PlanState) -> Result<Planned, Miss>
+pub fn plan_with_width(ranked: &Ranked, w: u32, state: &PlanState) -> Result<PlannedCycle, Miss>
     requires cycle { state.now.cycle < cycles_end }
     requires valid { IsValid ranked.now.placed state.now.cycle state.now.pending }
     ensures planned { let plan = planning_of ranked.now w state.now.cycle state.now.pending in
@@ -121,7 +121,7 @@ pub fn plan_with_width(ranked: &Ranked, w: u32, state: &PlanState) -> Result<Pla
 }
 
 /// Plans the cycle of the state as `plan_with_width` does.
-fn plan_pending(ranked: &Ranked, w: u32, state: &PlanState) -> Result<Planned, Miss>
+fn plan_pending(ranked: &Ranked, w: u32, state: &PlanState) -> Result<PlannedCycle, Miss>
     requires cycle { state.now.cycle < cycles_end }
     requires valid { IsValid ranked.now.placed state.now.cycle state.now.pending }
     ensures planned { let plan = planning_of ranked.now w state.now.cycle state.now.pending in IfOk result
@@ -132,7 +132,7 @@ fn plan_pending(ranked: &Ranked, w: u32, state: &PlanState) -> Result<Planned, M
     ensures missed_cycle { IfErr result (λ miss. miss.cycle ≡ state.now.cycle) }
 {
     if let Some(all) = all_fitting(ranked, w, state) {
-        return Ok(Planned {
+        return Ok(PlannedCycle {
             mask: all.mask,
             width: all.width,
             next: PlanState {
@@ -149,7 +149,11 @@ fn plan_pending(ranked: &Ranked, w: u32, state: &PlanState) -> Result<Planned, M
 }
 
 /// Plans the cycle of the state as `plan_with_width` does, by a line with room for all that is pending.
-fn plan_rows<const ROOM: usize>(ranked: &Ranked, w: u32, state: &PlanState) -> Result<Planned, Miss>
+fn plan_rows<const ROOM: usize>(
+    ranked: &Ranked,
+    w: u32,
+    state: &PlanState,
+) -> Result<PlannedCycle, Miss>
     requires cycle { state.now.cycle < cycles_end }
     requires valid { IsValid ranked.now.placed state.now.cycle state.now.pending }
     requires most { ROOM ≤ most_slots }
@@ -252,7 +256,7 @@ fn line_of<const ROOM: usize>(ranked: &Ranked, w: u32, state: &PlanState) -> Lin
 }
 
 /// Plans a line of instances in a cycle, within a window of `w` bit times.
-fn plan_line(line: &[Due], fill: Fill, w: u32, cycle: u64) -> Result<Planned, Miss>
+fn plan_line(line: &[Due], fill: Fill, w: u32, cycle: u64) -> Result<PlannedCycle, Miss>
     requires known { All (λ due. due.slot < most_slots) line.now }
     requires cycle { cycle < cycles_end }
     ensures planned { IfOk result (λ r. IsLineTaken fill w line.now cycle r.mask r.width r.next.pending) }
@@ -307,7 +311,7 @@ fn plan_of_each(line: &[Due], w: u32) -> Taken
 }
 
 /// Plans a line of instances with the filling `Prefix`: its first ones, as many as fit the window together.
-fn plan_front(line: &[Due], w: u32, cycle: u64) -> Result<Planned, Miss>
+fn plan_front(line: &[Due], w: u32, cycle: u64) -> Result<PlannedCycle, Miss>
     requires known { All (λ due. due.slot < most_slots) line.now }
     requires cycle { cycle < cycles_end }
     ensures planned { IfOk result (λ r. IsLineTaken Prefix w line.now cycle r.mask r.width r.next.pending) }
@@ -318,7 +322,7 @@ fn plan_front(line: &[Due], w: u32, cycle: u64) -> Result<Planned, Miss>
     let (_, left) = line.split_at(front.count);
     match missed(left, cycle) {
         Some(miss) => Err(miss),
-        None => Ok(Planned {
+        None => Ok(PlannedCycle {
             mask: front.mask,
             width: front.width,
             next: PlanState {
@@ -330,7 +334,7 @@ fn plan_front(line: &[Due], w: u32, cycle: u64) -> Result<Planned, Miss>
 }
 
 /// Plans a line of instances with the filling `Skip`: each one that still fits.
-fn plan_each(line: &[Due], w: u32, cycle: u64) -> Result<Planned, Miss>
+fn plan_each(line: &[Due], w: u32, cycle: u64) -> Result<PlannedCycle, Miss>
     requires known { All (λ due. due.slot < most_slots) line.now }
     requires cycle { cycle < cycles_end }
     ensures planned { IfOk result (λ r. IsLineTaken Skip w line.now cycle r.mask r.width r.next.pending) }
@@ -340,7 +344,7 @@ fn plan_each(line: &[Due], w: u32, cycle: u64) -> Result<Planned, Miss>
     let each = each_of(line, w, cycle);
     match each.least {
         Some(miss) => Err(miss),
-        None => Ok(Planned {
+        None => Ok(PlannedCycle {
             mask: each.mask,
             width: each.width,
             next: PlanState {

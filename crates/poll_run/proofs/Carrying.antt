@@ -37,7 +37,7 @@ use Rattle.sporadic_poll.specs.Rides.{AreFates, AreRidesAt, HaveRidden, IsPlainC
 use Rattle.sporadic_poll.specs.Waiting.{ride_of}
 use Rattle.poll_run.specs.declared.polled.Polled.{Polled}
 use Rattle.poll_run.specs.PolledRun.{polled_setting}
-use Rattle.poll_run.specs.Polling.{CanPoll, IsPolled, IsPolledAt, IsPolledOn, PollsOn, SoFar}
+use Rattle.poll_run.specs.Polling.{CanPoll, IsPolledAt, IsPolledGoing, IsPolledOn, PollsOn, SoFar}
 use Rattle.poll_run.proofs.Bytes.{polled-whole}
 use Rattle.poll_run.proofs.Calls.{closed-by, quiet-opened, quiet-push}
 use Rattle.poll_run.proofs.Openings.{all-front, all-last, openings-closed, openings-push, placed-push, right-last}
@@ -217,7 +217,7 @@ module _ (laws : CycleLaws) (run : Polled) (between : Bus) (after : Polled) (cyc
     (carries : Carries run.layout run.rides.queued.streams cycle placed after.bus.segment after.frames.items run.rides after.rides)
     (still : GoesStill run.bus between) (on : BringsOn between after.bus after.bus.segment) (ran : RunsNext between after.bus after.bus.segment)
     (count : cycle ≡ next_of between.master.history) (list : placed ≡ placed_of after.bus.master.history) where
-  module _ (setting : Setting) (streams : List Stream) (trace : List TimedFrame) (is : IsPolled setting streams trace run) where
+  module _ (setting : Setting) (streams : List Stream) (trace : List TimedFrame) (is : IsPolledGoing setting streams trace run) where
     pub going : IsGoing setting is.plain_trace between
     going = still.going setting is.plain_trace is.going
 
@@ -327,7 +327,7 @@ pub answered-on : CallLaws → (setting : Setting) (streams : List Stream) (trac
     → BringsOn run.bus after.bus [] → map call_of after.bus.master.history ≡ map call_of run.bus.master.history ++ asked caller act ∷ []
     → after.layout ≡ run.layout → after.rides ≡ run.rides → after.frames ≡ run.frames
     → ((event : Event) → after.bus.master.history ≡ run.bus.master.history ++ event ∷ [] → after.quiet ≡ (run.quiet && refuses_nothing event))
-    → IsPolled setting streams trace run → IsPolledOn setting streams trace run after [] (asked caller act ∷ [])
+    → IsPolledGoing setting streams trace run → IsPolledOn setting streams trace run after [] (asked caller act ∷ [])
 answered-on laws setting streams trace run after caller act brings calls layout rides frames quiet is =
     let own : List Event = run.bus.master.history in
     let on = brings setting is.plain_trace is.going in
@@ -379,7 +379,7 @@ pub begins-polled : (setting : Setting) (streams : List Stream) (run : Polled) �
     → setting.requests ≡ [] → run.layout ≡ setting.layout → run.rides.queued.streams ≡ streams → length run.rides.queued.next ≡ setting.rules.slots
     → ((carried : ℕ → ℕ → Option ℕ) → IsUnderWay (polled_setting setting streams carried) [] []) → ((carried : ℕ → ℕ → Option ℕ) → HaveRidden carried 0 run.rides)
     → ((carried : ℕ → ℕ → Option ℕ) → AreFates streams [] carried run.rides.fates) → 2128 ≤ vec_capacity run.frames → run.quiet ≡ true
-    → IsPolled setting streams [] run
+    → IsPolledGoing setting streams [] run
 begins-polled setting streams run going empty none layout same_streams slots way fresh are room quiet =
     let back : [] ≡ run.bus.master.history = sym empty in
     record {

@@ -21,7 +21,7 @@ use Rattle.sporadic_poll.specs.Rides.{AreFates}
 use Rattle.poll_run.specs.declared.polled.Polled.{Polled}
 use Rattle.poll_run.specs.PolledRun.{IsPolledTrace, polled_setting}
 use Rattle.poll_run.specs.Polling.{IsPolledAt, IsPolledOnBus, PollSetting, SoFar}
-use Rattle.poll_run.specs.Whole.{IsBegun, IsHeard, IsRun}
+use Rattle.poll_run.specs.Whole.{IsPollHeard, IsPolledRunBegun, IsRunWithFates}
 use Rattle.poll_run.proofs.Bytes.{polled-forgets}
 use Rattle.poll_run.proofs.Carrying.{RideLaws, are-some, known-polled, of-rides, some_rides}
 
@@ -55,7 +55,7 @@ module _ (laws : EndLaws) (system : System) (steps : List Step) (streams : List 
 
   -- a polled run that could not begin
   pub begun-at_once : IsSetting start.setting → ((carried : ℕ → ℕ → Option ℕ) → IsUnderWay (polled_setting start.setting streams carried) [] [])
-      → IsBegun system steps streams [] []
+      → IsPolledRunBegun system steps streams [] []
   begun-at_once known way = record {
     carried = taken [];
     begun = record {
@@ -67,7 +67,7 @@ module _ (laws : EndLaws) (system : System) (steps : List Step) (streams : List 
 
   -- one of the first calls of the steps
   pub begun-of : (history : List Event) (trace : List TimedFrame) → AnswersFirst IsPolledOnBus start (flat_map calls_of steps) history trace
-      → IsBegun system steps streams history trace
+      → IsPolledRunBegun system steps streams history trace
   begun-of history trace is = record {
     carried = taken history;
     begun = record {
@@ -87,7 +87,7 @@ module _ (laws : EndLaws) (system : System) (steps : List Step) (streams : List 
 
   -- one of all calls
   pub run-of : (history : List Event) (trace : List TimedFrame) → AnswersAll IsPolledOnBus start (flat_map calls_of steps) history trace
-      → IsRun system steps streams history trace
+      → IsRunWithFates system steps streams history trace
   run-of history trace is = record {
     carried = taken history;
     run = record { answers = is.answers; polled = polled-trace history trace is.keeps.known is.keeps.plain is.keeps.under_way };
@@ -97,7 +97,7 @@ module _ (laws : EndLaws) (system : System) (steps : List Step) (streams : List 
 
   -- and one whose whole log was heard
   pub heard-of : {L : Type 0} (Heard : L → List ℕ → L → Type 0) (polled : Polled) (told now : L)
-      → IsLogHeard IsPolledAt Heard start (flat_map calls_of steps) polled told now → IsHeard Heard system steps streams polled told now
+      → IsLogHeard IsPolledAt Heard start (flat_map calls_of steps) polled told now → IsPollHeard Heard system steps streams polled told now
   heard-of Heard polled told now is =
       let history : List Event = polled.bus.master.history in
       let polls = is.goes.is_polled in

@@ -9,7 +9,7 @@ use Rattle.requirement_table.specs.declared.entries.Placed.{Placed}
 use Rattle.requirement_table.specs.Instance.{Exists, IsReleasedIn, release_of, released_by}
 use Rattle.requirement_table.specs.Table.{GoesBefore, IsInRange, IsWellPlaced}
 use Rattle.sporadic_poll.specs.declared.stream.Stream.{Stream}
-use Rattle.sporadic_poll.specs.Polling.{IsCarriedInTime, IsPolled, IsReleasedWithin, Stands, arrival_cycle}
+use Rattle.sporadic_poll.specs.Polling.{IsCarriedInTime, IsPolled, IsReleasedWithin, IsStreamAt, arrival_cycle}
 use Rattle.sporadic_poll.specs.Ride.{CanCarry, IsOfSlot, IsRide, IsTakenBefore, Releases, length_released}
 use Rattle.poll_run.specs.Delay.{lengths_by}
 
@@ -132,7 +132,7 @@ module _ (laws : TimeLaws) (layout_cycle : ℕ) (streams : List Stream) (placed 
     earlier-taken : (one : ℕ) → one < place → IsOfSlot streams slot one → IsTakenBefore carried span.release one
     earlier-taken one less there =
         let before : Stream = there.stream in
-        let there_stands : Stands streams slot one before = record { at = there.at; its_slot = there.its_slot } in
+        let there_stands : IsStreamAt streams slot one before = record { at = there.at; its_slot = there.its_slot } in
         let apart = of-slot.spaced one place before request less (omega arith) there_stands of-slot.stands in
         let in_time = laws.bound layout_cycle streams slot lengths carried p.entry.period p.entry.length one before ride (record {
           some_time = of-slot.some_time;

@@ -12,7 +12,7 @@ use Rattle.poll_run.specs.declared.polled.Polled.{Polled}
 use Rattle.poll_run.specs.PolledWritten.{IsPolledCut, IsPolledWritten}
 use Rattle.poll_run.specs.RequestRows.{IsPolledText, request_rows}
 use Rattle.replay_run.specs.Whole.{IsCutOff, IsHeardInPart}
-use Rattle.poll_run.specs.Whole.{IsBegun, IsHeard, IsRun}
+use Rattle.poll_run.specs.Whole.{IsPollHeard, IsPolledRunBegun, IsRunWithFates}
 
 module _ {L : Type 0} (Heard : L → List ℕ → L → Type 0) (told : L → Option (List ℕ))
     (took : (one : L) (rows : List ℕ) (other : L) → Heard one rows other → Puts (told one) (told other) rows)
@@ -21,7 +21,7 @@ module _ {L : Type 0} (Heard : L → List ℕ → L → Type 0) (told : L → Op
   abbrev rows_of : Polled → List ℕ
   rows_of polled = request_rows 1 polled.rides.queued.streams polled.rides.fates
 
-  text-of : (polled : Polled) → (heard : IsHeard Heard system steps streams polled old middle)
+  text-of : (polled : Polled) → (heard : IsPollHeard Heard system steps streams polled old middle)
       → IsPolledText streams heard.history heard.carried heard.trace (log_text heard.history heard.trace ++ rows_of polled)
   text-of polled heard = record {
     fates = polled.rides.fates;
@@ -29,7 +29,7 @@ module _ {L : Type 0} (Heard : L → List ℕ → L → Type 0) (told : L → Op
     text_is = ap (λ (s : List Stream). log_text heard.history heard.trace ++ request_rows 1 s polled.rides.fates) heard.same_streams;
   }
 
-  pub written-behind : (polled : Polled) (quiet : Bool) (now : Option (List ℕ)) → IsHeard Heard system steps streams polled old middle
+  pub written-behind : (polled : Polled) (quiet : Bool) (now : Option (List ℕ)) → IsPollHeard Heard system steps streams polled old middle
       → Puts (told middle) now (rows_of polled) → quiet ≡ polled.quiet → IsPolledWritten system steps streams quiet (told old) now
   written-behind polled quiet now heard puts same = record {
     history = heard.history;
@@ -43,7 +43,7 @@ module _ {L : Type 0} (Heard : L → List ℕ → L → Type 0) (told : L → Op
     accepted = same ∙ heard.accepted;
   }
 
-  pub cut-behind_log : (polled : Polled) (now : Option (List ℕ)) → IsHeard Heard system steps streams polled old middle
+  pub cut-behind_log : (polled : Polled) (now : Option (List ℕ)) → IsPollHeard Heard system steps streams polled old middle
       → PutsPrefix (told middle) now (rows_of polled) → IsPolledCut system steps streams (told old) now
   cut-behind_log polled now heard puts = inr (record {
     history = heard.history;
@@ -57,13 +57,13 @@ module _ {L : Type 0} (Heard : L → List ℕ → L → Type 0) (told : L → Op
   })
 
   -- what the putting of the requests' rows makes of it
-  pub written-end : (polled : Polled) (result : Result Bool Cut) (now : Option (List ℕ)) → IsHeard Heard system steps streams polled old middle
+  pub written-end : (polled : Polled) (result : Result Bool Cut) (now : Option (List ℕ)) → IsPollHeard Heard system steps streams polled old middle
       → OnOk result (Puts (told middle) now (rows_of polled)) → IfOk result (λ quiet. quiet ≡ polled.quiet)
       → IfOk result (λ quiet. IsPolledWritten system steps streams quiet (told old) now)
   written-end polled (Ok quiet) now heard puts same = written-behind polled quiet now heard puts same
   written-end polled (Err why) now heard puts same = tt
 
-  pub cut-end : (polled : Polled) (result : Result Bool Cut) (now : Option (List ℕ)) → IsHeard Heard system steps streams polled old middle
+  pub cut-end : (polled : Polled) (result : Result Bool Cut) (now : Option (List ℕ)) → IsPollHeard Heard system steps streams polled old middle
       → OnErr result (PutsPrefix (told middle) now (rows_of polled)) → OnErr result (IsPolledCut system steps streams (told old) now)
   cut-end polled (Ok quiet) now heard puts = tt
   cut-end polled (Err why) now heard puts = cut-behind_log polled now heard puts
@@ -72,7 +72,7 @@ module _ {L : Type 0} (Heard Broke : L → List ℕ → L → Type 0) (told : L 
     (took : (one : L) (rows : List ℕ) (other : L) → Heard one rows other → Puts (told one) (told other) rows)
     (failed : (one : L) (rows : List ℕ) (other : L) → Broke one rows other → PutsPrefix (told one) (told other) rows)
     (system : System) (steps : List Step) (streams : List Stream) (old middle : L) where
-  part : (why : Cut) → IsHeardInPart Heard Broke (IsBegun system steps streams) (IsRun system steps streams) old middle why
+  part : (why : Cut) → IsHeardInPart Heard Broke (IsPolledRunBegun system steps streams) (IsRunWithFates system steps streams) old middle why
       → IsPolledCut system steps streams (told old) (told middle)
   part Memory is = inl (record {
     history = is.history;
@@ -89,7 +89,7 @@ module _ {L : Type 0} (Heard Broke : L → List ℕ → L → Type 0) (told : L 
     puts = failed old (events_rows is.trace [] is.history) middle is.heard;
   })
 
-  pub cut-in_log : (why : Cut) → IsCutOff Heard Broke (IsBegun system steps streams) (IsRun system steps streams) old middle why
+  pub cut-in_log : (why : Cut) → IsCutOff Heard Broke (IsPolledRunBegun system steps streams) (IsRunWithFates system steps streams) old middle why
       → IsPolledCut system steps streams (told old) (told middle)
   cut-in_log why (inl is) = part why is
   cut-in_log why (inr is) =

@@ -25,7 +25,7 @@ SoFar setting streams history Holds = (lengths carried : ℕ → ℕ → Option 
     → All (λ opening. AreRidesAt setting.layout.cycle streams opening lengths carried) (openings_of history) → Holds carried
 
 -- the trace was told; the bus is going, without requests, with a trace in which each instance sends its number
-pub record IsPolled (setting : Setting) (streams : List Stream) (trace : List TimedFrame) (polled : Polled) : Type 0 where
+pub record IsPolledGoing (setting : Setting) (streams : List Stream) (trace : List TimedFrame) (polled : Polled) : Type 0 where
   pub plain_trace : List TimedFrame
   pub going : IsGoing setting plain_trace polled.bus
   pub no_requests : setting.requests ≡ []
@@ -45,7 +45,7 @@ pub record IsPolled (setting : Setting) (streams : List Stream) (trace : List Ti
 -- a run is so with some setting, requests and trace
 abbrev pub CanPoll : Polled → Type 0
 CanPoll polled = (setting : Setting) × (streams : List Stream) × (trace : List TimedFrame)
-    × IsPolled setting streams trace polled
+    × IsPolledGoing setting streams trace polled
 
 -- the run has answered one call more, with these frames, and the event's rows are what it adds to the run's rows
 pub record IsPolledOn (setting : Setting) (streams : List Stream) (trace : List TimedFrame) (old new : Polled)
@@ -53,14 +53,14 @@ pub record IsPolledOn (setting : Setting) (streams : List Stream) (trace : List 
   pub event : Event
   pub history : new.bus.master.history ≡ old.bus.master.history ++ event ∷ []
   pub answers : map call_of new.bus.master.history ≡ map call_of old.bus.master.history ++ calls
-  pub polled : IsPolled setting streams (trace ++ frames) new
+  pub polled : IsPolledGoing setting streams (trace ++ frames) new
   pub rows : events_rows (trace ++ frames) [] new.bus.master.history
       ≡ events_rows trace [] old.bus.master.history ++ rows_of_event event frames
 
 -- so it is in each setting, with all requests and each trace with which the run was going
 abbrev pub PollsOn : Polled → Polled → List TimedFrame → List Call → Type 0
 PollsOn old new frames calls = (setting : Setting) (streams : List Stream) (trace : List TimedFrame)
-    → IsPolled setting streams trace old → IsPolledOn setting streams trace old new frames calls
+    → IsPolledGoing setting streams trace old → IsPolledOn setting streams trace old new frames calls
 
 -- what a polled run stands on
 pub record PollSetting : Type 0 where
@@ -70,7 +70,7 @@ pub record PollSetting : Type 0 where
 -- its master has answered the calls of this history, with this trace
 pub record IsPolledAt (on : PollSetting) (history : List Event) (trace : List TimedFrame) (polled : Polled) : Type 0 where
   pub history_is : polled.bus.master.history ≡ history
-  pub is_polled : IsPolled on.setting on.streams trace polled
+  pub is_polled : IsPolledGoing on.setting on.streams trace polled
 
 -- what a history and a trace of a polled run keep: the trace is that of the history's cycles, whatever later instances
 -- take, each change is planned when it is answered, and something became of each request

@@ -14,7 +14,7 @@ use Rattle.poll_run.specs.PolledRun.{IsPolledBegun, IsPolledRun}
 use Rattle.poll_run.specs.declared.polled.Polled.{Polled}
 
 -- the polled run of the steps, whose log was heard, what became of its requests, and whether each change was accepted
-pub record IsHeard {L : Type 0} (Heard : L → List ℕ → L → Type 0) (system : System) (steps : List Step)
+pub record IsPollHeard {L : Type 0} (Heard : L → List ℕ → L → Type 0) (system : System) (steps : List Step)
     (streams : List Stream) (polled : Polled) (old new : L) : Type 0 where
   pub history : List Event
   pub carried : ℕ → ℕ → Option ℕ
@@ -26,13 +26,13 @@ pub record IsHeard {L : Type 0} (Heard : L → List ℕ → L → Type 0) (syste
   pub accepted : polled.quiet ≡ all_accepted history
 
 -- a polled run of the first calls of the steps
-pub record IsBegun (system : System) (steps : List Step) (streams : List Stream) (history : List Event)
+pub record IsPolledRunBegun (system : System) (steps : List Step) (streams : List Stream) (history : List Event)
     (trace : List TimedFrame) : Type 0 where
   pub carried : ℕ → ℕ → Option ℕ
   pub begun : IsPolledBegun system steps streams history carried trace
 
 -- the polled run of the steps, and what became of its requests
-pub record IsRun (system : System) (steps : List Step) (streams : List Stream) (history : List Event)
+pub record IsRunWithFates (system : System) (steps : List Step) (streams : List Stream) (history : List Event)
     (trace : List TimedFrame) : Type 0 where
   pub carried : ℕ → ℕ → Option ℕ
   pub run : IsPolledRun system steps streams history carried trace

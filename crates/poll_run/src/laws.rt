@@ -14,7 +14,7 @@ ghost use Rattle.bus_trace.specs.Log.{events_rows, log_text};
 ghost use Rattle.sporadic_poll.specs.declared.stream.Stream.{Stream};
 ghost use Rattle.sporadic_poll.specs.Ride.{IsOfSlot};
 ghost use Rattle.sporadic_poll.specs.Rides.{IsRidden};
-ghost use Rattle.sporadic_poll.specs.StreamsFile.{AreLegal};
+ghost use Rattle.sporadic_poll.specs.StreamsFile.{AreLegalStreams};
 ghost use Rattle.poll_run.specs.Delay.{IsSentInTime, MayRide};
 ghost use Rattle.poll_run.specs.PolledRun.{IsPolledBegun, IsPolledRun, IsPolledTrace};
 
@@ -38,7 +38,7 @@ pub fn one_polled_run()
         → (slot cycle : ℕ) → slot < most_slots → carried slot cycle ≡ again slot cycle }
     ensures one_trace { (system : System) (steps : List Step) (streams : List Stream) (one other : List Event)
         (carried again : ℕ → ℕ → Option ℕ) (trace second : List TimedFrame)
-        → IsSystem system → AreLegal system.rules.slots streams
+        → IsSystem system → AreLegalStreams system.rules.slots streams
         → IsPolledRun system steps streams one carried trace → IsPolledRun system steps streams other again second
         → trace ≡ second }
 {
@@ -116,13 +116,13 @@ pub fn polling()
 pub fn sent_once()
     ensures once { (system : System) (streams : List Stream) (history : List Event) (carried : ℕ → ℕ → Option ℕ)
         (trace : List TimedFrame) (place release other cycle again : ℕ)
-        → IsSystem system → AreLegal system.rules.slots streams → IsPolledTrace system streams history carried trace
+        → IsSystem system → AreLegalStreams system.rules.slots streams → IsPolledTrace system streams history carried trace
         → IsRidden streams (openings_of history) carried place release cycle
         → IsRidden streams (openings_of history) carried place other again
         → (release ≡ other) × (cycle ≡ again) }
     ensures order { (system : System) (streams : List Stream) (history : List Event) (carried : ℕ → ℕ → Option ℕ)
         (trace : List TimedFrame) (slot before behind release later cycle again : ℕ)
-        → IsSystem system → AreLegal system.rules.slots streams → IsPolledTrace system streams history carried trace
+        → IsSystem system → AreLegalStreams system.rules.slots streams → IsPolledTrace system streams history carried trace
         → IsOfSlot streams slot before → IsOfSlot streams slot behind → before < behind
         → IsRidden streams (openings_of history) carried before release cycle
         → IsRidden streams (openings_of history) carried behind later again

@@ -7,8 +7,8 @@ ghost use Rattle.master_core.specs.Calls.{asked, opens};
 ghost use Rattle.master_core.specs.History.{next_of};
 ghost use Rattle.replay_run.specs.Progress.{CanTellLast};
 ghost use Rattle.replay_run.specs.Run.{setting_of};
-ghost use Rattle.sporadic_poll.specs.StreamsFile.{AreLegal};
-ghost use Rattle.poll_run.specs.Polling.{CanPoll, IsPolled, PollsOn};
+ghost use Rattle.sporadic_poll.specs.StreamsFile.{AreLegalStreams};
+ghost use Rattle.poll_run.specs.Polling.{CanPoll, IsPolledGoing, PollsOn};
 
 use can_frame::TimedFrame;
 use change_protocol::Act;
@@ -54,8 +54,8 @@ impl Polled {
         steps: &[Step],
     ) -> Result<Polled, AllocError>
         requires system { IsSystem system.now }
-        requires streams { AreLegal system.now.rules.slots streams.items }
-        ensures begun { IfOk result (IsPolled (setting_of system.now []) streams.items []) }
+        requires streams { AreLegalStreams system.now.rules.slots streams.items }
+        ensures begun { IfOk result (IsPolledGoing (setting_of system.now []) streams.items []) }
         ensures empty { IfOk result (λ polled. polled.bus.master.history ≡ []) }
     {
         beginning();

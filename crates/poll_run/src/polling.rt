@@ -7,10 +7,10 @@ ghost use Rattle.system_file.specs.SystemFile.{IsSystem};
 ghost use Rattle.steps_file.specs.StepsFile.{AreLegalSteps};
 ghost use Rattle.replay_run.specs.Whole.{IsCutOff};
 ghost use Rattle.replay_run.specs.declared.cut.Cut.TheVariants.{Write};
-ghost use Rattle.sporadic_poll.specs.StreamsFile.{AreLegal};
+ghost use Rattle.sporadic_poll.specs.StreamsFile.{AreLegalStreams};
 ghost use Rattle.poll_run.specs.PolledWritten.{IsPolledCut, IsPolledStopped, IsPolledWritten};
 ghost use Rattle.poll_run.specs.RequestRows.{request_rows};
-ghost use Rattle.poll_run.specs.Whole.{IsBegun, IsHeard, IsRun};
+ghost use Rattle.poll_run.specs.Whole.{IsPollHeard, IsPolledRunBegun, IsRunWithFates};
 
 use crate::polled::Polled;
 use crate::request_rows::put_request_rows;
@@ -35,11 +35,11 @@ fn log_polled<L: Listener>(
 ) -> Result<Polled, Cut>
     requires system { IsSystem system.now }
     requires steps { AreLegalSteps steps.now }
-    requires streams { AreLegal system.now.rules.slots streams.items }
+    requires streams { AreLegalStreams system.now.rules.slots streams.items }
     ensures heard { IfOk result
-        (λ polled. IsHeard L.heard system.now steps.now streams.items polled listener.old listener.new) }
-    ensures cut { IfErr result (IsCutOff L.heard L.broke (IsBegun system.now steps.now streams.items)
-        (IsRun system.now steps.now streams.items) listener.old listener.new) }
+        (λ polled. IsPollHeard L.heard system.now steps.now streams.items polled listener.old listener.new) }
+    ensures cut { IfErr result (IsCutOff L.heard L.broke (IsPolledRunBegun system.now steps.now streams.items)
+        (IsRunWithFates system.now steps.now streams.items) listener.old listener.new) }
 {
     promise();
     beginning();
@@ -88,7 +88,7 @@ pub fn replay_polled<O: Sink>(
 ) -> Result<bool, Cut>
     requires system { IsSystem system.now }
     requires steps { AreLegalSteps steps.now }
-    requires streams { AreLegal system.now.rules.slots streams.items }
+    requires streams { AreLegalStreams system.now.rules.slots streams.items }
     ensures faults_never_fall { O.faults out.old ≤ O.faults out.new }
     ensures written { IfOk result (λ quiet. IsPolledWritten system.now steps.now streams.items quiet
         (O.told_bytes out.old) (O.told_bytes out.new)) }

@@ -1,7 +1,7 @@
 -- There is one answer about the first repeat of a walk.
 use Rattle.std.proofs.Common.{◌≡◌, ◌≢◌, ℕ, ◌+◌, ◌<◌, ◌≤◌, Ok, Err, Result, ap, ◌∙◌, sym, refl, arith, subst}
 use Rattle.recurrence_check.specs.Course.{Course, IsRepeat, IsLeastRepeat, Breaks, StaysNew}
-use Rattle.recurrence_check.specs.Ends.{IsAnswer}
+use Rattle.recurrence_check.specs.Ends.{IsWalkAnswer}
 use Rattle.recurrence_check.specs.declared.walk_end.Repeat.{Repeat}
 use Rattle.recurrence_check.specs.declared.walk_end.WalkEnd.{WalkEnd}
 use Rattle.recurrence_check.specs.declared.walk_end.WalkEnd.TheVariants.{Broken, NoRepeat, Memory}
@@ -54,8 +54,8 @@ module _ {State : Type 0} (course : Course State) where
       absurd (omega arith)
 
   -- two answers are the same one
-  pub only_answer : (horizon : ℕ) (one other : Result Repeat WalkEnd) → IsAnswer course horizon one
-      → IsAnswer course horizon other → one ≢ Err Memory → other ≢ Err Memory → one ≡ other
+  pub only_answer : (horizon : ℕ) (one other : Result Repeat WalkEnd) → IsWalkAnswer course horizon one
+      → IsWalkAnswer course horizon other → one ≢ Err Memory → other ≢ Err Memory → one ≡ other
   only_answer horizon (Ok one) (Ok two) is_one is_two _ _ =
       ap (λ again. Ok again) (same_repeat one two is_one.1 is_two.1)
   only_answer horizon (Ok one) (Err (Broken at)) is_one is_two _ _ =

@@ -17,6 +17,6 @@ IsEnd course horizon (NoRepeat walked) = (walked ≡ horizon) × StaysNew course
 IsEnd course horizon Memory = Unit {0}
 
 -- this is to be answered
-abbrev pub IsAnswer : {State : Type 0} → Course State → ℕ → Result Repeat WalkEnd → Type 0
-IsAnswer course horizon (Ok again) = IsFirstRepeat course horizon again
-IsAnswer course horizon (Err end) = IsEnd course horizon end
+abbrev pub IsWalkAnswer : {State : Type 0} → Course State → ℕ → Result Repeat WalkEnd → Type 0
+IsWalkAnswer course horizon (Ok again) = IsFirstRepeat course horizon again
+IsWalkAnswer course horizon (Err end) = IsEnd course horizon end

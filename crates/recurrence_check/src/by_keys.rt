@@ -7,7 +7,7 @@ ghost use Rattle.std.specs.Vec.{vec_capacity, vec_len};
 ghost use Rattle.std.specs.Prelude.{IfSome, None, OnOk, Option, Some, slice_index_or};
 ghost use Rattle.profile.specs.Limits.{greatest_horizon};
 ghost use Rattle.recurrence_check.specs.Course.{IsLeastRepeat};
-ghost use Rattle.recurrence_check.specs.Ends.{IsAnswer, IsEnd};
+ghost use Rattle.recurrence_check.specs.Ends.{IsEnd, IsWalkAnswer};
 ghost use Rattle.recurrence_check.specs.Keys.{IsSparse, Meets, MeetsAll, MeetsRun, row_places, table};
 ghost use Rattle.recurrence_check.specs.declared.walk_end.Repeat.{Repeat};
 ghost use Rattle.recurrence_check.specs.declared.walk_end.WalkEnd.{WalkEnd};
@@ -44,7 +44,7 @@ pub fn lasso_keyed<W: Keyed>(alloc: Global, walk: &W, horizon: u64) -> Result<Re
         IsLeastRepeat (W.course walk.now) again.first (again.first + again.length)) }
     ensures within { IfOk result (λ again. again.first + again.length ≤ horizon) }
     ensures ends { IfErr result (IsEnd (W.course walk.now) horizon) }
-    ensures only { (other : Result Repeat WalkEnd) → IsAnswer (W.course walk.now) horizon other
+    ensures only { (other : Result Repeat WalkEnd) → IsWalkAnswer (W.course walk.now) horizon other
         → result ≢ Err WalkEnd.Memory → other ≢ Err WalkEnd.Memory → result ≡ other }
 {
     let mut row = Vec::with_capacity(alloc, walk.places().min(FIRST_PLACES) as usize)?;

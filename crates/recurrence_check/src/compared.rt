@@ -4,7 +4,7 @@ ghost use Rattle.std.specs.Prelude.{◌≡◌, ◌≢◌, ◌+◌, ◌<◌, ◌�
 ghost use Rattle.std.specs.List.{slice_get};
 ghost use Rattle.profile.specs.Limits.{greatest_horizon};
 ghost use Rattle.recurrence_check.specs.Course.{IsFirstSame, IsLeastRepeat, NoneSame};
-ghost use Rattle.recurrence_check.specs.Ends.{IsAnswer, IsEnd};
+ghost use Rattle.recurrence_check.specs.Ends.{IsEnd, IsWalkAnswer};
 ghost use Rattle.recurrence_check.specs.declared.walk_end.Repeat.{Repeat};
 ghost use Rattle.recurrence_check.specs.declared.walk_end.WalkEnd.{WalkEnd};
 
@@ -28,7 +28,7 @@ pub fn lasso<W: Walk>(alloc: Global, walk: &W, horizon: u64) -> Result<Repeat, W
         IsLeastRepeat (W.course walk.now) again.first (again.first + again.length)) }
     ensures within { IfOk result (λ again. again.first + again.length ≤ horizon) }
     ensures ends { IfErr result (IsEnd (W.course walk.now) horizon) }
-    ensures only { (other : Result Repeat WalkEnd) → IsAnswer (W.course walk.now) horizon other
+    ensures only { (other : Result Repeat WalkEnd) → IsWalkAnswer (W.course walk.now) horizon other
         → result ≢ Err WalkEnd.Memory → other ≢ Err WalkEnd.Memory → result ≡ other }
 {
     let mut earlier = Vec::new(alloc);

@@ -16,7 +16,7 @@ use Rattle.planner_policies.specs.Plan.{HasNoMissIn, IsValid, Planning, Ranking,
 use Rattle.planner_policies.proofs.Shared.{taken-all}
 use Rattle.release_wheel.specs.Demand.{cost_in, demand_in}
 use Rattle.release_wheel.specs.Passed.{LeavesSame}
-use Rattle.release_wheel.specs.Wheel.{IsNext}
+use Rattle.release_wheel.specs.Wheel.{IsNextRelease}
 use Rattle.release_wheel.proofs.RowDues.{next-after, sends-released}
 
 -- Sums over slots
@@ -151,7 +151,7 @@ pub record IsAdding (p : Placed) (w from cycle : ℕ) (old new : List ℕ) : Typ
   pub at : ℕ
   pub begun : from ≤ at
   pub reached : at ≤ cycle
-  pub next : IsNext p at cycle
+  pub next : IsNextRelease p at cycle
   pub size : length new ≡ 256
   pub within : (k : ℕ) → k < 256 → get_or new k 0 ≤ w
   pub more : (k : ℕ) → k < 256 → get_or old k 0 + cost_before p (from + k) at ≤ get_or new k 0
@@ -166,7 +166,7 @@ not-yet p c at later =
     pick true false is = omega arith
     pick false late is = omega arith
 
-pub adding-start : (p : Placed) (w from cycle : ℕ) (old : List ℕ) → IsNext p from cycle → from ≤ cycle → length old ≡ 256
+pub adding-start : (p : Placed) (w from cycle : ℕ) (old : List ℕ) → IsNextRelease p from cycle → from ≤ cycle → length old ≡ 256
     → ((k : ℕ) → k < 256 → get_or old k 0 ≤ w) → IsAdding p w from cycle old old
 adding-start p w from cycle old next later size within = record {
   at = from;
@@ -179,7 +179,7 @@ adding-start p w from cycle old next later size within = record {
 }
 
 -- a release at or after `at` is not before the next one
-not-between : (p : Placed) (at cycle c : ℕ) → IsNext p at cycle → is_some (released_by p c) ≡ true → at ≤ c → cycle ≤ c
+not-between : (p : Placed) (at cycle c : ℕ) → IsNextRelease p at cycle → is_some (released_by p c) ≡ true → at ≤ c → cycle ≤ c
 not-between p at cycle c next is later =
     let released = released-of p c is in
     let release = released.1.release in
@@ -187,7 +187,7 @@ not-between p at cycle c next is later =
     omega arith
 
 -- so in a cycle that isn't the next one's nothing more is before the cycle after it
-before-same : (p : Placed) (at cycle c : ℕ) → IsNext p at cycle → c ≢ cycle → cost_before p c (cycle + 1) ≤ cost_before p c at
+before-same : (p : Placed) (at cycle c : ℕ) → IsNextRelease p at cycle → c ≢ cycle → cost_before p c (cycle + 1) ≤ cost_before p c at
 before-same p at cycle c next apart = pick (is_some (released_by p c)) refl
   where
     pick : (b : Bool) → is_some (released_by p c) ≡ b
@@ -211,7 +211,7 @@ module _ (p : Placed) (w from cycle : ℕ) (old new : List ℕ) (adding : IsAddi
       let some = range.entry.some_time in
       let deadline = range.entry.deadline in
       let size = adding.size in
-      let here : IsNext p cycle cycle = record {
+      let here : IsNextRelease p cycle cycle = record {
         number = adding.next.number;
         is = adding.next.is;
         reached = λ exists. omega arith;

@@ -18,7 +18,7 @@ use Rattle.release_wheel.specs.declared.planner.CyclePlan.{CyclePlan}
 use Rattle.release_wheel.specs.declared.wheel.Wheel.{Wheel}
 use Rattle.release_wheel.specs.Near.{HasRows, IsAlike, IsForgotten, IsStanding, at_wheel, until_of}
 use Rattle.release_wheel.specs.Passed.{IsPassed}
-use Rattle.release_wheel.specs.Wheel.{IsKept}
+use Rattle.release_wheel.specs.Wheel.{IsWheelKept}
 
 pub alike-itself : (all : Ranking) (c : ℕ) → IsAlike all all c
 alike-itself all c = record { policy = refl; fill = refl; instances = λ slot. refl; releases = λ slot. refl }
@@ -158,22 +158,22 @@ alike-at all (Some near) w well rows c from before = pick (nat_lt w.cycle near.u
         let since = at.since in
         alike-near all near.ranked near.since near.until c well at.entries (omega arith) (before less)
 
-pub kept-at : (all : Ranking) (near : Option Near) (w : Wheel) → HasRows all near w → w.cycle < until_of near → IsKept (at_wheel near all w.cycle) w
+pub kept-at : (all : Ranking) (near : Option Near) (w : Wheel) → HasRows all near w → w.cycle < until_of near → IsWheelKept (at_wheel near all w.cycle) w
 kept-at all None w rows before = rows
-kept-at all (Some near) w rows before = subst (λ r. IsKept r w) (sym (at-near all near w.cycle before)) (rows before).kept
+kept-at all (Some near) w rows before = subst (λ r. IsWheelKept r w) (sym (at-near all near w.cycle before)) (rows before).kept
 
 -- a wheel that goes on keeps its rows
 pub rows-onward : (all : Ranking) (near : Option Near) (old new : Wheel) → HasRows all near old → old.cycle ≤ new.cycle
-    → IsKept (at_wheel near all old.cycle) new → HasRows all near new
+    → IsWheelKept (at_wheel near all old.cycle) new → HasRows all near new
 rows-onward all None old new rows onward kept = kept
 rows-onward all (Some near) old new rows onward kept = λ before.
     let less : old.cycle < near.until = omega arith in
     let at = rows less in
     let since = at.since in
-    record { since = omega arith; entries = at.entries; kept = subst (λ r. IsKept r new) (at-near all near old.cycle less) kept }
+    record { since = omega arith; entries = at.entries; kept = subst (λ r. IsWheelKept r new) (at-near all near old.cycle less) kept }
 
 -- a wheel of all entries, where none are taken as near
-pub rows-of-all : (all : Ranking) (near : Option Near) (w : Wheel) → IsForgotten near → IsKept all w → HasRows all near w
+pub rows-of-all : (all : Ranking) (near : Option Near) (w : Wheel) → IsForgotten near → IsWheelKept all w → HasRows all near w
 rows-of-all all None w none kept = kept
 rows-of-all all (Some near) w none kept = λ before. let is = none near refl in absurd (omega arith)
 
@@ -237,7 +237,7 @@ module _ (all : Ranking) (near : Option Near) (window : ℕ) (mid new : Wheel) (
 -- cycles are passed by the rows that the wheel has
 module _ (all some : Ranking) (near : Option Near) (old new : Wheel) (well : IsWellPlaced all.placed) (standing : IsStanding all near old)
     (is : some ≡ at_wheel near all old.cycle) (before : old.cycle < until_of near) (onward : old.cycle ≤ new.cycle) (within : new.cycle ≤ until_of near)
-    (slots : new.dues.waiting.slots ≡ old.dues.waiting.slots) (kept : IsKept some new)
+    (slots : new.dues.waiting.slots ≡ old.dues.waiting.slots) (kept : IsWheelKept some new)
     (passed : (window c : ℕ) → old.cycle ≤ c → c < new.cycle → IsPassed (planning_of some window c old.dues.waiting.slots)) where
   pub near-passed : (window c : ℕ) → old.cycle ≤ c → c < new.cycle → IsPassed (planning_of all window c old.dues.waiting.slots)
   near-passed window c from less =
@@ -253,5 +253,5 @@ module _ (all some : Ranking) (near : Option Near) (old new : Wheel) (well : IsW
   near-standing = record {
     end = kept.near;
     valid = subst (λ s. IsValid all.placed new.cycle s) (sym slots) (near-valid new.cycle onward (omega arith));
-    rows = rows-onward all near old new standing.rows onward (subst (λ r. IsKept r new) is kept);
+    rows = rows-onward all near old new standing.rows onward (subst (λ r. IsWheelKept r new) is kept);
   }

@@ -13,7 +13,7 @@ use Rattle.requirement_table.proofs.Shared.{Exists-from_test, exists-true}
 use Rattle.release_wheel.specs.declared.dues.Dues.{Dues}
 use Rattle.release_wheel.specs.declared.rows.Rows.{Rows}
 use Rattle.release_wheel.specs.declared.wheel.Wheel.{Wheel}
-use Rattle.release_wheel.specs.Wheel.{HasRoom, IsAlways, IsNext, IsOnWheel, IsReleased, IsReleasing, IsRowBegun, IsRowReleased, IsSameBut, IsTurned, ReleasedAt, StandsAt, TurnedAt, is_found, is_there, no_entry}
+use Rattle.release_wheel.specs.Wheel.{HasRoom, IsAlways, IsNextRelease, IsOnWheel, IsReleased, IsReleasing, IsRowBegun, IsRowReleased, IsSameBut, IsTurned, ReleasedAt, RowStandsAt, TurnedAt, is_found, is_there, no_entry}
 use Rattle.release_wheel.proofs.RowDues.{due-released, due-stay, first-release, next-after, not-held, stands-later}
 use Rattle.bit_sets.proofs.Shared.{has_bit-none}
 use Rattle.release_wheel.proofs.RowSteps.{by-row, on_wheel-other, other-row, released-other, there-is, there-not, turned-other}
@@ -95,7 +95,7 @@ module _ (before : ℕ → Bool) (c rest less row : ℕ) (rows : Rows) (dues : D
     on : IsOnWheel (length rows.entries.items) row (c % 64) (get_or rows.nexts.items row 0) P (has_bit dues.always.rows row)
     on = g.room.on_wheel (c % 64) row here-less (g.place row stands')
 
-    next : IsNext P c (get_or rows.nexts.items row 0)
+    next : IsNextRelease P c (get_or rows.nexts.items row 0)
     next = (g.later row within stands').0.next_is on.off
 
     is-release : c ≡ release_of P next.number

@@ -23,8 +23,8 @@ use Rattle.release_wheel.specs.declared.dues.Dues.{Dues}
 use Rattle.release_wheel.specs.declared.dues.Sum.{Sum}
 use Rattle.release_wheel.specs.declared.rows.Rows.{Rows}
 use Rattle.release_wheel.specs.declared.wheel.Wheel.{Wheel}
-use Rattle.release_wheel.specs.Taking.{AreDistinct, AreDue, AreOfRows, IsLineOfRows, IsTook, goes_by, last_of}
-use Rattle.release_wheel.specs.Wheel.{AreInTime, HasRoom, IsBelow, IsPart, IsPlannedOn, IsQuiet, IsReady, IsReleased, IsSlotsOf, IsSumOf, IsTurned, StandsAt, any_below, cost_at, cost_below, due_of_row, is_found, no_entry, slot_at}
+use Rattle.release_wheel.specs.Taking.{AreDue, AreOfDistinctSlots, AreOfRows, IsLineOfRows, IsTook, goes_by, last_of}
+use Rattle.release_wheel.specs.Wheel.{AreInTime, HasRoom, IsBelow, IsPart, IsPlannedOn, IsQuiet, IsReleased, IsSlotsOf, IsSumOf, IsTurned, IsWheelReady, RowStandsAt, any_below, cost_at, cost_below, due_of_row, is_found, no_entry, slot_at}
 use Rattle.planner_policies.proofs.Shared.{all-planned, planned-set, planned-width, split-of, IsSplit, has_slot, instance-with, last-is, slots-contain, same-test, held-parts, due_in-of, fresh, sends-test, sends_of, stands-in, whole_line-of, cost_of}
 use Rattle.release_wheel.proofs.Releasing.{releasing-end, releasing-from}
 use Rattle.release_wheel.proofs.RowDues.{held-is}
@@ -128,7 +128,7 @@ room-on n rows dues waiting soonest room sum = record {
 -- a wheel where nothing waits
 pub nothing-waits : (rows : Rows) (dues : Dues) (waiting : Sum) (soonest c quiet : ℕ) (policy : Policy) (turns : Bool) → HasRoom (length rows.entries.items) rows dues
     → waiting.rows ≡ 0 → ((slot : ℕ) → has_bit waiting.slots slot ≡ false) → waiting.cost ≡ 0
-    → ((row : ℕ) → row < length rows.entries.items → StandsAt rows dues c row)
+    → ((row : ℕ) → row < length rows.entries.items → RowStandsAt rows dues c row)
     → (c < quiet → (dues.always.rows ≡ 0) × ((row : ℕ) → row < length rows.entries.items
     → Exists (get_or rows.entries.items row no_entry) (get_or rows.nexts.items row 0) → quiet ≤ get_or rows.nexts.items row 0))
     → IsTurned (record { policy = policy; turns = turns; quiet = quiet; cycle = c; rows = rows; dues = record dues { waiting = waiting; soonest = soonest } })
@@ -217,7 +217,7 @@ quiet-cost w t less =
     let second = t.room.always.cost in
     omega arith
 
-module _ (ranking : Ranking) (pending window : ℕ) (w : Wheel) (ready : IsReady ranking pending w) where
+module _ (ranking : Ranking) (pending window : ℕ) (w : Wheel) (ready : IsWheelReady ranking pending w) where
   abbrev E : List Placed
   E = w.rows.entries.items
 
@@ -263,7 +263,7 @@ module _ (ranking : Ranking) (pending window : ℕ) (w : Wheel) (ready : IsReady
       let is = pending-of row in' in
       sends-test w.cycle (slot_at E row) (get_or w.rows.entries.items row no_entry) is.number (range-of row (test-within row in')) refl is.sends
 
-  pub distinct : (due : ℕ) → ((row : ℕ) → has_bit due row ≡ test row) → AreDistinct E due
+  pub distinct : (due : ℕ) → ((row : ℕ) → has_bit due row ≡ test row) → AreOfDistinctSlots E due
   distinct due rows one other in_one in_other same =
       let first = sym (rows one) ∙ in_one in
       let second = sym (rows other) ∙ in_other in

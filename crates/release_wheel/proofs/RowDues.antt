@@ -12,7 +12,7 @@ use Rattle.planner_policies.specs.declared.Policy.{Policy}
 use Rattle.planner_policies.specs.declared.Policy.TheVariants.{Rm, Dm, Edf}
 use Rattle.planner_policies.specs.Due.{IsOf, is_held_in, key_with}
 use Rattle.planner_policies.specs.Plan.{key_of}
-use Rattle.release_wheel.specs.Wheel.{IsAlways, IsDueAt, IsNext, IsPlacedAt, IsWaitingAt, due_of_row}
+use Rattle.release_wheel.specs.Wheel.{IsAlways, IsDueAt, IsNextRelease, IsPlacedAt, IsWaitingAt, due_of_row}
 use Rattle.planner_policies.proofs.Shared.{held-parts}
 
 end-below : (end : Option ℕ) (a b : ℕ) → a ≤ b → IfSome end (λ e. b < e) → IfSome end (λ e. a < e)
@@ -26,7 +26,7 @@ pub exists-live : (p : Placed) (release : ℕ) → p.end ≡ None → Exists p r
 exists-live p release live =
     let P : Option ℕ → Type 0 = λ o. IfSome o (λ e. release < e) in subst P (sym live) tt
 
-pub next-later : (p : Placed) (c next : ℕ) → IsNext p c next → (Exists p next → next ≢ c) → IsNext p (c + 1) next
+pub next-later : (p : Placed) (c next : ℕ) → IsNextRelease p c next → (Exists p next → next ≢ c) → IsNextRelease p (c + 1) next
 next-later p c next is apart = record {
   number = is.number;
   is = is.is;
@@ -34,7 +34,7 @@ next-later p c next is apart = record {
   least = λ k from. is.least k (omega arith);
 }
 
-not-released : (p : Placed) (c next : ℕ) → IsNext p c next → (Exists p next → next ≢ c) → (k : ℕ) → Exists p (release_of p k) → release_of p k ≢ c
+not-released : (p : Placed) (c next : ℕ) → IsNextRelease p c next → (Exists p next → next ≢ c) → (k : ℕ) → Exists p (release_of p k) → release_of p k ≢ c
 not-released p c next is apart k exists same =
     let least = is.least k (omega arith) in
     let here = exists-below p next (release_of p k) least exists in
@@ -62,7 +62,7 @@ multiple-after n k m more =
     (cases_lt n k)
 
 -- the release after one
-pub next-after : (p : Placed) (c next : ℕ) → IsInRange p → IsNext p c next → next ≡ c → IsNext p (c + 1) (c + p.entry.period)
+pub next-after : (p : Placed) (c next : ℕ) → IsInRange p → IsNextRelease p c next → next ≡ c → IsNextRelease p (c + 1) (c + p.entry.period)
 next-after p c next range is same =
     let some = range.entry.some_time in
     let deadline = range.entry.deadline in
@@ -195,7 +195,7 @@ first-release p k = omega arith
 -- the least release after a cycle that is not one
 pub after-over : (p : Placed) (c : ℕ) → IsInRange p → p.origin + p.entry.phase ≤ c
     → ((c - (p.origin + p.entry.phase)) % p.entry.period ≡ 0 → ⊥)
-    → IsNext p c (c - (c - (p.origin + p.entry.phase)) % p.entry.period + p.entry.period)
+    → IsNextRelease p c (c - (c - (p.origin + p.entry.phase)) % p.entry.period + p.entry.period)
 after-over p c range late over =
     let m = p.entry.period in
     let start = p.origin + p.entry.phase in
@@ -216,7 +216,7 @@ no-end (Some end) is = absurd (cc)
 no-end None is = refl
 
 -- an entry with an instance in each cycle from this one on
-pub begins-always : (p : Placed) (c next : ℕ) → IsNext p c next → ((nat_eq p.entry.period 1 && is_none p.end) && nat_eq next c) ≡ true → IsAlways p c
+pub begins-always : (p : Placed) (c next : ℕ) → IsNextRelease p c next → ((nat_eq p.entry.period 1 && is_none p.end) && nat_eq next c) ≡ true → IsAlways p c
 begins-always p c next is test =
     let parts = and_parts (nat_eq p.entry.period 1 && is_none p.end) (nat_eq next c) test in
     let own = and_parts (nat_eq p.entry.period 1) (is_none p.end) parts.0 in

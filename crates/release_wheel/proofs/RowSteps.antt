@@ -6,7 +6,7 @@ use Rattle.std.proofs.Math.Nat.{mod-lt}
 use Rattle.requirement_table.specs.declared.entries.Placed.{Placed}
 use Rattle.release_wheel.specs.declared.dues.Dues.{Dues}
 use Rattle.release_wheel.specs.declared.rows.Rows.{Rows}
-use Rattle.release_wheel.specs.Wheel.{IsOnWheel, IsSameBut, ReleasedAt, StandsAt, TurnedAt, is_there, no_entry}
+use Rattle.release_wheel.specs.Wheel.{IsOnWheel, IsSameBut, ReleasedAt, RowStandsAt, TurnedAt, is_there, no_entry}
 use Rattle.bit_sets.specs.Sets.{has_bit}
 
 -- what is asked of the row itself and of the others
@@ -30,7 +30,7 @@ lower : (a b l : ℕ) → b ≤ a → a ≤ l → b ≤ l
 lower a b l below small = omega arith
 
 module _ (row : ℕ) (rows new : Rows) (dues more : Dues) (but : IsSameBut row rows new dues more) (i : ℕ) (other : nat_eq row i ≡ false) where
-  pub stands-other : (c : ℕ) → StandsAt rows dues c i → StandsAt new more c i
+  pub stands-other : (c : ℕ) → RowStandsAt rows dues c i → RowStandsAt new more c i
   stands-other c was =
       rw (
         but.entry i other,

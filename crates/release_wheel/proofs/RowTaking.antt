@@ -12,7 +12,7 @@ use Rattle.planner_policies.specs.declared.Fill.TheVariants.{Prefix, Skip}
 use Rattle.planner_policies.specs.declared.due.Due.{Due}
 use Rattle.planner_policies.specs.Due.{is_due_by, taken_of}
 use Rattle.planner_policies.specs.Plan.{by_number}
-use Rattle.release_wheel.specs.Taking.{AreDistinct, AreOfRows, IsFirstRow, IsLineOfRows, IsTaking, IsTook}
+use Rattle.release_wheel.specs.Taking.{AreOfDistinctSlots, AreOfRows, IsFirstRow, IsLineOfRows, IsTaking, IsTook}
 use Rattle.release_wheel.specs.Wheel.{IsBelow, cost_at, cost_below, slot_at}
 use Rattle.planner_policies.proofs.Shared.{has_slot, cost_of}
 use Rattle.bit_sets.proofs.Shared.{turned-eq, sum_where-none, from-first, has_bit-none}
@@ -69,7 +69,7 @@ taken-pass : (room : ℕ) (due : Due) (line : List Due) → room < due.cost → 
 taken-pass room due line wide = ap (λ b. if b then due ∷ taken_of Skip (room - due.cost) line else taken_of Skip room line) (lt-leb due.cost room wide)
 
 module _ (fill : Fill) (window : ℕ) (goes : ℕ → ℕ → Bool) (entries : List Placed) (due rest left mask width row : ℕ)
-    (t : IsTaking fill window goes entries due rest left mask width) (distinct : AreDistinct entries due) (below : IsBelow (length entries) due)
+    (t : IsTaking fill window goes entries due rest left mask width) (distinct : AreOfDistinctSlots entries due) (below : IsBelow (length entries) due)
     (first : IsFirstRow goes (has_bit rest) row) where
   within : row < length entries
   within = below row (t.rest_in row first.stands)

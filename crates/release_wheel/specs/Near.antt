@@ -5,7 +5,7 @@ use Rattle.requirement_table.specs.Table.{instance_in, near_of, releases_in}
 use Rattle.planner_policies.specs.Plan.{IsValid, Ranking}
 use Rattle.release_wheel.specs.declared.near.Near.{Near}
 use Rattle.release_wheel.specs.declared.wheel.Wheel.{Wheel}
-use Rattle.release_wheel.specs.Wheel.{IsKept}
+use Rattle.release_wheel.specs.Wheel.{IsWheelKept}
 
 -- two lists of entries have the same instances in a cycle, and are planned by the same policy with the same filling
 pub record IsAlike (all some : Ranking) (c : ℕ) : Type 0 where
@@ -28,11 +28,11 @@ at_wheel (Some near) all c = if nat_lt c near.until then near.ranked else all
 pub record IsNear (all : Ranking) (near : Near) (w : Wheel) : Type 0 where
   pub since : near.since ≤ w.cycle
   pub entries : near.ranked ≡ record all { placed = near_of near.since near.until all.placed }
-  pub kept : IsKept near.ranked w
+  pub kept : IsWheelKept near.ranked w
 
 -- the wheel is one of all entries, or of those that are near until others begin
 abbrev pub HasRows : Ranking → Option Near → Wheel → Type 0
-HasRows all None w = IsKept all w
+HasRows all None w = IsWheelKept all w
 HasRows all (Some near) w = w.cycle < near.until → IsNear all near w
 
 -- no entries are taken as near

@@ -41,8 +41,8 @@ IsLineOfRows dues test (due ∷ line) =
     × IsLineOfRows dues (λ other. not (nat_eq row other) && test other) line
 
 -- of each slot at most one row stands in the set
-abbrev pub AreDistinct : List Placed → ℕ → Type 0
-AreDistinct entries set = (one other : ℕ) → has_bit set one ≡ true → has_bit set other ≡ true
+abbrev pub AreOfDistinctSlots : List Placed → ℕ → Type 0
+AreOfDistinctSlots entries set = (one other : ℕ) → has_bit set one ≡ true → has_bit set other ≡ true
     → slot_at entries one ≡ slot_at entries other → one ≡ other
 
 -- what a filling takes of the rows of a set in an order within a window, and what it leaves

@@ -78,7 +78,7 @@ due_of_row policy p last = record {
 }
 
 -- the least release at or after a cycle. Where it is not below the entry's end, it may be one before that cycle
-pub record IsNext (p : Placed) (c next : ℕ) : Type 0 where
+pub record IsNextRelease (p : Placed) (c next : ℕ) : Type 0 where
   pub number : ℕ
   pub is : next ≡ release_of p number
   pub reached : Exists p next → c ≤ next
@@ -93,7 +93,7 @@ pub record IsAlways (p : Placed) (c : ℕ) : Type 0 where
 -- where a row stands before the releases of cycle `c`: it has an instance in each cycle, or its next release is known,
 -- and where that comes the row stands at its place of the wheel
 pub record IsPlacedAt (c : ℕ) (p : Placed) (always : Bool) (next : ℕ) (found : Bool) : Type 0 where
-  pub next_is : always ≡ false → IsNext p c next
+  pub next_is : always ≡ false → IsNextRelease p c next
   pub on : always ≡ false → Exists p next → found ≡ true
   pub always_is : always ≡ true → IsAlways p c
 
@@ -175,7 +175,7 @@ pub record IsRowSet (p : Placed) (row c pending : ℕ) (old new : Rows) (dues mo
   pub waits : Bool
   pub next : ℕ
   pub last : ℕ
-  pub next_is : IsNext p c next
+  pub next_is : IsNextRelease p c next
   pub begun_is : begun ≡ true → IsAlways p c
   pub waits_is : waits ≡ (has_bit pending p.entry.slot && is_held_in c p)
   pub last_is : waits ≡ true → (k : ℕ) → MaySend p k c → last + 1 ≡ deadline_of p k
@@ -199,22 +199,22 @@ pub record IsSameBut (row : ℕ) (old new : Rows) (dues more : Dues) : Type 0 wh
 abbrev pub is_found : Rows → ℕ → ℕ → Bool
 is_found rows cycle row = has_bit (get_or rows.places.items (cycle % 64) 0) row
 
-abbrev pub StandsAt : Rows → Dues → ℕ → ℕ → Type 0
-StandsAt rows dues c row =
+abbrev pub RowStandsAt : Rows → Dues → ℕ → ℕ → Type 0
+RowStandsAt rows dues c row =
     IsPlacedAt c (get_or rows.entries.items row no_entry) (has_bit dues.always.rows row) (get_or rows.nexts.items row 0)
     (is_found rows (get_or rows.nexts.items row 0) row)
 
 -- a row before the releases of a cycle
 abbrev pub TurnedAt : Rows → Dues → (ℕ → Bool) → ℕ → ℕ → Type 0
 TurnedAt rows dues before c row =
-    StandsAt rows dues c row
+    RowStandsAt rows dues c row
     × IsWaitingAt before c (get_or rows.entries.items row no_entry) (has_bit dues.waiting.rows row)
     (get_or rows.lasts.items row 0) dues.soonest
 
 -- a row behind them
 abbrev pub ReleasedAt : Rows → Dues → (ℕ → Bool) → ℕ → ℕ → Type 0
 ReleasedAt rows dues before c row =
-    StandsAt rows dues (c + 1) row
+    RowStandsAt rows dues (c + 1) row
     × IsDueAt before c (get_or rows.entries.items row no_entry) (has_bit dues.waiting.rows row)
     (has_bit dues.always.rows row) (get_or rows.lasts.items row 0) dues.soonest
 
@@ -277,7 +277,7 @@ pub record IsSameTable (old new : Wheel) : Type 0 where
   pub others : new ≡ record old { quiet = new.quiet; cycle = new.cycle; rows = new.rows; dues = new.dues }
 
 -- the releases of a cycle are made, before which these slots were pending in a planning
-pub record IsReady (ranking : Ranking) (pending : ℕ) (w : Wheel) : Type 0 where
+pub record IsWheelReady (ranking : Ranking) (pending : ℕ) (w : Wheel) : Type 0 where
   pub released : IsReleased (has_bit pending) w
   pub of_ranking : IsOfRanking ranking w
   pub well : IsWellPlaced ranking.placed
@@ -321,7 +321,7 @@ pub record AreFilled (ranking : Ranking) (c pending : ℕ) (rows : Rows) (dues :
   pub order : AreRanked ranking.policy rows.entries.items
 
 -- where a planner stands
-pub record IsKept (ranking : Ranking) (w : Wheel) : Type 0 where
+pub record IsWheelKept (ranking : Ranking) (w : Wheel) : Type 0 where
   pub near : w.cycle ≤ cycles_end
   pub valid : IsValid ranking.placed w.cycle w.dues.waiting.slots
   pub plain : w.turns ≡ false → w.quiet ≡ 0

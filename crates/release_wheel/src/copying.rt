@@ -3,7 +3,7 @@
 ghost use Rattle.std.specs.Prelude.{◌≡◌, ◌≤◌, IfOk};
 ghost use Rattle.profile.specs.Limits.{cycles_end};
 ghost use Rattle.planner_policies.specs.Plan.{IsValid, Ranking};
-ghost use Rattle.release_wheel.specs.Wheel.{IsKept};
+ghost use Rattle.release_wheel.specs.Wheel.{IsWheelKept};
 
 use crate::dues::Dues;
 use crate::rows::{Rows, no_rows};
@@ -12,7 +12,7 @@ use std::alloc::{AllocError, Global};
 
 /// The same wheel, in memory of its own. It stands over all entries over which the first one stands.
 pub fn copy_of(alloc: Global, wheel: &Wheel) -> Result<Wheel, AllocError>
-    ensures kept { (ranking : Ranking) → IsKept ranking wheel.now → IfOk result (IsKept ranking) }
+    ensures kept { (ranking : Ranking) → IsWheelKept ranking wheel.now → IfOk result (IsWheelKept ranking) }
     ensures cycle { IfOk result (λ copy. copy.cycle ≡ wheel.now.cycle) }
     ensures slots { IfOk result (λ copy. copy.dues.waiting.slots ≡ wheel.now.dues.waiting.slots) }
 {
@@ -40,7 +40,7 @@ pub fn copy_of(alloc: Global, wheel: &Wheel) -> Result<Wheel, AllocError>
 pub fn without_rows(alloc: Global, wheel: &Wheel) -> Wheel
     requires near { wheel.now.cycle ≤ cycles_end }
     ensures kept { (ranking : Ranking) → IsValid ranking.placed wheel.now.cycle wheel.now.dues.waiting.slots
-        → IsKept ranking result }
+        → IsWheelKept ranking result }
     ensures cycle { result.cycle ≡ wheel.now.cycle }
     ensures slots { result.dues.waiting.slots ≡ wheel.now.dues.waiting.slots }
 {

@@ -7,7 +7,7 @@ ghost use Rattle.planner_policies.specs.Plan.{IsValid};
 ghost use Rattle.requirement_table.specs.Instance.{MaySend, deadline_of, exists};
 ghost use Rattle.bit_sets.specs.Sets.{has_bit};
 ghost use Rattle.requirement_table.specs.Table.{IsInRange};
-ghost use Rattle.release_wheel.specs.Wheel.{AreFilled, HasRoom, HasRoomFor, IsKept, IsNext, IsRowSet};
+ghost use Rattle.release_wheel.specs.Wheel.{AreFilled, HasRoom, HasRoomFor, IsNextRelease, IsRowSet, IsWheelKept};
 
 use crate::dues::Dues;
 use crate::rows::{Rows, clear, has_room, is_always, put_down};
@@ -19,7 +19,7 @@ use requirement_table::{Mask, Placed, current_instance, exists};
 pub fn fill(wheel: &mut Wheel, ranked: &Ranked, state: &PlanState)
     requires cycle { state.now.cycle ≤ cycles_end }
     requires valid { IsValid ranked.now.placed state.now.cycle state.now.pending }
-    ensures kept { IsKept ranked.now wheel.new }
+    ensures kept { IsWheelKept ranked.now wheel.new }
     ensures cycle { wheel.new.cycle ≡ state.now.cycle }
     ensures slots { wheel.new.dues.waiting.slots ≡ state.now.pending }
 {
@@ -77,7 +77,7 @@ fn set_row(rows: &mut Rows, dues: Dues, row: usize, placed: &Placed, state: &Pla
 pub fn next_release(placed: &Placed, cycle: u64) -> u64
     requires in_range { IsInRange placed.now }
     requires cycle { cycle ≤ cycles_end }
-    ensures next { IsNext placed.now cycle result }
+    ensures next { IsNextRelease placed.now cycle result }
     ensures from { cycle ≤ result }
 {
     let start = placed.origin + u64::from(placed.entry.phase);

@@ -11,7 +11,7 @@ ghost use Rattle.planner_policies.specs.Due.{IsPlanned};
 ghost use Rattle.planner_policies.specs.Plan.{IsMissIn, IsValid, planning_of};
 ghost use Rattle.release_wheel.specs.Near.{HasRows, IsForgotten, IsStanding, at_wheel, until_of};
 ghost use Rattle.release_wheel.specs.Passed.{IsPassed};
-ghost use Rattle.release_wheel.specs.Wheel.{IsKept};
+ghost use Rattle.release_wheel.specs.Wheel.{IsWheelKept};
 
 use crate::filling::fill;
 use crate::planner::CyclePlan;
@@ -148,7 +148,7 @@ pub fn pass_near(near: &Option<Near>, wheel: &mut Wheel, ranked: &Ranked)
 fn come_near(near: &mut Option<Near>, wheel: &mut Wheel, ranked: &Ranked)
     requires standing { IsStanding ranked.now near.old wheel.old }
     ensures rows { HasRows ranked.now near.new wheel.new }
-    ensures kept { IsKept (at_wheel near.new ranked.now wheel.new.cycle) wheel.new }
+    ensures kept { IsWheelKept (at_wheel near.new ranked.now wheel.new.cycle) wheel.new }
     ensures cycle { wheel.new.cycle ≡ wheel.old.cycle }
     ensures slots { wheel.new.dues.waiting.slots ≡ wheel.old.dues.waiting.slots }
 {
@@ -168,7 +168,7 @@ fn refill(near: &mut Near, wheel: &mut Wheel, ranked: &Ranked)
     requires valid { IsValid ranked.now.placed wheel.old.cycle wheel.old.dues.waiting.slots }
     requires reached { near.old.until ≤ wheel.old.cycle }
     ensures rows { HasRows ranked.now (Some near.new) wheel.new }
-    ensures kept { IsKept (at_wheel (Some near.new) ranked.now wheel.new.cycle) wheel.new }
+    ensures kept { IsWheelKept (at_wheel (Some near.new) ranked.now wheel.new.cycle) wheel.new }
     ensures cycle { wheel.new.cycle ≡ wheel.old.cycle }
     ensures slots { wheel.new.dues.waiting.slots ≡ wheel.old.dues.waiting.slots }
 {

@@ -4,7 +4,7 @@
 //! window has most often room for a few of them.
 
 ghost use Rattle.std.specs.Prelude.{◌≡◌, ◌≢◌, ℕ, ◌+◌, ◌-◌, ◌<◌, ◌≤◌, true, get_or, length, if◌then◌else◌};
-ghost use Rattle.release_wheel.specs.Taking.{AreDistinct, AreDue, IsFirstRow, IsSoonest, IsTaking, IsTook, goes_by, last_of};
+ghost use Rattle.release_wheel.specs.Taking.{AreDue, AreOfDistinctSlots, IsFirstRow, IsSoonest, IsTaking, IsTook, goes_by, last_of};
 ghost use Rattle.release_wheel.specs.Wheel.{HasRoom, IsBelow};
 ghost use Rattle.bit_sets.specs.Sets.{has_bit};
 ghost use Rattle.bit_sets.specs.Rows.{rows_left};
@@ -21,7 +21,7 @@ use requirement_table::{Mask, cost};
 pub fn pick_rows(wheel: &Wheel, fill: Fill, due: u128, w: u32) -> Took
     requires room { HasRoom (length wheel.now.rows.entries.items) wheel.now.rows wheel.now.dues }
     requires due { AreDue wheel.now due }
-    requires distinct { AreDistinct wheel.now.rows.entries.items due }
+    requires distinct { AreOfDistinctSlots wheel.now.rows.entries.items due }
     ensures took { IsTook fill w (goes_by (last_of wheel.now)) wheel.now.rows.entries.items due result.left result.mask
         result.width }
 {

@@ -5,7 +5,7 @@ ghost use Rattle.planner_policies.specs.declared.Fill.TheVariants.{Prefix, Skip}
 ghost use Rattle.planner_policies.specs.declared.due.Due.{Due};
 ghost use Rattle.planner_policies.specs.Due.{taken_of};
 ghost use Rattle.requirement_table.specs.Table.{IsInRange};
-ghost use Rattle.release_wheel.specs.Taking.{AreDistinct, AreOfRows, IsLineOfRows, IsTaking, IsTook};
+ghost use Rattle.release_wheel.specs.Taking.{AreOfDistinctSlots, AreOfRows, IsLineOfRows, IsTaking, IsTook};
 ghost use Rattle.release_wheel.specs.Wheel.{IsBelow, no_entry};
 ghost use Rattle.bit_sets.specs.Sets.{has_bit};
 ghost use Rattle.bit_sets.specs.Rows.{rows_left};
@@ -31,7 +31,7 @@ pub fn take_rows(entries: &[Placed], fill: Fill, due: u128, w: u32) -> Took
     requires in_range { (row : ℕ) → row < length entries.now → IsInRange (get_or entries.now row no_entry) }
     requires few { length entries.now ≤ 128 }
     requires within { IsBelow (length entries.now) due }
-    requires distinct { AreDistinct entries.now due }
+    requires distinct { AreOfDistinctSlots entries.now due }
     ensures took { IsTook fill w nat_le entries.now due result.left result.mask result.width }
 {
     let start = Taking {
@@ -84,7 +84,7 @@ fn take_word(entries: &[Placed], fill: Fill, due: u128, taking: Taking, w: u32) 
     requires in_range { (row : ℕ) → row < length entries.now → IsInRange (get_or entries.now row no_entry) }
     requires few { length entries.now ≤ 128 }
     requires within { IsBelow (length entries.now) due }
-    requires distinct { AreDistinct entries.now due }
+    requires distinct { AreOfDistinctSlots entries.now due }
     requires taking { IsTaking fill w nat_le entries.now due (rows_left taking.rest) taking.left taking.mask taking.width }
     ensures taking { IsTaking fill w nat_le entries.now due (rows_left result.rest) result.left result.mask result.width }
     ensures stops { 0 < result.rest.word → (dues : ℕ → Due) (line : List Due) → AreOfRows entries.now nat_le dues

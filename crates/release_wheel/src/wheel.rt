@@ -13,7 +13,7 @@ ghost use Rattle.planner_policies.specs.Plan.{IsMissIn, IsValid, Ranking, planni
 ghost use Rattle.bit_sets.specs.Sets.{has_bit};
 ghost use Rattle.requirement_table.specs.Table.{IsWellPlaced};
 ghost use Rattle.release_wheel.specs.Passed.{IsPassed};
-ghost use Rattle.release_wheel.specs.Wheel.{AreInTime, HasRoom, IsBelow, IsKept, IsPart, IsPlannedOn, IsReady};
+ghost use Rattle.release_wheel.specs.Wheel.{AreInTime, HasRoom, IsBelow, IsPart, IsPlannedOn, IsWheelKept, IsWheelReady};
 
 use crate::dues::{Dues, Sum};
 use crate::filling::fill;
@@ -50,7 +50,7 @@ pub struct Wheel {
 pub fn wheel_of(alloc: Global, ranked: &Ranked, state: &PlanState) -> Result<Wheel, AllocError>
     requires cycle { state.now.cycle < cycles_end }
     requires valid { IsValid ranked.now.placed state.now.cycle state.now.pending }
-    ensures kept { IfOk result (λ wheel. IsKept ranked.now wheel) }
+    ensures kept { IfOk result (λ wheel. IsWheelKept ranked.now wheel) }
     ensures cycle { IfOk result (λ wheel. wheel.cycle ≡ state.now.cycle) }
     ensures slots { IfOk result (λ wheel. wheel.dues.waiting.slots ≡ state.now.pending) }
 {
@@ -71,7 +71,7 @@ pub fn wheel_of(alloc: Global, ranked: &Ranked, state: &PlanState) -> Result<Whe
 /// Plans the cycle of the wheel within a window of `w` bit times, and goes on to the next one. At a miss all stays.
 pub fn step(wheel: &mut Wheel, ranked: &Ranked, w: u32) -> Result<CyclePlan, Miss>
     requires cycle { wheel.old.cycle < cycles_end }
-    requires kept { IsKept ranked.now wheel.old }
+    requires kept { IsWheelKept ranked.now wheel.old }
     ensures planned { let plan = planning_of ranked.now w wheel.old.cycle wheel.old.dues.waiting.slots in IfOk result
         (λ r. IsPlanned plan wheel.old.cycle (has_bit wheel.old.dues.waiting.slots) r.mask r.width wheel.new.dues.waiting.slots) }
     ensures next { IfOk result (λ _. wheel.new.cycle ≡ wheel.old.cycle + 1) }
@@ -80,7 +80,7 @@ pub fn step(wheel: &mut Wheel, ranked: &Ranked, w: u32) -> Result<CyclePlan, Mis
     ensures missed_cycle { IfErr result (λ miss. miss.cycle ≡ wheel.old.cycle) }
     ensures same_cycle { IfErr result (λ _. wheel.new.cycle ≡ wheel.old.cycle) }
     ensures same_slots { IfErr result (λ _. wheel.new.dues.waiting.slots ≡ wheel.old.dues.waiting.slots) }
-    ensures kept { IsKept ranked.now wheel.new }
+    ensures kept { IsWheelKept ranked.now wheel.new }
 {
     let state = PlanState {
         cycle: wheel.cycle,
@@ -103,7 +103,7 @@ pub fn step(wheel: &mut Wheel, ranked: &Ranked, w: u32) -> Result<CyclePlan, Mis
 /// Passes a cycle in which nothing is pending.
 fn pass(wheel: &mut Wheel, ranked: &Ranked) -> CyclePlan
     requires cycle { wheel.old.cycle < cycles_end }
-    requires kept { IsKept ranked.now wheel.old }
+    requires kept { IsWheelKept ranked.now wheel.old }
     requires well { IsWellPlaced ranked.now.placed }
     requires quiet { wheel.old.cycle < wheel.old.quiet }
     ensures planned { (window : ℕ) → IsPlanned (planning_of ranked.now window wheel.old.cycle wheel.old.dues.waiting.slots)
@@ -111,7 +111,7 @@ fn pass(wheel: &mut Wheel, ranked: &Ranked) -> CyclePlan
     ensures next { wheel.new.cycle ≡ wheel.old.cycle + 1 }
     ensures same { wheel.new.quiet ≡ wheel.old.quiet }
     ensures empty { (wheel.new.dues.waiting.slots ≡ 0) × (result.mask ≡ 0) }
-    ensures kept { IsKept ranked.now wheel.new }
+    ensures kept { IsWheelKept ranked.now wheel.new }
 {
     wheel.cycle += 1;
     wheel.dues.waiting.slots = Mask::empty();
@@ -124,7 +124,7 @@ fn pass(wheel: &mut Wheel, ranked: &Ranked) -> CyclePlan
 /// Passes the cycles in which nothing is pending, from the next one on, as far as they are known, and no further than to
 /// the cycle `until`.
 pub fn pass_quiet(wheel: &mut Wheel, ranked: &Ranked, until: u64)
-    requires kept { IsKept ranked.now wheel.old }
+    requires kept { IsWheelKept ranked.now wheel.old }
     ensures until { wheel.old.cycle ≤ until → wheel.new.cycle ≤ until }
     ensures onward { wheel.old.cycle ≤ wheel.new.cycle }
     ensures slots { wheel.new.dues.waiting.slots ≡ wheel.old.dues.waiting.slots }
@@ -132,7 +132,7 @@ pub fn pass_quiet(wheel: &mut Wheel, ranked: &Ranked, until: u64)
         → IsValid ranked.now.placed c wheel.old.dues.waiting.slots }
     ensures passed { (window c : ℕ) → wheel.old.cycle ≤ c → c < wheel.new.cycle
         → IsPassed (planning_of ranked.now window c wheel.old.dues.waiting.slots) }
-    ensures kept { IsKept ranked.now wheel.new }
+    ensures kept { IsWheelKept ranked.now wheel.new }
 {
     ranked.placed();
     if wheel.dues.waiting.slots.bits() != 0 {
@@ -148,7 +148,7 @@ pub fn pass_quiet(wheel: &mut Wheel, ranked: &Ranked, until: u64)
 pub fn set_plain(wheel: &mut Wheel, cycle: u64)
     requires cycle { cycle ≤ cycles_end }
     requires empty { wheel.old.dues.waiting.slots ≡ 0 }
-    ensures kept { (ranking : Ranking) → IsKept ranking wheel.new }
+    ensures kept { (ranking : Ranking) → IsWheelKept ranking wheel.new }
     ensures cycle { wheel.new.cycle ≡ cycle }
     ensures slots { wheel.new.dues.waiting.slots ≡ wheel.old.dues.waiting.slots }
 {
@@ -160,7 +160,7 @@ pub fn set_plain(wheel: &mut Wheel, cycle: u64)
 /// Plans the cycle of the wheel, whose releases are made. `None` where an instance is missed.
 fn take(wheel: &mut Wheel, ranked: &Ranked, state: &PlanState, w: u32) -> Option<CyclePlan>
     requires cycle { wheel.old.cycle < cycles_end }
-    requires ready { IsReady ranked.now state.now.pending wheel.old }
+    requires ready { IsWheelReady ranked.now state.now.pending wheel.old }
     ensures planned { IfSome result
         (λ r. IsPlannedOn ranked.now w state.now.pending wheel.old wheel.new r.mask r.width) }
     ensures none { result ≡ None → wheel.new ≡ wheel.old }
@@ -188,7 +188,7 @@ fn plan_plainly(
     ensures missed_cycle { IfErr result (λ miss. miss.cycle ≡ state.now.cycle) }
     ensures same_cycle { IfErr result (λ _. wheel.new.cycle ≡ state.now.cycle) }
     ensures same_slots { IfErr result (λ _. wheel.new.dues.waiting.slots ≡ state.now.pending) }
-    ensures kept { IsKept ranked.now wheel.new }
+    ensures kept { IsWheelKept ranked.now wheel.new }
 {
     match plan_with_width(ranked, w, state) {
         Ok(planned) => {
@@ -208,7 +208,7 @@ fn plan_plainly(
 /// Plans all that is pending, which fits the window together.
 fn take_all(wheel: &mut Wheel, ranked: &Ranked, state: &PlanState, w: u32) -> CyclePlan
     requires cycle { wheel.old.cycle < cycles_end }
-    requires ready { IsReady ranked.now state.now.pending wheel.old }
+    requires ready { IsWheelReady ranked.now state.now.pending wheel.old }
     requires fits { wheel.old.dues.waiting.cost + wheel.old.dues.always.cost ≤ w }
     ensures planned { IsPlannedOn ranked.now w state.now.pending wheel.old wheel.new result.mask result.width }
 {
@@ -251,7 +251,7 @@ fn quiet_until(places: &[u128], always: u128, cycle: u64) -> u64
 /// Plans what the filling takes of what is pending, in key order. `None` where an instance is missed.
 fn take_some(wheel: &mut Wheel, ranked: &Ranked, state: &PlanState, w: u32) -> Option<CyclePlan>
     requires cycle { wheel.old.cycle < cycles_end }
-    requires ready { IsReady ranked.now state.now.pending wheel.old }
+    requires ready { IsWheelReady ranked.now state.now.pending wheel.old }
     ensures planned { IfSome result
         (λ r. IsPlannedOn ranked.now w state.now.pending wheel.old wheel.new r.mask r.width) }
     ensures none { result ≡ None → wheel.new ≡ wheel.old }
@@ -278,7 +278,7 @@ fn take_some(wheel: &mut Wheel, ranked: &Ranked, state: &PlanState, w: u32) -> O
 /// What the filling takes of the rows with something to send, in key order, within a window of `w` bit times.
 fn take_due(wheel: &Wheel, ranked: &Ranked, state: &PlanState, w: u32) -> Took
     requires cycle { wheel.now.cycle < cycles_end }
-    requires ready { IsReady ranked.now state.now.pending wheel.now }
+    requires ready { IsWheelReady ranked.now state.now.pending wheel.now }
     ensures took { IsPart (planning_of ranked.now w wheel.now.cycle state.now.pending) (has_bit state.now.pending)
         wheel.now result.left result.mask result.width }
 {
@@ -291,7 +291,7 @@ fn take_due(wheel: &Wheel, ranked: &Ranked, state: &PlanState, w: u32) -> Took
 
 /// What the filling takes of these rows, in the order of the rows, within a window of `w` bit times.
 fn take_by_row(wheel: &Wheel, ranked: &Ranked, state: &PlanState, due: u128, w: u32) -> Took
-    requires ready { IsReady ranked.now state.now.pending wheel.now }
+    requires ready { IsWheelReady ranked.now state.now.pending wheel.now }
     requires rows { (row : ℕ) → has_bit due row ≡ (has_bit wheel.now.dues.waiting.rows row || has_bit wheel.now.dues.always.rows row) }
     requires order { wheel.now.policy ≢ Edf }
     ensures took { IsPart (planning_of ranked.now w wheel.now.cycle state.now.pending) (has_bit state.now.pending)
@@ -304,7 +304,7 @@ fn take_by_row(wheel: &Wheel, ranked: &Ranked, state: &PlanState, due: u128, w: 
 /// inlined, so that the other policies are not slowed by it.
 #[inline(never)]
 fn take_by_deadline(wheel: &Wheel, ranked: &Ranked, state: &PlanState, due: u128, w: u32) -> Took
-    requires ready { IsReady ranked.now state.now.pending wheel.now }
+    requires ready { IsWheelReady ranked.now state.now.pending wheel.now }
     requires rows { (row : ℕ) → has_bit due row ≡ (has_bit wheel.now.dues.waiting.rows row || has_bit wheel.now.dues.always.rows row) }
     requires order { wheel.now.policy ≡ Edf }
     ensures took { IsPart (planning_of ranked.now w wheel.now.cycle state.now.pending) (has_bit state.now.pending)

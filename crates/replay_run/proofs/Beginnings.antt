@@ -19,7 +19,7 @@ use Rattle.kept_run.proofs.Shared.{AllAfter-parts}
 use Rattle.system_file.specs.SystemFile.{IsSystem}
 use Rattle.steps_file.specs.declared.steps.Step.{Step}
 use Rattle.system_file.specs.declared.system.System.{System}
-use Rattle.replay_run.specs.Begun.{IsBegun}
+use Rattle.replay_run.specs.Begun.{IsRunBegun}
 use Rattle.replay_run.specs.Run.{IsRun}
 use Rattle.replay_run.proofs.Fronts.{cut-at, front-can_trace}
 use Rattle.replay_run.proofs.Openings.{openings_of-append}
@@ -85,7 +85,7 @@ module _ (sends : Instance → List ℕ) (layout : CycleLayout) (known : IsLayou
 -- its history begins that of the run of all calls
 pub begun-history : OneVerdict
     → (system : System) (steps : List Step) (requests : List Request) (history whole : List Event) (trace frames : List TimedFrame)
-    → IsBegun system steps requests history trace → IsRun system steps requests whole frames
+    → IsRunBegun system steps requests history trace → IsRun system steps requests whole frames
     → (rest : List Event) × (whole ≡ history ++ rest)
 begun-history verdicts system steps requests history whole trace frames begun run =
     first-history verdicts system.rules history whole begun.later (begun.answers ∙ sym run.answers) begun.plain run.plain
@@ -93,7 +93,7 @@ begun-history verdicts system steps requests history whole trace frames begun ru
 -- and its trace begins that of the run of all calls, whose other frames start behind the cycles that it opens
 pub begun-trace : OneVerdict
     → (system : System) (steps : List Step) (requests : List Request) (history whole : List Event) (trace frames : List TimedFrame)
-    → IsSystem system → IsBegun system steps requests history trace → IsRun system steps requests whole frames
+    → IsSystem system → IsRunBegun system steps requests history trace → IsRun system steps requests whole frames
     → (rest : List TimedFrame) × (frames ≡ trace ++ rest) × All (λ sent. next_of history * system.layout.cycle ≤ sent.start) rest
 begun-trace verdicts system steps requests history whole trace frames is begun run =
     let (rest, all) = begun-history verdicts system steps requests history whole trace frames begun run in

@@ -10,7 +10,7 @@ use Rattle.master_core.specs.declared.event.Event.{Event}
 use Rattle.master_core.specs.History.{next_of, placed_of}
 use Rattle.replay_run.specs.Heard.{PassesOn}
 use Rattle.replay_run.specs.Progress.{BringsOn, CanGo, GoesStill, IsBusAt}
-use Rattle.replay_run.specs.Runs.{CanLog, CanRun, GoesOn, HearsLast, IsCutAfter, IsHeardSoFar, RunsOn, RunsStill}
+use Rattle.replay_run.specs.Runs.{CanLog, CanRun, GoesOnLogging, HearsLast, IsCutAfter, IsHeardSoFar, RunsOn, RunsStill}
 use Rattle.replay_run.specs.declared.bus.Bus.{Bus}
 use Rattle.replay_run.specs.declared.cut.Cut.TheVariants.{Memory, Write}
 
@@ -69,7 +69,7 @@ module _ {S R : Type 0} (Goes : S → List Event → List TimedFrame → R → T
 
   -- a run that has answered a call, and the rows of whose last event were heard, goes on, whatever it settles then
   pub heard-on : More → (run after last : R) (history : List Event) (frames : List TimedFrame) (told now : L) (calls : List Call)
-      → RunsOn Goes run history frames calls after → HearsLast Heard history frames told now → RunsStill Goes after last → GoesOn Goes Heard run told calls last now
+      → RunsOn Goes run history frames calls after → HearsLast Heard history frames told now → RunsStill Goes after last → GoesOnLogging Goes Heard run told calls last now
   heard-on more run after last history frames told now calls runs hears still = λ start before heard.
       let on = runs start.setting heard.whole heard.trace heard.goes in
       record {
@@ -82,7 +82,7 @@ module _ {S R : Type 0} (Goes : S → List Event → List TimedFrame → R → T
       }
 
   -- rows that are passed on while no call is answered
-  pub goes-passing : (run : R) (told now : L) → PassesOn Heard Heard told now → GoesOn Goes Heard run told [] run now
+  pub goes-passing : (run : R) (told now : L) → PassesOn Heard Heard told now → GoesOnLogging Goes Heard run told [] run now
   goes-passing run told now passes = λ start before heard.
       subst (λ calls. IsHeardSoFar Goes Heard start calls run now) (sym (append-nil before))
       (record {

@@ -17,34 +17,34 @@ use Rattle.master_core.specs.declared.event.Event.TheVariants.{Submit, Look, Ope
 use Rattle.master_core.specs.History.{AllAfter, IsRight, is_open, next_of, placed_of}
 use Rattle.kept_run.proofs.Shared.{next_of-push, second_identifiers}
 use Rattle.bus_trace.specs.EventRows.{BeginsCycle, opened_row, rows_of_event, width_told_in}
-use Rattle.bus_trace.specs.Log.{event_rows, events_rows, frame_row, open_row, started_in, triggers_in, triggers_with}
+use Rattle.bus_trace.specs.Log.{event_rows, events_rows, frame_row, open_row, started_in, trigger_count_with, triggers_in}
 use Rattle.bus_trace.proofs.Shared.{events_rows-push, started_in-later, starts-elsewhere, triggers_with-le, triggers_with-trigger}
 
 -- Counting triggers
 
-counted-other : (seen : ℕ) (sent : TimedFrame) → sent.frame.identifier ≢ 0 → triggers_with seen sent ≡ seen
+counted-other : (seen : ℕ) (sent : TimedFrame) → sent.frame.identifier ≢ 0 → trigger_count_with seen sent ≡ seen
 counted-other seen sent other = cond-false (eqb sent.frame.identifier 0) (seen + 1) seen (ne_eqb _ _ other)
 
-pub triggers-all-up : (seen : ℕ) (frames : List TimedFrame) → seen ≤ fold triggers_with seen frames
+pub triggers-all-up : (seen : ℕ) (frames : List TimedFrame) → seen ≤ fold trigger_count_with seen frames
 triggers-all-up seen [] = omega arith
 triggers-all-up seen (sent ∷ later) =
     let now = triggers_with-le seen sent in
-    let more = triggers-all-up (triggers_with seen sent) later in
+    let more = triggers-all-up (trigger_count_with seen sent) later in
     omega arith
 
 -- frames none of which is a trigger
-counted-none : (seen : ℕ) (frames : List TimedFrame) → All (λ sent. sent.frame.identifier ≢ 0) frames → fold triggers_with seen frames ≡ seen
+counted-none : (seen : ℕ) (frames : List TimedFrame) → All (λ sent. sent.frame.identifier ≢ 0) frames → fold trigger_count_with seen frames ≡ seen
 counted-none seen [] none = refl
 counted-none seen (sent ∷ later) none =
-    ap (λ n. fold triggers_with n later) (counted-other seen sent (All-head (λ s. s.frame.identifier ≢ 0) sent later none))
+    ap (λ n. fold trigger_count_with n later) (counted-other seen sent (All-head (λ s. s.frame.identifier ≢ 0) sent later none))
     ∙ counted-none seen later (All-tail (λ s. s.frame.identifier ≢ 0) sent later none)
 
 -- the frames of a cycle hold one trigger
 pub triggers-more : (trace : List TimedFrame) (sent : TimedFrame) (later : List TimedFrame) → sent.frame.identifier ≡ 0
     → All (λ s. s.frame.identifier ≢ 0) later → triggers_in (trace ++ sent ∷ later) ≡ triggers_in trace + 1
 triggers-more trace sent later is others =
-    fold-append triggers_with 0 trace (sent ∷ later)
-    ∙ ap (λ n. fold triggers_with n later) (triggers_with-trigger (triggers_in trace) sent is)
+    fold-append trigger_count_with 0 trace (sent ∷ later)
+    ∙ ap (λ n. fold trigger_count_with n later) (triggers_with-trigger (triggers_in trace) sent is)
     ∙ counted-none (triggers_in trace + 1) later others
 
 -- The frames that start in a cycle
@@ -53,19 +53,19 @@ here : (cycle seen : ℕ) (sent : TimedFrame) (rest : List TimedFrame) → seen 
 here cycle seen sent rest is = ap (λ l. l ++ rest) (cond-true (eqb seen (cycle + 1)) (sent ∷ []) [] (eq-eqb _ _ is))
 
 started-append : (cycle seen : ℕ) (first second : List TimedFrame)
-    → started_in cycle seen (first ++ second) ≡ started_in cycle seen first ++ started_in cycle (fold triggers_with seen first) second
+    → started_in cycle seen (first ++ second) ≡ started_in cycle seen first ++ started_in cycle (fold trigger_count_with seen first) second
 started-append cycle seen [] second = refl
 started-append cycle seen (sent ∷ later) second =
-    let now = triggers_with seen sent in
+    let now = trigger_count_with seen sent in
     ap (λ l. cond (eqb now (cycle + 1)) (sent ∷ []) [] ++ l) (started-append cycle now later second)
-    ∙ sym (append_assoc (cond (eqb now (cycle + 1)) (sent ∷ []) []) (started_in cycle now later) (started_in cycle (fold triggers_with now later) second))
+    ∙ sym (append_assoc (cond (eqb now (cycle + 1)) (sent ∷ []) []) (started_in cycle now later) (started_in cycle (fold trigger_count_with now later) second))
 
 -- none before the cycle's own trigger
-started-before : (cycle seen : ℕ) (frames : List TimedFrame) → fold triggers_with seen frames ≤ cycle → started_in cycle seen frames ≡ []
+started-before : (cycle seen : ℕ) (frames : List TimedFrame) → fold trigger_count_with seen frames ≤ cycle → started_in cycle seen frames ≡ []
 started-before cycle seen [] few = refl
 started-before cycle seen (sent ∷ later) few =
-    let up = triggers-all-up (triggers_with seen sent) later in
-    starts-elsewhere cycle (triggers_with seen sent) sent _ (λ is. omega arith) ∙ started-before cycle (triggers_with seen sent) later few
+    let up = triggers-all-up (trigger_count_with seen sent) later in
+    starts-elsewhere cycle (trigger_count_with seen sent) sent _ (λ is. omega arith) ∙ started-before cycle (trigger_count_with seen sent) later few
 
 -- all behind it, up to the next one
 started-rest : (cycle : ℕ) (frames : List TimedFrame) → All (λ s. s.frame.identifier ≢ 0) frames → started_in cycle (cycle + 1) frames ≡ frames

@@ -24,7 +24,7 @@ use Rattle.master_core.specs.declared.event.Event.TheVariants.{Open}
 use Rattle.master_core.specs.History.{IsLegal, IsPlainlyLegal, is_open, next_of, placed_of}
 use Rattle.master_core.specs.Openings.{openings_of}
 use Rattle.master_core.specs.Orders.{IsOrder}
-use Rattle.kept_run.specs.Progress.{AreReady, IsOnTheWay, IsUnderWay}
+use Rattle.kept_run.specs.Progress.{AreNodesReady, IsOnTheWay, IsUnderWay}
 use Rattle.kept_run.specs.Setting.{IsSetting, Setting}
 use Rattle.kept_run.proofs.Shared.{CallsBetween, CyclesRun, RanOrder, next_of-push, number-below, second_identifiers, way-called, way-run, way-same}
 use Rattle.node_model.specs.Node.{NodeView}
@@ -261,7 +261,7 @@ less-spare entries spare nodes fewer have = All-weaker (λ node. spare ≤ node.
 
 -- A run of no calls yet
 
-pub begins-going : (setting : Setting) (bus : Bus) → IsSetting setting → IsUnderWay setting [] [] → AreReady setting [] [] bus.nodes
+pub begins-going : (setting : Setting) (bus : Bus) → IsSetting setting → IsUnderWay setting [] [] → AreNodesReady setting [] [] bus.nodes
     → bus.master.rules ≡ setting.rules → bus.master.history ≡ [] → KeepsFrames bus.trace [] → bus.master.keeps ≡ is_some bus.trace
     → bus.spare ≡ 0 → IsGoing setting [] bus
 begins-going setting bus known way ready rules empty frames events none = record {

@@ -28,8 +28,8 @@ use Rattle.system_file.specs.declared.system.System.{System}
 use Rattle.kept_run.specs.Kept.{Kept}
 use Rattle.kept_run.specs.Progress.{IsUnderWay}
 use Rattle.kept_run.specs.Setting.{Setting}
-use Rattle.bus_trace.specs.Log.{end_row, events_rows, log_text, triggers_in, triggers_with}
-use Rattle.replay_run.specs.Begun.{IsBegun}
+use Rattle.bus_trace.specs.Log.{end_row, events_rows, log_text, trigger_count_with, triggers_in}
+use Rattle.replay_run.specs.Begun.{IsRunBegun}
 use Rattle.replay_run.specs.Run.{IsRun, setting_of}
 use Rattle.kept_run.proofs.Shared.{Contains-filter}
 use Rattle.replay_run.proofs.Shared.{cut-at, started-all, started-early, started-within}
@@ -95,15 +95,15 @@ has-trigger opens setting history trace way cycle early =
 
 counted-among : (seen : ℕ) (frames : List TimedFrame) (sent : TimedFrame) → Contains frames sent
     → sent.frame.identifier ≡ 0
-    → seen + 1 ≤ fold triggers_with seen frames
+    → seen + 1 ≤ fold trigger_count_with seen frames
 counted-among seen [] sent (k, within, is) trigger = absurd (omega arith)
 counted-among seen (x ∷ later) sent (zero, within, is) trigger =
     let now = triggers_with-trigger seen x (ap (λ s. s.frame.identifier) is ∙ trigger) in
-    let more = triggers-all-up (triggers_with seen x) later in
+    let more = triggers-all-up (trigger_count_with seen x) later in
     omega arith
 counted-among seen (x ∷ later) sent (suc k, within, is) trigger =
     let now = triggers-all-up seen (x ∷ []) in
-    let more = counted-among (triggers_with seen x) later sent (k, omega arith, is) trigger in
+    let more = counted-among (trigger_count_with seen x) later sent (k, omega arith, is) trigger in
     omega arith
 
 -- before the start of a cycle at least as many triggers start as there are cycles below it
@@ -130,8 +130,8 @@ triggers-below setting trace apart some (suc n) each =
       | inl sooner ↦ absurd (omega (arith, has.starts, All-contains (λ s. s.start < low) before has.sent (started-early low trace) sooner))
       | inr later ↦ later
     ] in
-    let count : triggers_in front ≡ fold triggers_with (triggers_in before) cut.later =
-    ap triggers_in all ∙ fold-append triggers_with 0 before cut.later in
+    let count : triggers_in front ≡ fold trigger_count_with (triggers_in before) cut.later =
+    ap triggers_in all ∙ fold-append trigger_count_with 0 before cut.later in
     let more = counted-among (triggers_in before) cut.later has.sent last has.is_trigger in
     omega arith
 
@@ -227,10 +227,10 @@ pub record BeginningLaws : Type 0 where
   pub opens : OpensCycles
   pub positive : TakesTime
   pub history : (system : System) (steps : List Step) (requests : List Request) (history whole : List Event) (trace frames : List TimedFrame)
-      → IsBegun system steps requests history trace → IsRun system steps requests whole frames
+      → IsRunBegun system steps requests history trace → IsRun system steps requests whole frames
       → (rest : List Event) × (whole ≡ history ++ rest)
   pub trace : (system : System) (steps : List Step) (requests : List Request) (history whole : List Event) (trace frames : List TimedFrame)
-      → IsSystem system → IsBegun system steps requests history trace → IsRun system steps requests whole frames
+      → IsSystem system → IsRunBegun system steps requests history trace → IsRun system steps requests whole frames
       → (rest : List TimedFrame) × (frames ≡ trace ++ rest) × All (λ sent. next_of history * system.layout.cycle ≤ sent.start) rest
   pub under_way : (system : System) (requests : List Request) (history : List Event) (trace : List TimedFrame)
       → IsSystem system
@@ -239,7 +239,7 @@ pub record BeginningLaws : Type 0 where
 
 pub rows-begin : BeginningLaws
     → (system : System) (steps : List Step) (requests : List Request) (history whole : List Event) (trace frames : List TimedFrame)
-    → IsSystem system → AreLegal system.owners requests → IsBegun system steps requests history trace
+    → IsSystem system → AreLegal system.owners requests → IsRunBegun system steps requests history trace
     → IsRun system steps requests whole frames
     → (rest : List ℕ) × (log_text whole frames ≡ events_rows trace [] history ++ rest)
 rows-begin laws system steps requests history whole trace frames is are begun run =

@@ -13,11 +13,11 @@ use Rattle.kept_run.specs.Setting.{IsSetting}
 use Rattle.kept_run.proofs.Shared.{Promises, bytes_of-forgets}
 use Rattle.bus_trace.specs.LastRows.{AreRows, last_rows}
 use Rattle.bus_trace.specs.Log.{end_row, events_rows, log_text}
-use Rattle.replay_run.specs.Begun.{IsBegun}
+use Rattle.replay_run.specs.Begun.{IsRunBegun}
 use Rattle.replay_run.specs.Heard.{HoldsLast, Keeps, rows_held}
-use Rattle.replay_run.specs.Progress.{BusSetting, IsBusAt, IsOnBus}
+use Rattle.replay_run.specs.Progress.{BusSetting, IsBusAt, IsKeptOnBus}
 use Rattle.replay_run.specs.Run.{AnswersSteps, IsRun, calls_of, setting_of}
-use Rattle.replay_run.specs.Runs.{GoesOn, AnswersAll, IsCutAfter, AnswersFirst, IsHeardSoFar, IsLogHeard, Start}
+use Rattle.replay_run.specs.Runs.{GoesOnLogging, AnswersAll, IsCutAfter, AnswersFirst, IsHeardSoFar, IsLogHeard, Start}
 use Rattle.replay_run.specs.Whole.{IsCutOff, IsHeard}
 use Rattle.replay_run.specs.declared.bus.Bus.{Bus}
 use Rattle.replay_run.specs.declared.cut.Cut.{Cut}
@@ -57,7 +57,7 @@ module _ {S R : Type 0} (Goes : S → List Event → List TimedFrame → R → T
 
   -- a run that answered its calls, and its last row
   pub log-heard : ((one other third : L) (rows later : List ℕ) → Heard one rows other → Heard other later third → Heard one (rows ++ later) third)
-      → (calls : List Call) (run after : R) (middle now : L) (next : ℕ) → Goes setting [] [] run → GoesOn Goes Heard run told calls after middle
+      → (calls : List Call) (run after : R) (middle now : L) (next : ℕ) → Goes setting [] [] run → GoesOnLogging Goes Heard run told calls after middle
       → ((whole : List Event) (trace : List TimedFrame) → Goes setting whole trace after → next ≡ next_of whole) → Heard middle (end_row next) now
       → IsLogHeard Goes Heard setting calls after told now
   log-heard more calls run after middle now next fresh on count heard =
@@ -82,7 +82,7 @@ module _ {S R : Type 0} (Goes : S → List Event → List TimedFrame → R → T
     -- one whose last row was not heard
     pub cut-at_end : ((one other third : L) (rows later : List ℕ) → Heard one rows other → Broke other later third → Broke one (rows ++ later) third)
         → ((one : R) (whole : List Event) (trace : List TimedFrame) → Goes setting whole trace one → Keeps setting whole trace)
-        → (run after : R) (middle now : L) (next : ℕ) → Goes setting [] [] run → GoesOn Goes Heard run told calls after middle
+        → (run after : R) (middle now : L) (next : ℕ) → Goes setting [] [] run → GoesOnLogging Goes Heard run told calls after middle
         → ((whole : List Event) (trace : List TimedFrame) → Goes setting whole trace after → next ≡ next_of whole) → Broke middle (end_row next) now
         → IsCutOff Heard Broke (AnswersFirst Keeps setting calls) (AnswersAll Keeps setting calls) told now Write
     cut-at_end later keeps run after middle now next fresh on count broke =
@@ -101,7 +101,7 @@ module _ {S R : Type 0} (Goes : S → List Event → List TimedFrame → R → T
 module _ (laws : Promises) (system : System) (steps : List Step) (requests : List Request) where
   -- a run of the first calls of the steps
   pub begun-of : (history : List Event) (trace : List TimedFrame) (later : List Call) → map call_of history ++ later ≡ flat_map calls_of steps
-      → IsOnBus (setting_of system requests) history trace → IsBegun system steps requests history trace
+      → IsKeptOnBus (setting_of system requests) history trace → IsRunBegun system steps requests history trace
   begun-of history trace later answers is = record {
     later = later;
     answers = answers;
@@ -110,7 +110,7 @@ module _ (laws : Promises) (system : System) (steps : List Step) (requests : Lis
   }
 
   -- and of all of them
-  pub run-of : (history : List Event) (trace : List TimedFrame) → AnswersSteps history steps → IsOnBus (setting_of system requests) history trace
+  pub run-of : (history : List Event) (trace : List TimedFrame) → AnswersSteps history steps → IsKeptOnBus (setting_of system requests) history trace
       → IsRun system steps requests history trace
   run-of history trace answers is = record {
     answers = answers;
@@ -119,7 +119,7 @@ module _ (laws : Promises) (system : System) (steps : List Step) (requests : Lis
   }
 
   -- of none
-  pub begun-at_once : IsSetting (setting_of system requests) → IsUnderWay (setting_of system requests) [] [] → IsBegun system steps requests [] []
+  pub begun-at_once : IsSetting (setting_of system requests) → IsUnderWay (setting_of system requests) [] [] → IsRunBegun system steps requests [] []
   begun-at_once known way =
       begun-of [] [] (flat_map calls_of steps) refl (record { known = known; plain = record { legal = tt; now = tt }; under_way = way })
 

@@ -5,7 +5,7 @@ use Rattle.master_core.specs.History.{IsPlainlyLegal}
 use Rattle.master_core.specs.Keeping.{MasterView}
 
 -- its history has one event more for each of these calls, in their order, each change planned when it is answered
-pub record Answered (old : MasterView) (calls : List Call) (new : MasterView) : Type 0 where
+pub record HasAnsweredCalls (old : MasterView) (calls : List Call) (new : MasterView) : Type 0 where
   pub same_rules : new.rules ≡ old.rules
   pub plain : IsPlainlyLegal old.rules old.history → IsPlainlyLegal new.rules new.history
   pub answers : map call_of new.history ≡ map call_of old.history ++ calls
@@ -15,22 +15,22 @@ pub record StoppedIn (old : MasterView) (calls : List Call) (new : MasterView) :
   pub front : List Call
   pub back : List Call
   pub split : calls ≡ front ++ back
-  pub answered : Answered old front new
+  pub answered : HasAnsweredCalls old front new
 
 -- For the master that is driven
 
-pub answered-nothing : (one : MasterView) → Answered one [] one
+pub answered-nothing : (one : MasterView) → HasAnsweredCalls one [] one
 answered-nothing one = record { same_rules = refl; plain = λ plain. plain; answers = sym (append-nil (map call_of one.history)) }
 
-pub answered-more : (one other third : MasterView) (calls later : List Call) → Answered one calls other → Answered other later third
-    → Answered one (calls ++ later) third
+pub answered-more : (one other third : MasterView) (calls later : List Call) → HasAnsweredCalls one calls other → HasAnsweredCalls other later third
+    → HasAnsweredCalls one (calls ++ later) third
 answered-more one other third calls later first second = record {
   same_rules = second.same_rules ∙ first.same_rules;
   plain = λ plain. second.plain (first.plain plain);
   answers = second.answers ∙ ap (λ l. l ++ later) first.answers ∙ append_assoc (map call_of one.history) calls later;
 }
 
-pub stopped-later : (one other third : MasterView) (calls later more : List Call) → Answered one calls other → StoppedIn other later third
+pub stopped-later : (one other third : MasterView) (calls later more : List Call) → HasAnsweredCalls one calls other → StoppedIn other later third
     → StoppedIn one (calls ++ (later ++ more)) third
 stopped-later one other third calls later more first stopped = record {
   front = calls ++ stopped.front;
@@ -40,5 +40,5 @@ stopped-later one other third calls later more first stopped = record {
   answered = answered-more one other third calls stopped.front first stopped.answered;
 }
 
-pub stopped-at_once : (one other : MasterView) (calls : List Call) → Answered one [] other → StoppedIn one calls other
+pub stopped-at_once : (one other : MasterView) (calls : List Call) → HasAnsweredCalls one [] other → StoppedIn one calls other
 stopped-at_once one other calls none = record { front = []; back = calls; split = refl; answered = none }

@@ -13,7 +13,7 @@ use Rattle.replay_run.specs.Run.{calls_of, setting_of}
 
 -- a run of the first calls of the steps: the history answers them, each change planned when it is answered, and history
 -- and trace keep what is promised
-pub record IsBegun (system : System) (steps : List Step) (requests : List Request)
+pub record IsRunBegun (system : System) (steps : List Step) (requests : List Request)
     (history : List Event) (trace : List TimedFrame) : Type 0 where
   pub later : List Call
   pub answers : map call_of history ++ later ≡ flat_map calls_of steps

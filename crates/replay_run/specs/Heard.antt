@@ -16,7 +16,7 @@ PassesOn {L = L} Before Now old new = (one : L) (rows : List ℕ) → Before one
 
 module _ {O : Type 0} (told_bytes : O → Option (List ℕ)) (faults : O → ℕ) where
   -- it took these rows
-  pub record Takes (old : O) (rows : List ℕ) (new : O) : Type 0 where
+  pub record TakesRows (old : O) (rows : List ℕ) (new : O) : Type 0 where
     pub faults_never_fall : faults old ≤ faults new
     pub puts : Puts (told_bytes old) (told_bytes new) rows
 
@@ -26,14 +26,14 @@ module _ {O : Type 0} (told_bytes : O → Option (List ℕ)) (faults : O → ℕ
     pub rose : Rose (faults old) (faults new)
     pub puts : PutsPrefix (told_bytes old) (told_bytes new) rows
 
-  pub takes-nothing : (one : O) → Takes one [] one
+  pub takes-nothing : (one : O) → TakesRows one [] one
   takes-nothing one = record {
     faults_never_fall = omega arith;
     puts = Puts-nothing (told_bytes one) (told_bytes one) (Stays-same (told_bytes one) (told_bytes one) refl);
   }
 
-  pub takes-more : (one other third : O) (rows later : List ℕ) → Takes one rows other → Takes other later third
-      → Takes one (rows ++ later) third
+  pub takes-more : (one other third : O) (rows later : List ℕ) → TakesRows one rows other → TakesRows other later third
+      → TakesRows one (rows ++ later) third
   takes-more one other third rows later first second =
       let before = first.faults_never_fall in
       let after = second.faults_never_fall in
@@ -42,7 +42,7 @@ module _ {O : Type 0} (told_bytes : O → Option (List ℕ)) (faults : O → ℕ
         puts = Puts-append (told_bytes one) (told_bytes other) (told_bytes third) rows later first.puts second.puts;
       }
 
-  pub breaks-later : (one other third : O) (rows later : List ℕ) → Takes one rows other → BreaksOff other later third
+  pub breaks-later : (one other third : O) (rows later : List ℕ) → TakesRows one rows other → BreaksOff other later third
       → BreaksOff one (rows ++ later) third
   breaks-later one other third rows later first second =
       let before = first.faults_never_fall in

@@ -4,21 +4,21 @@ use Rattle.std.proofs.Common.{◌≡◌, List, [], ◌++◌, map, sym, ap, ◌�
 use Rattle.can_frame.specs.declared.data_frame.TimedFrame.{TimedFrame}
 use Rattle.master_core.specs.Calls.{Call, call_of}
 use Rattle.master_core.specs.declared.event.Event.{Event}
-use Rattle.replay_run.specs.Runs.{CanLog, GoesOn, IsCutAfter, IsCutIn, IsHeardSoFar, Start}
+use Rattle.replay_run.specs.Runs.{CanLog, GoesOnLogging, IsCutAfter, IsCutIn, IsHeardSoFar, Start}
 use Rattle.replay_run.specs.declared.cut.Cut.{Cut}
 
 module _ {S R : Type 0} (Goes : S → List Event → List TimedFrame → R → Type 0) {L : Type 0} (Heard : L → List ℕ → L → Type 0) where
-  pub goes-at_once : (one : R) (told : L) → GoesOn Goes Heard one told [] one told
+  pub goes-at_once : (one : R) (told : L) → GoesOnLogging Goes Heard one told [] one told
   goes-at_once one told = λ start before heard.
       subst (λ calls. IsHeardSoFar Goes Heard start calls one told) (sym (append-nil before)) heard
 
-  pub goes-in_turn : (one other third : R) (told middle now : L) (calls later : List Call) → GoesOn Goes Heard one told calls other middle
-      → GoesOn Goes Heard other middle later third now → GoesOn Goes Heard one told (calls ++ later) third now
+  pub goes-in_turn : (one other third : R) (told middle now : L) (calls later : List Call) → GoesOnLogging Goes Heard one told calls other middle
+      → GoesOnLogging Goes Heard other middle later third now → GoesOnLogging Goes Heard one told (calls ++ later) third now
   goes-in_turn one other third told middle now calls later first second = λ start before heard.
       subst (λ all. IsHeardSoFar Goes Heard start all third now) (append_assoc before calls later)
       (second start (before ++ calls) (first start before heard))
 
-  pub ready-still : (one other : R) (told now : L) (calls : List Call) → CanLog Goes Heard one told → GoesOn Goes Heard one told calls other now
+  pub ready-still : (one other : R) (told now : L) (calls : List Call) → CanLog Goes Heard one told → GoesOnLogging Goes Heard one told calls other now
       → CanLog Goes Heard other now
   ready-still one other told now calls can on = (can.0, can.1 ++ calls, on can.0 can.1 can.2)
 
@@ -38,7 +38,7 @@ module _ {S R : Type 0} (Goes : S → List Event → List TimedFrame → R → T
     heard = is.heard;
   }
 
-  pub cut-later : (one other : R) (told middle now : L) (calls later more : List Call) (why : Cut) → GoesOn Goes Heard one told calls other middle
+  pub cut-later : (one other : R) (told middle now : L) (calls later more : List Call) (why : Cut) → GoesOnLogging Goes Heard one told calls other middle
       → IsCutAfter Heard Broke Keeps Goes other middle later now why → IsCutAfter Heard Broke Keeps Goes one told (calls ++ (later ++ more)) now why
   cut-later one other told middle now calls later more why first cut = λ start before heard.
       let all : ((before ++ calls) ++ later) ++ more ≡ before ++ (calls ++ (later ++ more)) =

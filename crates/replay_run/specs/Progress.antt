@@ -19,7 +19,7 @@ use Rattle.kept_run.specs.Progress.{IsOnTheWay, IsUnderWay}
 use Rattle.kept_run.specs.Setting.{IsSetting, Setting}
 use Rattle.bus_trace.specs.EventRows.{HasItsFrames, rows_of_event}
 use Rattle.bus_trace.specs.Log.{events_rows, triggers_in}
-use Rattle.bus_trace.specs.Logged.{IsNear}
+use Rattle.bus_trace.specs.Logged.{IsEventNear}
 use Rattle.replay_run.specs.Written.{KeepsFrames}
 use Rattle.replay_run.specs.declared.bus.Bus.{Bus}
 
@@ -47,17 +47,17 @@ pub record GoesStill (old new : Bus) : Type 0 where
   pub going : (setting : Setting) (trace : List TimedFrame) → IsGoing setting trace old → IsGoing setting trace new
 
 -- where frames are kept, there is room for those of one cycle more
-abbrev pub HasRoom : {B : Type 0} → Option (Vec TimedFrame B) → Type 0
-HasRoom None = Unit {0}
-HasRoom (Some kept) = vec_len kept + 2128 ≤ vec_capacity kept
+abbrev pub HasTraceRoom : {B : Type 0} → Option (Vec TimedFrame B) → Type 0
+HasTraceRoom None = Unit {0}
+HasTraceRoom (Some kept) = vec_len kept + 2128 ≤ vec_capacity kept
 
 -- all memory is taken that the next cycle needs: for its event, for what the nodes may have to learn, for its frames, and
 -- for them where frames are kept
-pub record IsReady (bus : Bus) : Type 0 where
+pub record IsBusReady (bus : Bus) : Type 0 where
   pub event : 1 ≤ bus.master.spare
   pub entries : length (placed_of bus.master.history) ≤ bus.spare
   pub room : bus.nodes.layout.cycle / shortest_frame + 1 ≤ vec_capacity bus.room
-  pub frames : HasRoom bus.trace
+  pub frames : HasTraceRoom bus.trace
 
 -- the frames of a cycle that was opened behind this history, which begin with the trigger frames that are due
 pub record BeginWithTriggers (rules : Rules) (history : List Event) (frames : List TimedFrame) : Type 0 where
@@ -75,7 +75,7 @@ pub record EndsIn (history : List Event) (event : Event) : Type 0 where
 pub record CanTellLast (history : List Event) (frames : List TimedFrame) : Type 0 where
   pub event : Event
   pub ends : EndsIn history event
-  pub near : IsNear event
+  pub near : IsEventNear event
   pub its : HasItsFrames event frames
 
 -- the run was brought on by one event, with these frames; behind each legal history with the same placed entries and the
@@ -124,12 +124,12 @@ pub record IsBusAt (on : BusSetting) (history : List Event) (trace : List TimedF
 
 -- what a history and a trace on a bus keep: the trace is that of the history's cycles, and each change is planned when it
 -- is answered
-pub record IsOnBus (setting : Setting) (history : List Event) (trace : List TimedFrame) : Type 0 where
+pub record IsKeptOnBus (setting : Setting) (history : List Event) (trace : List TimedFrame) : Type 0 where
   pub known : IsSetting setting
   pub plain : IsPlainlyLegal setting.rules history
   pub under_way : IsUnderWay setting history trace
 
 pub on-bus : (on : BusSetting) (history : List Event) (trace : List TimedFrame) (bus : Bus) → IsBusAt on history trace bus
-    → IsOnBus on.setting history trace
-on-bus on history trace bus is = subst (λ h. IsOnBus on.setting h trace) is.history_is
+    → IsKeptOnBus on.setting history trace
+on-bus on history trace bus is = subst (λ h. IsKeptOnBus on.setting h trace) is.history_is
     (record { known = is.going.way.known; plain = is.going.plain; under_way = is.going.way.under_way })

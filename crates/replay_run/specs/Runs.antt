@@ -61,8 +61,8 @@ module _ {S R : Type 0} (Goes : S → List Event → List TimedFrame → R → T
   CanLog run now = (start : Start S L) × (calls : List Call) × IsHeardSoFar start calls run now
 
   -- the run has answered these calls after those before, and its rows are heard
-  abbrev pub GoesOn : R → L → List Call → R → L → Type 0
-  GoesOn old told calls new now = (start : Start S L) (before : List Call)
+  abbrev pub GoesOnLogging : R → L → List Call → R → L → Type 0
+  GoesOnLogging old told calls new now = (start : Start S L) (before : List Call)
       → IsHeardSoFar start before old told → IsHeardSoFar start (before ++ calls) new now
 
   -- the run has answered these calls from its first one on, and its log was heard

@@ -8,7 +8,7 @@ use Rattle.master_core.specs.declared.event.Event.{Event}
 use Rattle.ftt_io.specs.Puts.{Puts, PutsPrefix}
 use Rattle.bus_trace.specs.LastRows.{last_rows}
 use Rattle.bus_trace.specs.Log.{events_rows, log_text}
-use Rattle.replay_run.specs.Begun.{IsBegun}
+use Rattle.replay_run.specs.Begun.{IsRunBegun}
 use Rattle.replay_run.specs.Run.{IsRun}
 
 -- where frames are kept, they are these
@@ -29,7 +29,7 @@ pub record IsCutShort (system : System) (steps : List Step) (requests : List Req
     : Type 0 where
   pub history : List Event
   pub trace : List TimedFrame
-  pub begun : IsBegun system steps requests history trace
+  pub begun : IsRunBegun system steps requests history trace
   pub puts : PutsPrefix old new (events_rows trace [] history)
 
 -- the run of the steps, of whose log the first bytes were put
@@ -41,8 +41,8 @@ pub record IsCutInLog (system : System) (steps : List Step) (requests : List Req
   pub puts : PutsPrefix old new (log_text history trace)
 
 -- a run was cut short, or the writing of its last row was
-abbrev pub IsCut : System → List Step → List Request → Option (List ℕ) → Option (List ℕ) → Type 0
-IsCut system steps requests old new =
+abbrev pub IsRunCut : System → List Step → List Request → Option (List ℕ) → Option (List ℕ) → Type 0
+IsRunCut system steps requests old new =
     IsCutShort system steps requests old new ⊎ IsCutInLog system steps requests old new
 
 -- a run of the first calls of the steps, all of whose rows were put
@@ -50,7 +50,7 @@ pub record IsStopped (system : System) (steps : List Step) (requests : List Requ
     : Type 0 where
   pub history : List Event
   pub trace : List TimedFrame
-  pub begun : IsBegun system steps requests history trace
+  pub begun : IsRunBegun system steps requests history trace
   pub puts : Puts old new (events_rows trace [] history)
 
 -- the run of the steps with this history, of whose log these are the last rows, so many or all; where frames were kept,

@@ -17,7 +17,7 @@ use steps_file::Step;
 impl Driven for Master {
     ghost use Rattle.std.specs.Prelude.{⊤};
     ghost use Rattle.master_core.specs.History.{next_of};
-    ghost use Rattle.replay_run.specs.Answered.{Answered, StoppedIn, answered-nothing, answered-more, stopped-later};
+    ghost use Rattle.replay_run.specs.Answered.{HasAnsweredCalls, StoppedIn, answered-nothing, answered-more, stopped-later};
 
     type Stop = AllocError;
 
@@ -25,7 +25,7 @@ impl Driven for Master {
 
     ghost cycles = { λ master. next_of master.history };
 
-    ghost goes_on = { Answered };
+    ghost goes_on = { HasAnsweredCalls };
 
     ghost stops = { λ old calls new why. StoppedIn old calls new };
 

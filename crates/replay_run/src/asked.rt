@@ -16,7 +16,7 @@ use steps_file::Step;
 
 /// The placed entries after some calls on a bus of so many nodes and slots, and the number of cycles that these open.
 #[derive(Drop)]
-struct Asked {
+struct AskedEntries {
     nodes: u8,
     slots: u8,
     placed: Vec<Placed>,
@@ -24,7 +24,7 @@ struct Asked {
 }
 
 /// Applies a change where it breaks no rule and its start has not passed.
-fn ask(asked: &mut Asked, alloc: Global, change: &Change) -> Result<(), AllocError>
+fn ask(asked: &mut AskedEntries, alloc: Global, change: &Change) -> Result<(), AllocError>
     requires can_apply { CanApply asked.old }
     ensures can_apply { OnOk result (CanApply asked.new) }
     ensures bounds { OnOk result (bounds_in asked.new ≡ bounds_in asked.old) }
@@ -51,9 +51,9 @@ fn ask(asked: &mut Asked, alloc: Global, change: &Change) -> Result<(), AllocErr
     }
 }
 
-impl Driven for Asked {
+impl Driven for AskedEntries {
     ghost use Rattle.std.specs.Prelude.{⊤};
-    ghost use Rattle.replay_run.specs.Asked.{CanApply, GoesOn, on-nothing, on-more};
+    ghost use Rattle.replay_run.specs.Asked.{CanApply, IsAskedAfter, on-nothing, on-more};
 
     type Stop = AllocError;
 
@@ -61,7 +61,7 @@ impl Driven for Asked {
 
     ghost cycles = { λ asked. asked.next };
 
-    ghost goes_on = { GoesOn };
+    ghost goes_on = { IsAskedAfter };
 
     ghost stops = { λ old calls new why. ⊤ };
 
@@ -103,7 +103,7 @@ pub fn asked_table(alloc: Global, rules: &Rules, steps: &[Step]) -> Result<Vec<P
     ensures placed { IfOk result (λ placed. placed.items ≡ (table_of (bounds_by rules.now) steps.now).placed) }
     ensures well_placed { IfOk result (λ placed. IsWellPlaced placed.items) }
 {
-    let mut asked = Asked {
+    let mut asked = AskedEntries {
         nodes: rules.nodes,
         slots: rules.slots,
         placed: Vec::new(alloc),

@@ -10,10 +10,10 @@ ghost use Rattle.system_file.specs.SystemFile.{IsSystem};
 ghost use Rattle.requests_file.specs.RequestsFile.{AreLegal};
 ghost use Rattle.master_core.specs.Calls.{asked, call_of, opens};
 ghost use Rattle.master_core.specs.History.{next_of};
-ghost use Rattle.kept_run.specs.Progress.{AreReady};
+ghost use Rattle.kept_run.specs.Progress.{AreNodesReady};
 ghost use Rattle.kept_run.specs.Setting.{IsSetting};
 ghost use Rattle.cycle_engine.specs.Nodes.{HaveSpare, states_of};
-ghost use Rattle.replay_run.specs.Progress.{BeginWithTriggers, BringsOn, CanGo, CanTellLast, GoesStill, HasRoom, IsGoing, IsReady};
+ghost use Rattle.replay_run.specs.Progress.{BeginWithTriggers, BringsOn, CanGo, CanTellLast, GoesStill, HasTraceRoom, IsBusReady, IsGoing};
 ghost use Rattle.replay_run.specs.Progress.{RunsNext};
 ghost use Rattle.replay_run.specs.Run.{setting_of};
 ghost use Rattle.replay_run.specs.Written.{KeepsFrames};
@@ -62,7 +62,7 @@ fn kept_frames(frames: Vec<TimedFrame>, keeps: bool) -> Option<Vec<TimedFrame>>
 fn make_room(trace: &mut Option<Vec<TimedFrame>>) -> Result<(), AllocError>
     ensures same { (past : List TimedFrame) → KeepsFrames trace.old past → KeepsFrames trace.new past }
     ensures kept { is_some trace.new ≡ is_some trace.old }
-    ensures room { OnOk result (HasRoom trace.new) }
+    ensures room { OnOk result (HasTraceRoom trace.new) }
 {
     match trace {
         Some(kept) => kept.reserve(MOST_FRAMES),
@@ -72,7 +72,7 @@ fn make_room(trace: &mut Option<Vec<TimedFrame>>) -> Result<(), AllocError>
 
 /// Appends the frames of a cycle, where they are kept. There is room for them.
 fn keep(trace: &mut Option<Vec<TimedFrame>>, frames: &[TimedFrame])
-    requires room { HasRoom trace.old }
+    requires room { HasTraceRoom trace.old }
     requires few { length frames.now ≤ 2128 }
     ensures frames { (past : List TimedFrame)
         → KeepsFrames trace.old past → KeepsFrames trace.new (past ++ frames.now) }
@@ -143,7 +143,7 @@ pub fn fresh_nodes(
 ) -> Result<Nodes, AllocError>
     requires system { IsSystem system.now }
     requires requests { AreLegal system.now.owners requests.now }
-    ensures ready { IfOk result (AreReady (setting_of system.now requests.now) [] []) }
+    ensures ready { IfOk result (AreNodesReady (setting_of system.now requests.now) [] []) }
 {
     beginning();
     let System {
@@ -197,7 +197,7 @@ impl Bus {
     pub fn make_ready(&mut self, alloc: Global) -> Result<(), AllocError>
         requires going { CanGo self.old }
         ensures still { GoesStill self.old self.new }
-        ensures ready { OnOk result (IsReady self.new) }
+        ensures ready { OnOk result (IsBusReady self.new) }
     {
         self.master.reserve(alloc, 1)?;
         make_room(&mut self.trace)?;
@@ -209,7 +209,7 @@ impl Bus {
     /// Opens the next cycle, and runs it on the bus. Its frames are the segment then. It takes no memory.
     pub fn run_next(&mut self)
         requires going { CanGo self.old }
-        requires ready { IsReady self.old }
+        requires ready { IsBusReady self.old }
         requires few { next_of self.old.master.history < most_cycles }
         ensures on { BringsOn self.old self.new self.new.segment }
         ensures follows { RunsNext self.old self.new self.new.segment }

@@ -24,7 +24,7 @@ ghost use Rattle.bus_trace.specs.Log.{events_rows, log_text, triggers_in};
 ghost use Rattle.kept_run.specs.Kept.{Kept};
 ghost use Rattle.kept_run.specs.Progress.{IsUnderWay};
 ghost use Rattle.kept_run.specs.Setting.{IsSetting, Setting};
-ghost use Rattle.replay_run.specs.Begun.{IsBegun};
+ghost use Rattle.replay_run.specs.Begun.{IsRunBegun};
 ghost use Rattle.replay_run.specs.Run.{AnswersSteps, IsRun, setting_of};
 
 use admission::laws::one_verdict;
@@ -56,11 +56,11 @@ pub fn beginnings()
         → map call_of history ++ later ≡ map call_of whole
         → (rest : List Event) × (whole ≡ history ++ rest) }
     ensures history { (system : System) (steps : List Step) (requests : List Request) (history whole : List Event)
-        (trace frames : List TimedFrame) → IsBegun system steps requests history trace
+        (trace frames : List TimedFrame) → IsRunBegun system steps requests history trace
         → IsRun system steps requests whole frames
         → (rest : List Event) × (whole ≡ history ++ rest) }
     ensures trace { (system : System) (steps : List Step) (requests : List Request) (history whole : List Event)
-        (trace frames : List TimedFrame) → IsSystem system → IsBegun system steps requests history trace
+        (trace frames : List TimedFrame) → IsSystem system → IsRunBegun system steps requests history trace
         → IsRun system steps requests whole frames
         → (rest : List TimedFrame) × (frames ≡ trace ++ rest)
         × All (λ sent. next_of history * system.layout.cycle ≤ sent.start) rest }
@@ -126,7 +126,7 @@ pub fn rows_of_fronts()
 pub fn rows_so_far()
     ensures front { (system : System) (steps : List Step) (requests : List Request) (history whole : List Event)
         (trace frames : List TimedFrame) → IsSystem system → AreLegal system.owners requests
-        → IsBegun system steps requests history trace → IsRun system steps requests whole frames
+        → IsRunBegun system steps requests history trace → IsRun system steps requests whole frames
         → (rest : List ℕ) × (log_text whole frames ≡ events_rows trace [] history ++ rest) }
 {
     beginnings();

@@ -24,5 +24,5 @@ pub use cut::Cut;
 pub use driver::{Driven, drive};
 pub use listener::{Listener, ToSink};
 pub use logging::log_run;
-pub use replaying::{Run, Tailed, Written, replay, replay_tail, replay_to};
+pub use replaying::{ReplayedRun, Tailed, Written, replay, replay_tail, replay_to};
 pub use runs::Runs;

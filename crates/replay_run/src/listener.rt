@@ -4,7 +4,7 @@ ghost use Rattle.std.specs.Prelude.{◌≡◌, ◌≤◌, ◌+◌, ◌++◌, [],
 ghost use Rattle.bus_trace.specs.EventRows.{HasItsFrames, rows_of_event};
 ghost use Rattle.bus_trace.specs.LastRows.{AreRows, last_rows, rows_in};
 ghost use Rattle.bus_trace.specs.Log.{end_row};
-ghost use Rattle.bus_trace.specs.Logged.{IsNear};
+ghost use Rattle.bus_trace.specs.Logged.{IsEventNear};
 ghost use Rattle.replay_run.specs.Heard.{HoldsLast, PassesOn, rows_held};
 
 use bus_trace::laws::rows_are_whole;
@@ -26,7 +26,7 @@ pub trait Listener {
 
     /// Hears the rows of an event and of the frames of the cycle that it opened.
     fn hear(&mut self, alloc: Global, event: &Event, frames: &[TimedFrame]) -> Result<(), Failed>
-        requires near { IsNear event.now }
+        requires near { IsEventNear event.now }
         requires frames { HasItsFrames event.now frames.now }
         ensures heard { OnOk result (heard self.old (rows_of_event event.now frames.now) self.new) }
         ensures broke { OnErr result (broke self.old (rows_of_event event.now frames.now) self.new) };
@@ -94,10 +94,10 @@ pub struct ToSink<'a, O> {
 impl<'a, O: Sink> Listener for ToSink<'a, O> {
     ghost use Rattle.std.specs.Prelude.{◌≡◌, refl};
     ghost use Rattle.std.proofs.Common.{◌∙◌};
-    ghost use Rattle.replay_run.specs.Heard.{BreaksOff, Takes, breaks-later, takes-more, takes-nothing};
+    ghost use Rattle.replay_run.specs.Heard.{BreaksOff, TakesRows, breaks-later, takes-more, takes-nothing};
 
     ghost heard = { λ old rows new. (new.out.ghost_name ≡ old.out.ghost_name)
-        × Takes O.told_bytes O.faults old.out.now rows new.out.now };
+        × TakesRows O.told_bytes O.faults old.out.now rows new.out.now };
 
     ghost broke = { λ old rows new. (new.out.ghost_name ≡ old.out.ghost_name)
         × BreaksOff O.told_bytes O.faults old.out.now rows new.out.now };
@@ -174,7 +174,7 @@ impl Tail {
 
     /// Puts the rows of an event behind the others.
     fn add(&mut self, event: &Event, frames: &[TimedFrame]) -> Result<(), Failed>
-        requires near { IsNear event.now }
+        requires near { IsEventNear event.now }
         requires frames { HasItsFrames event.now frames.now }
         ensures older { self.new.older.text.items ≡ self.old.older.text.items }
         ensures newer { OnOk result

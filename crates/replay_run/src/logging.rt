@@ -9,10 +9,10 @@ ghost use Rattle.requests_file.specs.RequestsFile.{AreLegal};
 ghost use Rattle.steps_file.specs.StepsFile.{AreLegalSteps};
 ghost use Rattle.master_core.specs.Calls.{asked, opens};
 ghost use Rattle.master_core.specs.History.{next_of};
-ghost use Rattle.replay_run.specs.Begun.{IsBegun};
+ghost use Rattle.replay_run.specs.Begun.{IsRunBegun};
 ghost use Rattle.replay_run.specs.Progress.{CanTellLast};
 ghost use Rattle.replay_run.specs.Run.{IsRun, calls_of};
-ghost use Rattle.replay_run.specs.Runs.{CanLog, GoesOn, HearsLast, AnswersAll, IsCutAfter, AnswersFirst, IsLogHeard};
+ghost use Rattle.replay_run.specs.Runs.{CanLog, GoesOnLogging, HearsLast, AnswersAll, IsCutAfter, AnswersFirst, IsLogHeard};
 ghost use Rattle.replay_run.specs.Whole.{IsCutOff, IsHeard};
 
 use crate::bus::{Bus, in_ranges};
@@ -59,7 +59,7 @@ fn tell_last<L: Listener>(
 fn open_next<R: Runs, L: Listener>(run: &mut R, listener: &mut L, alloc: Global) -> Result<(), Cut>
     requires ready { CanLog R.goes L.heard run.old listener.old }
     requires few { next_of (R.bus run.old).master.history < most_cycles }
-    ensures goes_on { OnOk result (GoesOn R.goes L.heard run.old listener.old (opens ∷ []) run.new listener.new) }
+    ensures goes_on { OnOk result (GoesOnLogging R.goes L.heard run.old listener.old (opens ∷ []) run.new listener.new) }
     ensures next { OnOk result
         (next_of (R.bus run.new).master.history ≡ next_of (R.bus run.old).master.history + 1) }
     ensures stops { IfErr result
@@ -83,7 +83,7 @@ fn answer_act<R: Runs, L: Listener>(
     requires few { next_of (R.bus run.old).master.history ≤ most_cycles }
     requires caller { (1 ≤ caller) × (caller ≤ 8) }
     ensures goes_on { OnOk result
-        (GoesOn R.goes L.heard run.old listener.old (asked caller act.now ∷ []) run.new listener.new) }
+        (GoesOnLogging R.goes L.heard run.old listener.old (asked caller act.now ∷ []) run.new listener.new) }
     ensures next { OnOk result
         (next_of (R.bus run.new).master.history ≡ next_of (R.bus run.old).master.history) }
     ensures stops { IfErr result
@@ -96,7 +96,7 @@ fn answer_act<R: Runs, L: Listener>(
 
 /// Has the rows so far passed on. No row is told, and no call answered.
 fn pass_on<R: Runs, L: Listener>(run: &R, listener: &mut L) -> Result<(), Cut>
-    ensures goes_on { OnOk result (GoesOn R.goes L.heard run.now listener.old [] run.now listener.new) }
+    ensures goes_on { OnOk result (GoesOnLogging R.goes L.heard run.now listener.old [] run.now listener.new) }
     ensures stops { IfErr result
         (IsCutAfter L.heard L.broke R.keeps R.goes run.now listener.old [] listener.new) }
 {
@@ -108,7 +108,7 @@ impl<'a, R: Runs, L: Listener> Driven for Logged<'a, R, L> {
     ghost use Rattle.std.specs.Prelude.{◌≡◌, refl};
     ghost use Rattle.std.proofs.Common.{◌∙◌};
     ghost use Rattle.master_core.specs.History.{next_of};
-    ghost use Rattle.replay_run.specs.Runs.{CanLog, GoesOn, IsCutAfter};
+    ghost use Rattle.replay_run.specs.Runs.{CanLog, GoesOnLogging, IsCutAfter};
     ghost use Rattle.replay_run.specs.Logging.{cut-later, goes-at_once, goes-in_turn, ready-still};
 
     type Stop = Cut;
@@ -119,7 +119,7 @@ impl<'a, R: Runs, L: Listener> Driven for Logged<'a, R, L> {
 
     ghost goes_on = { λ old calls new. (new.run.ghost_name ≡ old.run.ghost_name)
         × (new.listener.ghost_name ≡ old.listener.ghost_name)
-        × GoesOn R.goes L.heard old.run.now old.listener.now calls new.run.now new.listener.now };
+        × GoesOnLogging R.goes L.heard old.run.now old.listener.now calls new.run.now new.listener.now };
 
     ghost stops = { λ old calls new why. (new.run.ghost_name ≡ old.run.ghost_name)
         × (new.listener.ghost_name ≡ old.listener.ghost_name)
@@ -168,7 +168,7 @@ fn log_calls<R: Runs, L: Listener>(
     requires first { next_of (R.bus run.old).master.history ≡ 0 }
     requires steps { AreLegalSteps steps.now }
     ensures goes_on { OnOk result
-        (GoesOn R.goes L.heard run.old listener.old (flat_map calls_of steps.now) run.new listener.new) }
+        (GoesOnLogging R.goes L.heard run.old listener.old (flat_map calls_of steps.now) run.new listener.new) }
     ensures stops { IfErr result (IsCutAfter L.heard L.broke R.keeps R.goes
         run.old listener.old (flat_map calls_of steps.now) listener.new) }
 {
@@ -227,7 +227,7 @@ pub fn log_steps<L: Listener>(
     ensures rules { IfOk result (λ bus. bus.master.rules ≡ system.now.rules) }
     ensures kept { IfOk result (λ bus. is_some bus.trace ≡ keeps) }
     ensures events { IfOk result (λ bus. bus.master.keeps ≡ keeps) }
-    ensures cut { IfErr result (IsCutOff L.heard L.broke (IsBegun system.now steps.now requests.now)
+    ensures cut { IfErr result (IsCutOff L.heard L.broke (IsRunBegun system.now steps.now requests.now)
         (IsRun system.now steps.now requests.now) listener.old listener.new) }
 {
     promise();

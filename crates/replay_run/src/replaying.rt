@@ -6,7 +6,7 @@ ghost use Rattle.system_file.specs.SystemFile.{IsSystem};
 ghost use Rattle.requests_file.specs.RequestsFile.{AreLegal};
 ghost use Rattle.steps_file.specs.StepsFile.{AreLegalSteps};
 ghost use Rattle.replay_run.specs.Run.{IsRun};
-ghost use Rattle.replay_run.specs.Written.{HasLastRows, IsCut, IsStopped, IsWritten};
+ghost use Rattle.replay_run.specs.Written.{HasLastRows, IsRunCut, IsStopped, IsWritten};
 
 use crate::bus::Bus;
 use crate::cut::Cut;
@@ -22,7 +22,7 @@ use system_file::System;
 
 /// A run behind its last step.
 #[derive(Drop)]
-pub struct Run {
+pub struct ReplayedRun {
     /// The master, with all calls and their answers.
     pub master: Master,
     /// The frames on the bus, in the order of their starts.
@@ -58,7 +58,7 @@ pub fn replay(
     system: &System,
     steps: &[Step],
     requests: &[Request],
-) -> Result<Run, AllocError>
+) -> Result<ReplayedRun, AllocError>
     requires system { IsSystem system.now }
     requires steps { AreLegalSteps steps.now }
     requires requests { AreLegal system.now.owners requests.now }
@@ -68,7 +68,7 @@ pub fn replay(
     match log_steps(alloc, system, steps, requests, true, &mut Silence) {
         Ok(Bus { master, trace, .. }) => match trace {
             Some(trace) => match master.into_master() {
-                Some(master) => Ok(Run { master, trace }),
+                Some(master) => Ok(ReplayedRun { master, trace }),
                 None => unreachable!(),
             },
             None => unreachable!(),
@@ -103,7 +103,7 @@ pub fn replay_to<O: Sink>(
     ensures rules { IfOk result (λ run. run.master.rules ≡ system.now.rules) }
     ensures kept { IfOk result (λ run. is_some run.trace ≡ keeps) }
     ensures events { IfOk result (λ run. run.master.keeps ≡ keeps) }
-    ensures cut { OnErr result (IsCut system.now steps.now requests.now (O.told_bytes out.old) (O.told_bytes out.new)) }
+    ensures cut { OnErr result (IsRunCut system.now steps.now requests.now (O.told_bytes out.old) (O.told_bytes out.new)) }
     ensures stopped { IsErrOf result Cut.Memory
         → IsStopped system.now steps.now requests.now (O.told_bytes out.old) (O.told_bytes out.new) }
     ensures failed { IsErrOf result Cut.Write → Rose (O.faults out.old) (O.faults out.new) }

@@ -85,13 +85,13 @@ pub trait Runs {
 }
 
 impl Runs for Bus {
-    ghost use Rattle.replay_run.specs.Progress.{BusSetting, IsBusAt, IsOnBus, on-bus};
+    ghost use Rattle.replay_run.specs.Progress.{BusSetting, IsBusAt, IsKeptOnBus, on-bus};
 
     ghost Setting = { BusSetting };
 
     ghost goes = { IsBusAt };
 
-    ghost keeps = { λ on. IsOnBus on.setting };
+    ghost keeps = { λ on. IsKeptOnBus on.setting };
 
     ghost bus = { λ bus. bus };
 

@@ -14,9 +14,9 @@ abbrev pub AreRequests : List Owner → List (List (List ℕ)) → List Request 
 AreRequests owners rows requests = AreItems (meaning owners) rows requests
 
 -- the fault that rows give; want of memory says nothing of them
-abbrev pub Faults : List Owner → List (List (List ℕ)) → RequestFault → Type 0
-Faults owners rows (Row number why) = IsFirstFault (meaning owners) rows number why
-Faults owners rows Memory = ⊤
+abbrev pub IsRequestFault : List Owner → List (List (List ℕ)) → RequestFault → Type 0
+IsRequestFault owners rows (Row number why) = IsFirstFault (meaning owners) rows number why
+IsRequestFault owners rows Memory = ⊤
 
 -- what holds of the requests of a file, for these owners
 pub record AreLegal (owners : List Owner) (requests : List Request) : Type 0 where

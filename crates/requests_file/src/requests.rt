@@ -17,7 +17,7 @@ ghost use Rattle.requests_file.specs.RequestRow.{bytes_in, is_owned, arrival_abo
 ghost use Rattle.requests_file.specs.RequestOwners.{IsOwnedTable};
 ghost use Rattle.async_window.specs.declared.request.Owner.{Owner};
 ghost use Rattle.requests_file.specs.declared.request_fault.RequestFault.TheVariants.{Memory};
-ghost use Rattle.requests_file.specs.RequestsFile.{AreRequests, Faults, AreLegal, requests_of};
+ghost use Rattle.requests_file.specs.RequestsFile.{AreRequests, IsRequestFault, AreLegal, requests_of};
 
 use super::request_fault::{RequestFault, RequestWhy};
 use async_window::{Owner, Request};
@@ -179,7 +179,7 @@ pub fn read_requests(
     owners: &[Owner],
 ) -> Result<Vec<Request>, RequestFault>
     ensures ok { IfOk result (λ requests. AreRequests owners.now (rows_of bytes.now) requests.items) }
-    ensures fault { IfErr result (Faults owners.now (rows_of bytes.now)) }
+    ensures fault { IfErr result (IsRequestFault owners.now (rows_of bytes.now)) }
     ensures legal { IfOk result (λ requests. AreLegal owners.now requests.items) }
     ensures value { MatchResult result (λ requests. requests_of owners.now bytes.now ≡ Ok requests.items)
         (λ fault. (fault ≡ Memory) ⊎ (requests_of owners.now bytes.now ≡ Err fault)) }

@@ -13,7 +13,7 @@ use Rattle.planner_policies.specs.declared.Fill.{Fill}
 use Rattle.planner_policies.specs.declared.Fill.TheVariants.{Prefix, Skip}
 use Rattle.master_core.specs.declared.saved.Saved.{Saved}
 use Rattle.saved_state.specs.Checksum.{checksum}
-use Rattle.saved_state.specs.Bytes.{AreBytesOf, bytes_of, IsTyped, IsTypedPlaced, bool_number, bytes_of_numbers, end_number, form, has_number, fill_number, list_numbers, numbers_of, placed_numbers, policy_number}
+use Rattle.saved_state.specs.Bytes.{AreBytesOf, bytes_of, IsTypedSaved, IsTypedPlaced, bool_number, bytes_of_numbers, end_number, form, has_number, fill_number, list_numbers, numbers_of, placed_numbers, policy_number}
 use Rattle.saved_state.specs.Numbers.{bool_in, end_in, fill_in, numbers_in, placed_in, places_in, policy_in, state_in}
 
 -- one more number of so many that are left
@@ -100,7 +100,7 @@ pending-in : (n : ℕ) → n < 2 ^ 96 → n / 2 ^ 64 % 2 ^ 32 * 2 ^ 64 + n % 2 ^
 pending-in n l = omega arith
 
 -- a state is that of its numbers
-pub state-in : (saved : Saved) → IsTyped saved → state_in (numbers_of saved) ≡ saved
+pub state-in : (saved : Saved) → IsTypedSaved saved → state_in (numbers_of saved) ≡ saved
 unfolding state_in
 state-in saved typed =
     let count : length (list_numbers saved.placed) / 10 ≡ length saved.placed = let all = list-length saved.placed in omega (arith, all) in
@@ -145,7 +145,7 @@ list-below [] typed = none-below
 list-below (p ∷ ps) typed = placed-below p (list_numbers ps) (All-head IsTypedPlaced p ps typed) (list-below ps (All-tail IsTypedPlaced p ps typed))
 
 -- the numbers of a state have eight bytes
-numbers-below : (saved : Saved) → IsTyped saved → AreBelow (numbers_of saved)
+numbers-below : (saved : Saved) → IsTypedSaved saved → AreBelow (numbers_of saved)
 numbers-below saved typed =
     let h = typed.head in
     let r = saved.rules in
@@ -173,7 +173,7 @@ numbers-in saved bytes are =
     ∙ ap (λ x. from_le_bytes w64 (to_le_bytes w64 sum) ∷ x) (numbers-of-bytes ns (numbers-below saved are.typed))
 
 -- what is written
-pub written : (saved : Saved) (ns behind all : List ℕ) → IsTyped saved → ns ≡ numbers_of saved → behind ≡ bytes_of_numbers ns
+pub written : (saved : Saved) (ns behind all : List ℕ) → IsTypedSaved saved → ns ≡ numbers_of saved → behind ≡ bytes_of_numbers ns
     → all ≡ to_le_bytes w64 (checksum behind) ++ behind → AreBytesOf saved all
 unfolding bytes_of
 written saved ns behind all typed is wide sum = record {

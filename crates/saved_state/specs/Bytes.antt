@@ -92,11 +92,11 @@ pub record IsTypedHead (rules : Rules) (state : PlanState) (accepted : ℕ) : Ty
   pub changes : accepted < 2 ^ 64
 
 -- and those of a state
-pub record IsTyped (saved : Saved) : Type 0 where
+pub record IsTypedSaved (saved : Saved) : Type 0 where
   pub head : IsTypedHead saved.rules saved.state saved.accepted
   pub placed : All IsTypedPlaced saved.placed
 
 -- *Bytes of a state*
 pub record AreBytesOf (saved : Saved) (bytes : List ℕ) : Type 0 where
-  pub typed : IsTyped saved
+  pub typed : IsTypedSaved saved
   pub are : bytes ≡ bytes_of saved

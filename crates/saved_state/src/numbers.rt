@@ -1,7 +1,7 @@
 //! The numbers of a state, and the state that numbers stand for.
 
 ghost use Rattle.std.specs.Prelude.{◌≡◌, ◌<◌, ◌/◌, ◌++◌, All, IfOk, IfSome, None, length};
-ghost use Rattle.saved_state.specs.Bytes.{IsTyped, IsTypedPlaced, IsTypedHead, fill_number, head_numbers, list_numbers, numbers_of, placed_numbers, policy_number};
+ghost use Rattle.saved_state.specs.Bytes.{IsTypedSaved, IsTypedPlaced, IsTypedHead, fill_number, head_numbers, list_numbers, numbers_of, placed_numbers, policy_number};
 ghost use Rattle.saved_state.specs.Numbers.{fill_in, placed_in, places_in, policy_in, state_in};
 
 use admission_rules::Rules;
@@ -93,7 +93,7 @@ fn head_numbers(
 /// The numbers of a state.
 pub fn numbers_of(alloc: Global, saved: &Saved) -> Result<Vec<u64>, AllocError>
     ensures numbers { IfOk result (λ numbers. numbers.items ≡ numbers_of saved.now) }
-    ensures typed { IfOk result (λ numbers. IsTyped saved.now) }
+    ensures typed { IfOk result (λ numbers. IsTypedSaved saved.now) }
 {
     let head = head_numbers(
         saved.rules,

@@ -5,14 +5,14 @@ use Rattle.std.proofs.lemmas.Option.{same_Some}
 use Rattle.std.proofs.Math.Nat.{div-lt_iff_lt-mul}
 use Rattle.std.specs.List.{slice_get}
 use Rattle.sporadic_poll.specs.declared.stream.Stream.{Stream}
-use Rattle.sporadic_poll.specs.Polling.{IsCarriedInTime, IsPolled, Stands, arrival_cycle}
+use Rattle.sporadic_poll.specs.Polling.{IsCarriedInTime, IsPolled, IsStreamAt, arrival_cycle}
 use Rattle.sporadic_poll.specs.Ride.{IsOfSlot, IsRide}
 use Rattle.sporadic_poll.specs.Waiting.{next_before}
 use Rattle.sporadic_poll.proofs.OneRide.{by_instance, walked}
 
 module _ (layout_cycle : ℕ) (streams : List Stream) (slot : ℕ) (lengths carried : ℕ → Option ℕ) (ride : IsRide layout_cycle streams slot lengths carried) (period entry_length : ℕ) where
   -- the premises hold of each earlier request of the slot
-  earlier_too : (place one : ℕ) (request before : Stream) → IsPolled layout_cycle streams slot lengths period entry_length place request → one < place → Stands streams slot one before
+  earlier_too : (place one : ℕ) (request before : Stream) → IsPolled layout_cycle streams slot lengths period entry_length place request → one < place → IsStreamAt streams slot one before
       → IsPolled layout_cycle streams slot lengths period entry_length one before
   earlier_too place one request before polled less stands =
       let apart = polled.spaced one place before request less (omega arith) stands polled.stands in
@@ -64,7 +64,7 @@ module _ (layout_cycle : ℕ) (streams : List Stream) (slot : ℕ) (lengths carr
                   of_slot = of_slot;
                   left = λ by. omega (arith, taken.only place by, left);
                   first = λ one less there.
-                      let stands : Stands streams slot one there.stream = record { at = there.at; its_slot = there.its_slot } in
+                      let stands : IsStreamAt streams slot one there.stream = record { at = there.at; its_slot = there.its_slot } in
                       let in_time = in_time_below most one there.stream (omega (arith, less, below)) (earlier_too place one request there.stream polled less stands) in
                       let apart = polled.spaced one place there.stream request less (omega arith) stands polled.stands in
                       record { release = in_time.release; earlier = omega (arith, in_time.by, apart, span.from_on); took = in_time.took };

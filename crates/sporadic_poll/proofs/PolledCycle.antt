@@ -11,10 +11,10 @@ use Rattle.requirement_table.specs.Opening.{Opening}
 use Rattle.requirement_table.specs.Table.{instance_in}
 use Rattle.bus_line.specs.Trace.{Follows, Offers}
 use Rattle.node_model.specs.Node.{NodeState}
-use Rattle.node_model.specs.Own.{Stands}
+use Rattle.node_model.specs.Own.{StandsOnBus}
 use Rattle.node_model.proofs.Shared.{instance-of_all}
 use Rattle.cycle_engine.specs.Cycle.{FitsWindow}
-use Rattle.cycle_engine.specs.Nodes.{IsBefore, IsBus, IsKnown, heard_by, learnt_by, opening_of, states_of}
+use Rattle.cycle_engine.specs.Nodes.{IsBefore, IsBus, IsSlotKnown, heard_by, learnt_by, opening_of, states_of}
 use Rattle.cycle_engine.specs.Offered.{offered_in}
 use Rattle.sporadic_poll.specs.Polled.{polled_bytes}
 use Rattle.sporadic_poll.specs.PolledNodes.{AreBefore, HaveHeard, PolledView, opened_by, placed_by}
@@ -26,9 +26,9 @@ some-of None is = absurd (cc)
 
 -- an instance that a node knows is one of the list
 known-found : (layout : CycleLayout) (placed : List Placed) (past : List TimedFrame) (next slot : ℕ) (nodes : List NodeState)
-    → IsBus layout [] [] placed past next nodes → IsKnown nodes next slot → IsSome (instance_in placed slot next)
+    → IsBus layout [] [] placed past next nodes → IsSlotKnown nodes next slot → IsSome (instance_in placed slot next)
 known-found layout placed past next slot nodes bus (k, node, within, same, known) =
-    let stands = All-contains (Stands layout [] [] placed past next) nodes node bus.stand (k, within, same) in
+    let stands = All-contains (StandsOnBus layout [] [] placed past next) nodes node bus.stand (k, within, same) in
     let found = some-of (instance_in node.entries slot next) known in
     let own = ap (λ entries. instance_in entries slot next) (sym stands.own_entries) ∙ found.1 in
     ap is_some (instance-of_all node.number placed slot next found.0 bus.well_placed own).0

@@ -3,13 +3,13 @@ use Rattle.std.proofs.Common.{◌≡◌, ◌≢◌, ℕ, List, [], Result, Ok, E
 use Rattle.sporadic_poll.specs.declared.stream.Stream.{Stream}
 use Rattle.text_fields.proofs.Shared.{all_items, all_mean, fault_means, first_fault}
 use Rattle.sporadic_poll.specs.StreamRow.{meaning}
-use Rattle.sporadic_poll.specs.StreamsFile.{AreStreams, streams_of_rows, streams_or_fault}
+use Rattle.sporadic_poll.specs.StreamsFile.{AreStreamsOfRows, streams_of_rows, streams_or_fault}
 use Rattle.text_fields.specs.RowByRow.{Faulty, IsFirstFault, items_below}
 use Rattle.sporadic_poll.specs.declared.stream_fault.StreamFault.TheVariants.{Row, Memory}
 use Rattle.sporadic_poll.specs.declared.stream_fault.StreamWhy.{StreamWhy}
 
 -- the requests of all rows are the computed ones
-pub streams_computed : (slots : ℕ) (rows : List (List (List ℕ))) (streams : List Stream) → AreStreams slots rows streams → streams_of_rows slots rows ≡ Ok streams
+pub streams_computed : (slots : ℕ) (rows : List (List (List ℕ))) (streams : List Stream) → AreStreamsOfRows slots rows streams → streams_of_rows slots rows ≡ Ok streams
 unfolding streams_of_rows
 streams_computed slots rows streams are = ap streams_or_fault (all_items (meaning slots) rows streams are)
 
@@ -19,7 +19,7 @@ unfolding streams_of_rows
 fault_computed slots rows number why fault = ap streams_or_fault (first_fault (meaning slots) rows number why fault)
 
 found_streams : (slots : ℕ) (rows : List (List (List ℕ))) (streams : List Stream) (found : Result (List Stream) (Faulty StreamWhy)) → items_below (meaning slots) [] rows ≡ found
-    → streams_or_fault found ≡ Ok streams → AreStreams slots rows streams
+    → streams_or_fault found ≡ Ok streams → AreStreamsOfRows slots rows streams
 found_streams slots rows streams (Ok all) is h =
     let same : all ≡ streams = cc in
     rw (← same) (all_mean (meaning slots) rows all is)
@@ -38,7 +38,7 @@ found_no_memory (Ok all) h = cc
 found_no_memory (Err fault) h = cc
 
 -- computed requests are those of all rows
-pub computed_streams : (slots : ℕ) (rows : List (List (List ℕ))) (streams : List Stream) → streams_of_rows slots rows ≡ Ok streams → AreStreams slots rows streams
+pub computed_streams : (slots : ℕ) (rows : List (List (List ℕ))) (streams : List Stream) → streams_of_rows slots rows ≡ Ok streams → AreStreamsOfRows slots rows streams
 unfolding streams_of_rows
 computed_streams slots rows streams h = found_streams slots rows streams (items_below (meaning slots) [] rows) refl h
 

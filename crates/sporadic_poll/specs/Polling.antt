@@ -9,7 +9,7 @@ abbrev pub arrival_cycle : ℕ → Stream → ℕ
 arrival_cycle layout_cycle stream = stream.at / layout_cycle
 
 -- the request at a place, one of the slot
-pub record Stands (streams : List Stream) (slot place : ℕ) (stream : Stream) : Type 0 where
+pub record IsStreamAt (streams : List Stream) (slot place : ℕ) (stream : Stream) : Type 0 where
   pub at : slice_get streams place ≡ Some stream
   pub its_slot : stream.slot ≡ slot
 
@@ -26,13 +26,13 @@ pub record IsReleasedWithin (lengths : ℕ → Option ℕ) (from period entry_le
 pub record IsPolled (layout_cycle : ℕ) (streams : List Stream) (slot : ℕ) (lengths : ℕ → Option ℕ) (period entry_length place : ℕ)
     (request : Stream) : Type 0 where
   pub some_time : 0 < layout_cycle
-  pub stands : Stands streams slot place request
-  pub spaced : (one other : ℕ) (before behind : Stream) → one < other → other ≤ place → Stands streams slot one before
-      → Stands streams slot other behind
+  pub stands : IsStreamAt streams slot place request
+  pub spaced : (one other : ℕ) (before behind : Stream) → one < other → other ≤ place → IsStreamAt streams slot one before
+      → IsStreamAt streams slot other behind
       → arrival_cycle layout_cycle before + period ≤ arrival_cycle layout_cycle behind
-  pub short : (one : ℕ) (before : Stream) → one ≤ place → Stands streams slot one before
+  pub short : (one : ℕ) (before : Stream) → one ≤ place → IsStreamAt streams slot one before
       → length before.payload < entry_length
-  pub released : (one from : ℕ) (before : Stream) → one ≤ place → Stands streams slot one before
+  pub released : (one from : ℕ) (before : Stream) → one ≤ place → IsStreamAt streams slot one before
       → arrival_cycle layout_cycle before ≤ from → from ≤ arrival_cycle layout_cycle request + 1
       → IsReleasedWithin lengths from period entry_length
 

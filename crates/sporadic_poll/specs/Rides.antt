@@ -50,7 +50,7 @@ taken_in fates place = option_and_then release_noted (slice_get fates place)
 
 -- what is true of the lists and the set that a run keeps: a fate for each request, for each slot the request that was
 -- taken last, and the slots of which there are requests
-pub record IsKept (queued : Queued) (polled : ℕ) (latest : List (Option Ride)) (fates : List Fate) : Type 0 where
+pub record AreRidesKept (queued : Queued) (polled : ℕ) (latest : List (Option Ride)) (fates : List Fate) : Type 0 where
   pub each : length fates ≡ length queued.streams
   pub slots : length latest ≡ length queued.next
   pub few : length queued.next ≤ most_slots
@@ -59,15 +59,15 @@ pub record IsKept (queued : Queued) (polled : ℕ) (latest : List (Option Ride))
   pub inside : (slot : ℕ) → IfSome (get_or latest slot None) (λ ride. ride.place < length queued.streams)
 
 -- a request of the slot that is known to be taken by the instance that was released in a cycle
-pub record IsTaken (slot : ℕ) (riding : Riding) (place release : ℕ) : Type 0 where
+pub record IsRequestTaken (slot : ℕ) (riding : Riding) (place release : ℕ) : Type 0 where
   pub of_slot : IsOfSlot riding.queued.streams slot place
   pub noted : taken_in riding.fates place ≡ Some release
 
 -- what is known of a slot before a cycle is what its instances took that were released before it
 pub record HasRidden (slot : ℕ) (carried : ℕ → Option ℕ) (cycle : ℕ) (riding : Riding) : Type 0 where
   pub taken : HasTaken riding.queued.streams slot carried cycle (get_or riding.queued.next slot 0)
-  pub noted : (place release : ℕ) → carried release ≡ Some place → release < cycle → IsTaken slot riding place release
-  pub only : (place release : ℕ) → IsTaken slot riding place release
+  pub noted : (place release : ℕ) → carried release ≡ Some place → release < cycle → IsRequestTaken slot riding place release
+  pub only : (place release : ℕ) → IsRequestTaken slot riding place release
       → (release < cycle) × (carried release ≡ Some place)
   pub latest : IfSome (get_or riding.latest slot None) (λ ride. carried ride.release ≡ Some ride.place)
   pub none_later : (place release : ℕ) → carried release ≡ Some place → release < cycle

@@ -44,7 +44,7 @@ meaning slots above row = do
   where_holds (nat_lt (length above) 10000) (record { at = arrival; slot = slot; payload = payload }) Many
 
 -- a request with each number in its range, where there are so many slots
-pub record IsStream (slots : ℕ) (stream : Stream) : Type 0 where
+pub record IsLegalStream (slots : ℕ) (stream : Stream) : Type 0 where
   pub early : stream.at < arrivals_end
   pub known : stream.slot < slots
   pub short : length stream.payload ≤ 7

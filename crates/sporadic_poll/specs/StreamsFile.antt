@@ -2,24 +2,24 @@
 use Rattle.std.specs.Prelude.{ℕ, ◌≤◌, List, [], length, Result, Ok, Err, All, AllPairs, ⊤}
 use Rattle.text_fields.specs.CsvRows.{rows_of}
 use Rattle.text_fields.specs.RowByRow.{AreItems, Faulty, IsFirstFault, items_below}
-use Rattle.sporadic_poll.specs.StreamRow.{meaning, IsStream}
+use Rattle.sporadic_poll.specs.StreamRow.{meaning, IsLegalStream}
 use Rattle.sporadic_poll.specs.declared.stream.Stream.{Stream}
 use Rattle.sporadic_poll.specs.declared.stream_fault.StreamWhy.{StreamWhy}
 use Rattle.sporadic_poll.specs.declared.stream_fault.StreamFault.{StreamFault}
 use Rattle.sporadic_poll.specs.declared.stream_fault.StreamFault.TheVariants.{Row, Memory}
 
 -- the requests are those of all rows, each below those of the rows above it
-abbrev pub AreStreams : ℕ → List (List (List ℕ)) → List Stream → Type 0
-AreStreams slots rows streams = AreItems (meaning slots) rows streams
+abbrev pub AreStreamsOfRows : ℕ → List (List (List ℕ)) → List Stream → Type 0
+AreStreamsOfRows slots rows streams = AreItems (meaning slots) rows streams
 
 -- the fault that rows give; want of memory says nothing of them
-abbrev pub Faults : ℕ → List (List (List ℕ)) → StreamFault → Type 0
-Faults slots rows (Row number why) = IsFirstFault (meaning slots) rows number why
-Faults slots rows Memory = ⊤
+abbrev pub IsStreamFault : ℕ → List (List (List ℕ)) → StreamFault → Type 0
+IsStreamFault slots rows (Row number why) = IsFirstFault (meaning slots) rows number why
+IsStreamFault slots rows Memory = ⊤
 
 -- what holds of the requests of a file, where there are so many slots
-pub record AreLegal (slots : ℕ) (streams : List Stream) : Type 0 where
-  pub each : All (IsStream slots) streams
+pub record AreLegalStreams (slots : ℕ) (streams : List Stream) : Type 0 where
+  pub each : All (IsLegalStream slots) streams
   pub in_order : AllPairs (λ earlier later. earlier.at ≤ later.at) streams
   pub few : length streams ≤ 10000
 

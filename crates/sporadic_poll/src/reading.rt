@@ -9,7 +9,7 @@ ghost use Rattle.profile.specs.Limits.{arrivals_end};
 ghost use Rattle.text_fields.specs.CsvRows.{rows_of, trimmed};
 ghost use Rattle.text_fields.specs.RecordReading.{fields_in};
 ghost use Rattle.sporadic_poll.specs.StreamRow.{arrival_above, meaning, payload_in};
-ghost use Rattle.sporadic_poll.specs.StreamsFile.{AreLegal, AreStreams, Faults, streams_of};
+ghost use Rattle.sporadic_poll.specs.StreamsFile.{AreLegalStreams, AreStreamsOfRows, IsStreamFault, streams_of};
 ghost use Rattle.sporadic_poll.specs.declared.stream_fault.StreamFault.TheVariants.{Memory};
 
 use crate::stream::{Stream, StreamBytes};
@@ -121,9 +121,9 @@ fn stream_of(alloc: Global, read: &Fields) -> Result<Stream, AllocError>
 ///
 /// `Row` with the first row that is none and why, and `Memory` where memory ran out.
 pub fn read_streams(alloc: Global, bytes: &[u8], slots: u8) -> Result<Vec<Stream>, StreamFault>
-    ensures ok { IfOk result (λ streams. AreStreams slots (rows_of bytes.now) streams.items) }
-    ensures fault { IfErr result (Faults slots (rows_of bytes.now)) }
-    ensures legal { IfOk result (λ streams. AreLegal slots streams.items) }
+    ensures ok { IfOk result (λ streams. AreStreamsOfRows slots (rows_of bytes.now) streams.items) }
+    ensures fault { IfErr result (IsStreamFault slots (rows_of bytes.now)) }
+    ensures legal { IfOk result (λ streams. AreLegalStreams slots streams.items) }
     ensures value { MatchResult result (λ streams. streams_of slots bytes.now ≡ Ok streams.items)
         (λ fault. (fault ≡ Memory) ⊎ (streams_of slots bytes.now ≡ Err fault)) }
 {

@@ -46,13 +46,13 @@ pub struct Rides {
 }
 
 impl Model for Rides {
-    ghost use Rattle.sporadic_poll.specs.Rides.{IsKept, Riding};
+    ghost use Rattle.sporadic_poll.specs.Rides.{AreRidesKept, Riding};
 
     ghost Value = { Riding };
 
     ghost view = { λ r. record { queued = r.queues; latest = r.latest.items; fates = r.fates.items } };
 
-    ghost invariant = { λ r. IsKept r.queues r.polled r.latest.items r.fates.items };
+    ghost invariant = { λ r. AreRidesKept r.queues r.polled r.latest.items r.fates.items };
 }
 
 /// The slots of requests.

@@ -9,7 +9,7 @@ use Rattle.standby.specs.declared.follow_fault.FollowFault.{FollowFault}
 use Rattle.standby.specs.declared.told.Told.{Told}
 use Rattle.standby.specs.declared.told.Told.TheVariants.{Change, Trigger}
 use Rattle.standby.specs.Following.{StandbyView}
-use Rattle.standby.specs.Telling.{FollowsAll, FollowsOne, IsFaultOf, StopsAt}
+use Rattle.standby.specs.Telling.{FollowsAll, FollowsOne, IsFollowFault, StopsAt}
 
 -- nothing was told
 pub follows_none : (old : StandbyView) → FollowsAll old [] old.history
@@ -109,7 +109,7 @@ follows_whole old told place new past all = subst (λ (l : List Told). FollowsAl
 
 -- where it stopped
 pub stops_there : (old mid : StandbyView) (told : List Told) (place : ℕ) (one : Told) (new : List Event) (fault : FollowFault) → place < length told
-    → one ≡ get_or told place one → mid.rules ≡ old.rules → FollowsAll old (take place told) mid.history → new ≡ mid.history → IsFaultOf mid one fault
+    → one ≡ get_or told place one → mid.rules ≡ old.rules → FollowsAll old (take place told) mid.history → new ≡ mid.history → IsFollowFault mid one fault
     → StopsAt old told new fault
 stops_there old mid told place one new fault within read same all stays is =
     let view : mid ≡ seen old.rules new = ap (λ (r : Rules). seen r mid.history) same ∙ ap (seen old.rules) (sym stays) in
@@ -122,5 +122,5 @@ stops_there old mid told place one new fault within read same all stays is =
           ∙ ap (λ (l : List Told). take place told ++ l) (drop_more told place one within)
           ∙ ap (λ (t : Told). take place told ++ t ∷ drop (place + 1) told) (sym read);
       followed = subst (FollowsAll old (take place told)) (sym stays) all;
-      due = subst (λ (v : StandbyView). IsFaultOf v one fault) view is;
+      due = subst (λ (v : StandbyView). IsFollowFault v one fault) view is;
     }

@@ -12,9 +12,9 @@ FollowsOne old (Change caller change) new = IsChanged old caller change new
 FollowsOne old (Trigger frames) new = IsOpened old frames new
 
 -- the fault that is due where one thing is told, or there is no memory
-abbrev pub IsFaultOf : StandbyView → Told → FollowFault → Type 0
-IsFaultOf old (Change caller change) fault = IsChangeFault old change fault
-IsFaultOf old (Trigger frames) fault = IsTriggerFault old frames fault
+abbrev pub IsFollowFault : StandbyView → Told → FollowFault → Type 0
+IsFollowFault old (Change caller change) fault = IsChangeFault old change fault
+IsFollowFault old (Trigger frames) fault = IsTriggerFault old frames fault
 
 -- all things of the list were followed: behind the history stands one event for each, in their order, which follows that
 -- thing behind the events before it
@@ -33,4 +33,4 @@ pub record StopsAt (old : StandbyView) (told : List Told) (new : List Event) (fa
   pub rest : List Told
   pub parts : told ≡ before ++ one ∷ rest
   pub followed : FollowsAll old before new
-  pub due : IsFaultOf (record { rules = old.rules; history = new }) one fault
+  pub due : IsFollowFault (record { rules = old.rules; history = new }) one fault

@@ -8,7 +8,7 @@ ghost use Rattle.standby.specs.Core.{core_of};
 ghost use Rattle.standby.specs.declared.follow_fault.FollowFault.TheVariants.{Memory};
 ghost use Rattle.standby.specs.declared.told.Told.{Told as ToldOf};
 ghost use Rattle.standby.specs.Handover.{HasCaller, IsBehind};
-ghost use Rattle.standby.specs.Telling.{FollowsAll, FollowsOne, IsFaultOf, StopsAt};
+ghost use Rattle.standby.specs.Telling.{FollowsAll, FollowsOne, IsFollowFault, StopsAt};
 
 use crate::follow_fault::FollowFault;
 use crate::laws::told_whole;
@@ -38,7 +38,7 @@ fn follow_one(standby: &mut Standby, alloc: Global, told: &Told) -> Result<(), F
     ensures next { next_of standby.new.history ≤ next_of standby.old.history + 1 }
     ensures same { OnErr result (standby.new.history ≡ standby.old.history) }
     ensures followed { OnOk result (FollowsOne standby.old told.now standby.new.history) }
-    ensures fault { IfErr result (IsFaultOf standby.old told.now) }
+    ensures fault { IfErr result (IsFollowFault standby.old told.now) }
     ensures behind { (whole : List Event) (rest : List ToldOf)
         → IsLegal standby.old.rules whole → IsBehind standby.old.rules whole standby.old.history (told.now ∷ rest)
         → OnOk result (IsBehind standby.old.rules whole standby.new.history rest) }

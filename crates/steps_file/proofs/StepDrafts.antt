@@ -6,9 +6,9 @@ use Rattle.steps_file.proofs.StepLines.{ends_as, say_joined, say_more}
 use Rattle.steps_file.specs.StepRow.{is_of_change}
 use Rattle.steps_file.specs.StepsFile.{HasOperation, Say, lines_of}
 use Rattle.steps_file.specs.StepsReading.{Drafts, GrewBy, asking, last_steps, step_of_asked}
-use Rattle.steps_file.specs.declared.step_rows.Line.{Line}
-use Rattle.steps_file.specs.declared.step_rows.Line.TheVariants as line
-use Rattle.steps_file.specs.declared.steps.Asked.{Asked}
+use Rattle.steps_file.specs.declared.step_rows.StepLine.{StepLine}
+use Rattle.steps_file.specs.declared.step_rows.StepLine.TheVariants as line
+use Rattle.steps_file.specs.declared.steps.ChangeDraft.{ChangeDraft}
 use Rattle.steps_file.specs.declared.steps.Draft.{Draft}
 use Rattle.steps_file.specs.declared.steps.Step.{Step}
 
@@ -18,7 +18,7 @@ both_ok P Q R (Ok x) then p q = then x p q
 both_ok P Q R (Err e) then p q = tt
 
 -- a line that is a step of its own
-pub drafts_step : (lines : List Line) (old new : Draft) (line : Line) (next : Step) → Drafts lines old → lines_of next ≡ line ∷ [] → HasOperation next → is_of_change line ≡ false
+pub drafts_step : (lines : List StepLine) (old new : Draft) (line : StepLine) (next : Step) → Drafts lines old → lines_of next ≡ line ∷ [] → HasOperation next → is_of_change line ≡ false
     → new.steps.items ≡ (old.steps.items ++ last_steps old.asked) ++ next ∷ [] → new.asked ≡ None → Drafts (lines ++ line ∷ []) new
 drafts_step lines old new line next drafts is has alone steps asked =
     let so_far = old.steps.items ++ last_steps old.asked in
@@ -29,7 +29,7 @@ drafts_step lines old new line next drafts is has alone steps asked =
     }
 
 -- a line that begins a change
-pub drafts_begins : (lines : List Line) (old new : Draft) (asked : Asked) (caller start : ℕ) (op : Op) → Drafts lines old → step_of_asked asked ≡ asking caller start (op ∷ [])
+pub drafts_begins : (lines : List StepLine) (old new : Draft) (asked : ChangeDraft) (caller start : ℕ) (op : Op) → Drafts lines old → step_of_asked asked ≡ asking caller start (op ∷ [])
     → new.steps.items ≡ old.steps.items ++ last_steps old.asked → new.asked ≡ Some asked → Drafts (lines ++ line.Begins caller start op ∷ []) new
 drafts_begins lines old new asked caller start op drafts is steps last =
     record {
@@ -37,19 +37,19 @@ drafts_begins lines old new asked caller start op drafts is steps last =
       asked = rw last (sym (ends_as lines (line.Begins caller start op)));
     }
 
-joined_say : (lines : List Line) (steps : List Step) (op : Op) (old new : Option Asked) → GrewBy op old new → Say lines (steps ++ last_steps old) → Say (lines ++ line.Joins op ∷ []) (steps ++ last_steps new)
+joined_say : (lines : List StepLine) (steps : List Step) (op : Op) (old new : Option ChangeDraft) → GrewBy op old new → Say lines (steps ++ last_steps old) → Say (lines ++ line.Joins op ∷ []) (steps ++ last_steps new)
 joined_say lines steps op (Some old) (Some new) grew say =
     rw (grew.caller, grew.start, grew.ops) (say_joined lines steps old.caller old.start old.ops.items op say)
 joined_say lines steps op (Some old) None grew say = absurd grew
 joined_say lines steps op None new grew say = absurd grew
 
-joined_some : (op : Op) (old new : Option Asked) → GrewBy op old new → is_some new ≡ true
+joined_some : (op : Op) (old new : Option ChangeDraft) → GrewBy op old new → is_some new ≡ true
 joined_some op (Some old) (Some new) grew = refl
 joined_some op (Some old) None grew = absurd grew
 joined_some op None new grew = absurd grew
 
 -- a line that adds an operation to the last change
-pub drafts_joins : (lines : List Line) (old new : Draft) (op : Op) → Drafts lines old → new.steps ≡ old.steps → GrewBy op old.asked new.asked → Drafts (lines ++ line.Joins op ∷ []) new
+pub drafts_joins : (lines : List StepLine) (old new : Draft) (op : Op) → Drafts lines old → new.steps ≡ old.steps → GrewBy op old.asked new.asked → Drafts (lines ++ line.Joins op ∷ []) new
 drafts_joins lines old new op drafts steps grew =
     record {
       say = rw steps (joined_say lines old.steps.items op old.asked new.asked grew drafts.say);

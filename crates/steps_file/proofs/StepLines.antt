@@ -10,10 +10,10 @@ use Rattle.steps_file.proofs.ListParts.{all_back, all_front}
 use Rattle.steps_file.specs.StepRow.{begins, count_in, ends_in_change, is_of_change, looks}
 use Rattle.steps_file.specs.StepsFile.{HasOperation, Say, lines_of, lines_of_change}
 use Rattle.steps_file.specs.StepsReading.{Counts, asking}
-use Rattle.steps_file.specs.declared.step_rows.Line.{Line}
-use Rattle.steps_file.specs.declared.step_rows.Line.TheVariants as line
+use Rattle.steps_file.specs.declared.step_rows.StepLine.{StepLine}
+use Rattle.steps_file.specs.declared.step_rows.StepLine.TheVariants as line
 use Rattle.steps_file.specs.declared.steps.Step.{Step}
-use Rattle.steps_file.specs.declared.steps.Tally.{Tally}
+use Rattle.steps_file.specs.declared.steps.StepTally.{StepTally}
 
 -- the last item of a list
 get_last : {X : Type 0} (xs : List X) (x : X) → slice_get (xs ++ x ∷ []) (length xs) ≡ Some x
@@ -21,19 +21,19 @@ get_last [] x = refl
 get_last (y ∷ xs) x = get_last xs x
 
 -- the line directly above is the last one
-pub ends_as : (lines : List Line) (line : Line) → ends_in_change (lines ++ line ∷ []) ≡ is_of_change line
+pub ends_as : (lines : List StepLine) (line : StepLine) → ends_in_change (lines ++ line ∷ []) ≡ is_of_change line
 ends_as lines line =
     let at : length (lines ++ line ∷ []) - 1 ≡ length lines = omega (arith, length-append lines (line ∷ [])) in
     rw (at, get_last lines line) refl
 
 -- one more of a sum
-sum_more : (f : Line → ℕ) (lines : List Line) (line : Line) (old new : ℕ) → old ≡ sum_by f lines → new ≡ old + f line → new ≡ sum_by f (lines ++ line ∷ [])
+sum_more : (f : StepLine → ℕ) (lines : List StepLine) (line : StepLine) (old new : ℕ) → old ≡ sum_by f lines → new ≡ old + f line → new ≡ sum_by f (lines ++ line ∷ [])
 sum_more f lines line old new so_far is = is ∙ ap (λ n. n + f line) so_far ∙ sym (sum_by_push f lines line)
 
-count_more : (p : Line → Bool) (lines : List Line) (line : Line) (old new : ℕ) → old ≡ count_by p lines → new ≡ old + cond (p line) 1 0 → new ≡ count_by p (lines ++ line ∷ [])
+count_more : (p : StepLine → Bool) (lines : List StepLine) (line : StepLine) (old new : ℕ) → old ≡ count_by p lines → new ≡ old + cond (p line) 1 0 → new ≡ count_by p (lines ++ line ∷ [])
 count_more p lines line old new so_far is = sum_more (λ x. cond (p x) 1 0) lines line old new so_far is
 
-module _ (lines : List Line) (tally : Tally) (counts : Counts lines tally) where
+module _ (lines : List StepLine) (tally : StepTally) (counts : Counts lines tally) where
   pub counts_cycle : (count : ℕ) → Counts (lines ++ line.Cycle count ∷ []) (record { in_change = false; changes = tally.changes; looks = tally.looks; cycles = tally.cycles + count })
   counts_cycle count =
       record {
@@ -71,7 +71,7 @@ module _ (lines : List Line) (tally : Tally) (counts : Counts lines tally) where
       }
 
 -- the lines that say a step, behind those of the steps before it
-pub say_more : (lines : List Line) (steps : List Step) (next : Step) → Say lines steps → HasOperation next → Say (lines ++ lines_of next) (steps ++ next ∷ [])
+pub say_more : (lines : List StepLine) (steps : List Step) (next : Step) → Say lines steps → HasOperation next → Say (lines ++ lines_of next) (steps ++ next ∷ [])
 say_more lines steps next say has =
     record {
       whole = flat_map-append lines_of steps (next ∷ []) ∙ ap (λ rest. flat_map lines_of steps ++ rest) (append-nil (lines_of next)) ∙ ap (λ front. front ++ lines_of next) say.whole;
@@ -84,7 +84,7 @@ change_more caller start [] op some = absurd (omega arith)
 change_more caller start (first ∷ ops) op some = ap (λ rest. line.Begins caller start first ∷ rest) (map-append line.Joins ops (op ∷ []))
 
 -- a line that adds an operation to the last change
-pub say_joined : (lines : List Line) (steps : List Step) (caller start : ℕ) (ops : List Op) (op : Op) → Say lines (steps ++ asking caller start ops ∷ [])
+pub say_joined : (lines : List StepLine) (steps : List Step) (caller start : ℕ) (ops : List Op) (op : Op) → Say lines (steps ++ asking caller start ops ∷ [])
     → Say (lines ++ line.Joins op ∷ []) (steps ++ asking caller start (ops ++ op ∷ []) ∷ [])
 say_joined lines steps caller start ops op say =
     let some : 1 ≤ length ops = All-head HasOperation (asking caller start ops) [] (all_back HasOperation steps (asking caller start ops ∷ []) say.each) in

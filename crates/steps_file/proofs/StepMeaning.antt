@@ -20,8 +20,8 @@ use Rattle.text_fields.specs.Whys.{◌>>=◌, where_holds}
 use Rattle.steps_file.specs.declared.step_fault.StepWhy.TheVariants.{Word, Fields, Number, Operator, Loose, Changes, Looks, Cycles}
 use Rattle.steps_file.specs.declared.step_rows.Form.{Form}
 use Rattle.steps_file.specs.declared.step_rows.Form.TheVariants as form
-use Rattle.steps_file.specs.declared.step_rows.Line.{Line}
-use Rattle.steps_file.specs.declared.step_rows.Line.TheVariants as line
+use Rattle.steps_file.specs.declared.step_rows.StepLine.{StepLine}
+use Rattle.steps_file.specs.declared.step_rows.StepLine.TheVariants as line
 use Rattle.steps_file.specs.declared.step_rows.Verb.{Verb}
 use Rattle.steps_file.specs.declared.step_rows.Verb.TheVariants as verb
 
@@ -94,13 +94,13 @@ operation_fits verb.Change row place op h =
     rw (← entry.2) (entry_fits row place entry.0 entry.1)
 
 -- a line with each number in its range, but for the operator
-abbrev pub FitsLine : Line → Type 0
+abbrev pub FitsLine : StepLine → Type 0
 FitsLine (line.Cycle count) = count ≤ 20000
 FitsLine (line.Look caller) = Unit {0}
 FitsLine (line.Begins caller start op) = (start < 2 ^ 64) × FitsOperation op
 FitsLine (line.Joins op) = FitsOperation op
 
-beginning_fits : (v : Verb) (row : List (List ℕ)) (said : Line) → beginning v row ≡ Some said → FitsLine said
+beginning_fits : (v : Verb) (row : List (List ℕ)) (said : StepLine) → beginning v row ≡ Some said → FitsLine said
 beginning_fits v row said h =
     let caller = part (number_at row 1 0 255) _ said h in
     let start = part (number_at row 2 0 (2 ^ 64 - 1)) _ said caller.2 in
@@ -108,7 +108,7 @@ beginning_fits v row said h =
     let early : start.0 < 2 ^ 64 = omega (arith, (number_in row 2 0 (2 ^ 64 - 1) start.0 start.1).1) in
     rw (← same_Some _ _ op.2) (early, operation_fits v row 3 op.0 op.1)
 
-said_fits : (f : Form) (row : List (List ℕ)) (said : Line) → said_as f row ≡ Some said → FitsLine said
+said_fits : (f : Form) (row : List (List ℕ)) (said : StepLine) → said_as f row ≡ Some said → FitsLine said
 unfolding said_as
 said_fits form.Cycle row said h =
     let count = mapped (number_at row 1 0 20000) line.Cycle said h in
@@ -123,11 +123,11 @@ said_fits (form.Joins (Some v)) row said h =
 said_fits (form.Joins None) row said h = absurd (cc)
 
 -- a line with each number in its range
-pub record IsLine (said : Line) : Type 0 where
+pub record IsLine (said : StepLine) : Type 0 where
   pub fits : FitsLine said
   pub operator : has_operator said ≡ true
 
-line_is : (row : List (List ℕ)) (said : Line) → line_of row ≡ Ok said → IsLine said
+line_is : (row : List (List ℕ)) (said : StepLine) → line_of row ≡ Ok said → IsLine said
 unfolding line_of
 line_is row said h =
     let f = right (ok_or (form_of row) Word) _ said h in
@@ -141,17 +141,17 @@ line_is row said h =
     }
 
 -- what has to hold above a line
-abbrev pub Allows : List Line → Line → Type 0
+abbrev pub Allows : List StepLine → StepLine → Type 0
 Allows above (line.Cycle count) = sum_by count_in above + count ≤ 20000
 Allows above (line.Look caller) = count_by looks above < 1000
 Allows above (line.Begins caller start op) = count_by begins above < 1000
 Allows above (line.Joins op) = ends_in_change above ≡ true
 
-record Stands (above : List Line) (found said : Line) : Type 0 where
+record Stands (above : List StepLine) (found said : StepLine) : Type 0 where
   same : found ≡ said
   allowed : Allows above found
 
-stands : (above : List Line) (found said : Line) → below above found ≡ Ok said → Stands above found said
+stands : (above : List StepLine) (found said : StepLine) → below above found ≡ Ok said → Stands above found said
 stands above (line.Cycle count) said h =
     let (room, same) = held_so (nat_le (sum_by count_in above + count) 20000) (line.Cycle count) Cycles said h in
     record { same = same; allowed = grind (arith, nat_tests) }
@@ -166,11 +166,11 @@ stands above (line.Joins op) said h =
     record { same = same; allowed = room }
 
 -- a line that a row says below others is one, and may stand there
-pub record Says (above : List Line) (said : Line) : Type 0 where
+pub record Says (above : List StepLine) (said : StepLine) : Type 0 where
   pub is : IsLine said
   pub allowed : Allows above said
 
-pub says : (above : List Line) (row : List (List ℕ)) (said : Line) → meaning above row ≡ Ok said → Says above said
+pub says : (above : List StepLine) (row : List (List ℕ)) (said : StepLine) → meaning above row ≡ Ok said → Says above said
 unfolding meaning
 says above row said h =
     let found = right (line_of row) (below above) said h in

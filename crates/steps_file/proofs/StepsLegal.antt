@@ -13,31 +13,31 @@ use Rattle.steps_file.proofs.StepMeaning.{Allows, IsLine, says}
 use Rattle.text_fields.specs.RowByRow.{AreItems}
 use Rattle.steps_file.specs.StepRow.{begins, count_in, is_operator, looks, meaning}
 use Rattle.steps_file.specs.StepsFile.{AreLegalSteps, AreSteps, FitsOperation, HasOperation, IsStep, count_of, is_change, is_look, lines_of, lines_of_change}
-use Rattle.steps_file.specs.declared.step_rows.Line.{Line}
-use Rattle.steps_file.specs.declared.step_rows.Line.TheVariants as line
+use Rattle.steps_file.specs.declared.step_rows.StepLine.{StepLine}
+use Rattle.steps_file.specs.declared.step_rows.StepLine.TheVariants as line
 use Rattle.steps_file.specs.declared.steps.Step.{Step}
 use Rattle.steps_file.specs.declared.steps.Step.TheVariants as step
 
 -- lines in their ranges, and not too many
-record AreLegalLines (lines : List Line) : Type 0 where
+record AreLegalLines (lines : List StepLine) : Type 0 where
   each : All IsLine lines
   changes : count_by begins lines ≤ 1000
   looks : count_by looks lines ≤ 1000
   cycles : sum_by count_in lines ≤ 20000
 
-changes_more : (lines : List Line) (said : Line) → count_by begins lines ≤ 1000 → Allows lines said → count_by begins (lines ++ said ∷ []) ≤ 1000
+changes_more : (lines : List StepLine) (said : StepLine) → count_by begins lines ≤ 1000 → Allows lines said → count_by begins (lines ++ said ∷ []) ≤ 1000
 changes_more lines (line.Cycle count) few allowed = omega (arith, sum_by_push (λ x. cond (begins x) 1 0) lines (line.Cycle count))
 changes_more lines (line.Look caller) few allowed = omega (arith, sum_by_push (λ x. cond (begins x) 1 0) lines (line.Look caller))
 changes_more lines (line.Begins caller start op) few allowed = omega (arith, sum_by_push (λ x. cond (begins x) 1 0) lines (line.Begins caller start op))
 changes_more lines (line.Joins op) few allowed = omega (arith, sum_by_push (λ x. cond (begins x) 1 0) lines (line.Joins op))
 
-looks_more : (lines : List Line) (said : Line) → count_by looks lines ≤ 1000 → Allows lines said → count_by looks (lines ++ said ∷ []) ≤ 1000
+looks_more : (lines : List StepLine) (said : StepLine) → count_by looks lines ≤ 1000 → Allows lines said → count_by looks (lines ++ said ∷ []) ≤ 1000
 looks_more lines (line.Cycle count) few allowed = omega (arith, sum_by_push (λ x. cond (looks x) 1 0) lines (line.Cycle count))
 looks_more lines (line.Look caller) few allowed = omega (arith, sum_by_push (λ x. cond (looks x) 1 0) lines (line.Look caller))
 looks_more lines (line.Begins caller start op) few allowed = omega (arith, sum_by_push (λ x. cond (looks x) 1 0) lines (line.Begins caller start op))
 looks_more lines (line.Joins op) few allowed = omega (arith, sum_by_push (λ x. cond (looks x) 1 0) lines (line.Joins op))
 
-cycles_more : (lines : List Line) (said : Line) → sum_by count_in lines ≤ 20000 → Allows lines said → sum_by count_in (lines ++ said ∷ []) ≤ 20000
+cycles_more : (lines : List StepLine) (said : StepLine) → sum_by count_in lines ≤ 20000 → Allows lines said → sum_by count_in (lines ++ said ∷ []) ≤ 20000
 cycles_more lines (line.Cycle count) few allowed = omega (arith, sum_by_push count_in lines (line.Cycle count))
 cycles_more lines (line.Look caller) few allowed = omega (arith, sum_by_push count_in lines (line.Look caller))
 cycles_more lines (line.Begins caller start op) few allowed = omega (arith, sum_by_push count_in lines (line.Begins caller start op))
@@ -46,7 +46,7 @@ cycles_more lines (line.Joins op) few allowed = omega (arith, sum_by_push count_
 none_legal : AreLegalLines []
 none_legal = record { each = All-nil IsLine; changes = lit≤ tt; looks = lit≤ tt; cycles = lit≤ tt }
 
-one_more_legal : (above : List Line) (row : List (List ℕ)) (said : Line) → AreLegalLines above → meaning above row ≡ Ok said → AreLegalLines (above ++ said ∷ [])
+one_more_legal : (above : List StepLine) (row : List (List ℕ)) (said : StepLine) → AreLegalLines above → meaning above row ≡ Ok said → AreLegalLines (above ++ said ∷ [])
 one_more_legal above row said legal is =
     let line = says above row said is in
     record {
@@ -56,22 +56,22 @@ one_more_legal above row said legal is =
       cycles = cycles_more above said legal.cycles line.allowed;
     }
 
-lines_legal : (rows : List (List (List ℕ))) (lines : List Line) → AreItems meaning rows lines → AreLegalLines lines
+lines_legal : (rows : List (List (List ℕ))) (lines : List StepLine) → AreItems meaning rows lines → AreLegalLines lines
 lines_legal rows lines are = held meaning AreLegalLines one_more_legal rows lines none_legal are
 
 -- what is summed over lines is summed over the steps that they say
-sum_joined : (f : Line → ℕ) → ((op : Op) → f (line.Joins op) ≡ 0) → (ops : List Op) → sum_by f (map line.Joins ops) ≡ 0
+sum_joined : (f : StepLine → ℕ) → ((op : Op) → f (line.Joins op) ≡ 0) → (ops : List Op) → sum_by f (map line.Joins ops) ≡ 0
 sum_joined f zero_joined [] = refl
 sum_joined f zero_joined (op ∷ ops) = omega (arith, sum_by-cons f (line.Joins op) (map line.Joins ops), zero_joined op, sum_joined f zero_joined ops)
 
-sum_said : (f : Line → ℕ) (g : Step → ℕ) → ((next : Step) → HasOperation next → sum_by f (lines_of next) ≡ g next) → (steps : List Step) → All HasOperation steps → sum_by f (flat_map lines_of steps) ≡ sum_by g steps
+sum_said : (f : StepLine → ℕ) (g : Step → ℕ) → ((next : Step) → HasOperation next → sum_by f (lines_of next) ≡ g next) → (steps : List Step) → All HasOperation steps → sum_by f (flat_map lines_of steps) ≡ sum_by g steps
 sum_said f g same [] has = refl
 sum_said f g same (next ∷ steps) has =
     let here = same next (All-head HasOperation next steps has) in
     let rest = sum_said f g same steps (All-tail HasOperation next steps has) in
     omega (arith, here, rest, sum_by-append f (lines_of next) (flat_map lines_of steps), sum_by-cons g next steps)
 
-sum_change : (f : Line → ℕ) → ((op : Op) → f (line.Joins op) ≡ 0) → (n caller start : ℕ) → ((op : Op) → f (line.Begins caller start op) ≡ n) → (ops : List Op) → 1 ≤ length ops → sum_by f (lines_of_change caller start ops) ≡ n
+sum_change : (f : StepLine → ℕ) → ((op : Op) → f (line.Joins op) ≡ 0) → (n caller start : ℕ) → ((op : Op) → f (line.Begins caller start op) ≡ n) → (ops : List Op) → 1 ≤ length ops → sum_by f (lines_of_change caller start ops) ≡ n
 sum_change f zero_joined n caller start first [] some = absurd (omega arith)
 sum_change f zero_joined n caller start first (op ∷ ops) some =
     omega (arith, sum_by-cons f (line.Begins caller start op) (map line.Joins ops), first op, sum_joined f zero_joined ops)

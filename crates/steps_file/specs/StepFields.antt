@@ -9,8 +9,8 @@ use Rattle.steps_file.specs.declared.step_rows.Verb.{Verb}
 use Rattle.steps_file.specs.declared.step_rows.Verb.TheVariants.{Add, Remove, Change}
 use Rattle.steps_file.specs.declared.step_rows.Form.{Form}
 use Rattle.steps_file.specs.declared.step_rows.Form.TheVariants as form
-use Rattle.steps_file.specs.declared.step_rows.Line.{Line}
-use Rattle.steps_file.specs.declared.step_rows.Line.TheVariants as line
+use Rattle.steps_file.specs.declared.step_rows.StepLine.{StepLine}
+use Rattle.steps_file.specs.declared.step_rows.StepLine.TheVariants as line
 
 infixl 10 ◌>>=◌
 -- what the second gives for the value of the first, where both are there
@@ -44,7 +44,7 @@ operation_at Remove row place = option_map operation.Remove (number_at row place
 operation_at Change row place = option_map operation.Change (entry_at row place)
 
 -- the row `add`, `remove` or `change`, with OPERATOR, START and the operation
-abbrev pub beginning : Verb → List (List ℕ) → Option Line
+abbrev pub beginning : Verb → List (List ℕ) → Option StepLine
 beginning verb row = do
   caller ← number_at row 1 0 255
   start ← number_at row 2 0 (2 ^ 64 - 1)
@@ -52,7 +52,7 @@ beginning verb row = do
   Some (line.Begins caller start op)
 
 -- what a row of this form says
-unfoldable pub said_as : Form → List (List ℕ) → Option Line
+unfoldable pub said_as : Form → List (List ℕ) → Option StepLine
 said_as form.Cycle row = option_map line.Cycle (number_at row 1 0 most_cycles)
 said_as form.Look row = option_map line.Look (number_at row 1 0 255)
 said_as (form.Begins verb) row = beginning verb row

@@ -11,8 +11,8 @@ use Rattle.change_protocol.specs.declared.operations.Act.TheVariants as act
 use Rattle.text_fields.specs.CsvRows.{rows_of}
 use Rattle.text_fields.specs.RowByRow.{AreItems, IsFirstFault, Faulty, items_below}
 use Rattle.steps_file.specs.StepRow.{meaning}
-use Rattle.steps_file.specs.declared.step_rows.Line.{Line}
-use Rattle.steps_file.specs.declared.step_rows.Line.TheVariants as line
+use Rattle.steps_file.specs.declared.step_rows.StepLine.{StepLine}
+use Rattle.steps_file.specs.declared.step_rows.StepLine.TheVariants as line
 use Rattle.steps_file.specs.declared.step_fault.StepWhy.{StepWhy}
 use Rattle.steps_file.specs.declared.step_fault.StepFault.{StepFault}
 use Rattle.steps_file.specs.declared.step_fault.StepFault.TheVariants.{Row, Memory}
@@ -20,12 +20,12 @@ use Rattle.steps_file.specs.declared.steps.Step.{Step}
 use Rattle.steps_file.specs.declared.steps.Step.TheVariants as step
 
 -- the lines that say a change: one for each operation, of which the first begins it
-abbrev pub lines_of_change : ℕ → ℕ → List Op → List Line
+abbrev pub lines_of_change : ℕ → ℕ → List Op → List StepLine
 lines_of_change caller start [] = []
 lines_of_change caller start (op ∷ ops) = line.Begins caller start op ∷ map line.Joins ops
 
 -- the lines that say a step
-abbrev pub lines_of : Step → List Line
+abbrev pub lines_of : Step → List StepLine
 lines_of (step.Cycle count) = line.Cycle count ∷ []
 lines_of (step.Act caller act.Look) = line.Look caller ∷ []
 lines_of (step.Act caller (act.Ask change)) = lines_of_change caller change.start change.ops
@@ -37,23 +37,23 @@ HasOperation (step.Act caller act.Look) = ⊤
 HasOperation (step.Act caller (act.Ask change)) = 1 ≤ length change.ops
 
 -- these lines say these steps: the lines of the steps, one step after the other, are the lines
-pub record Say (lines : List Line) (steps : List Step) : Type 0 where
+pub record Say (lines : List StepLine) (steps : List Step) : Type 0 where
   pub whole : flat_map lines_of steps ≡ lines
   pub each : All HasOperation steps
 
 -- each row says a line, and the lines of all rows say these steps
 pub record AreSteps (rows : List (List (List ℕ))) (steps : List Step) : Type 0 where
-  pub lines : List Line
+  pub lines : List StepLine
   pub read : AreItems meaning rows lines
   pub say : Say lines steps
 
 -- the fault that rows give; want of memory says nothing of them
-abbrev pub Faults : List (List (List ℕ)) → StepFault → Type 0
-Faults rows (Row number why) = IsFirstFault meaning rows number why
-Faults rows Memory = ⊤
+abbrev pub IsStepFault : List (List (List ℕ)) → StepFault → Type 0
+IsStepFault rows (Row number why) = IsFirstFault meaning rows number why
+IsStepFault rows Memory = ⊤
 
 -- the operations that lines add to a change directly above them
-abbrev pub joined : List Line → List Op
+abbrev pub joined : List StepLine → List Op
 joined [] = []
 joined (line.Cycle count ∷ lines) = []
 joined (line.Look caller ∷ lines) = []
@@ -61,7 +61,7 @@ joined (line.Begins caller start op ∷ lines) = []
 joined (line.Joins op ∷ lines) = op ∷ joined lines
 
 -- the steps that lines say
-abbrev pub steps_said : List Line → List Step
+abbrev pub steps_said : List StepLine → List Step
 steps_said [] = []
 steps_said (line.Cycle count ∷ lines) = step.Cycle count ∷ steps_said lines
 steps_said (line.Look caller ∷ lines) = step.Act caller act.Look ∷ steps_said lines
@@ -70,7 +70,7 @@ steps_said (line.Begins caller start op ∷ lines) =
 steps_said (line.Joins op ∷ lines) = steps_said lines
 
 -- the steps of lines, or the fault of a row
-abbrev pub steps_or_fault : Result (List Line) (Faulty StepWhy) → Result (List Step) StepFault
+abbrev pub steps_or_fault : Result (List StepLine) (Faulty StepWhy) → Result (List Step) StepFault
 steps_or_fault (Ok lines) = Ok (steps_said lines)
 steps_or_fault (Err fault) = Err (Row fault.number fault.why)
 
@@ -101,7 +101,7 @@ FitsOperation (Remove slot) = slot < 2 ^ 8
 FitsOperation (Change entry) = FitsEntry entry
 
 -- a change of at least one operation whose numbers fit their types
-pub record IsAsked (start : ℕ) (ops : List Op) : Type 0 where
+pub record IsAskedChange (start : ℕ) (ops : List Op) : Type 0 where
   pub early : start < 2 ^ 64
   pub some : 1 ≤ length ops
   pub each : All FitsOperation ops
@@ -109,7 +109,7 @@ pub record IsAsked (start : ℕ) (ops : List Op) : Type 0 where
 -- what an operator may ask
 abbrev pub IsAct : Act → Type 0
 IsAct act.Look = ⊤
-IsAct (act.Ask change) = IsAsked change.start change.ops
+IsAct (act.Ask change) = IsAskedChange change.start change.ops
 
 -- a step with each number in its range
 abbrev pub IsStep : Step → Type 0

@@ -50,7 +50,7 @@ pub enum Form {
 
 /// What a row says.
 #[derive(Clone, Copy, Debug, PartialEq, Eq)]
-pub enum Line {
+pub enum StepLine {
     /// That cycles run.
     Cycle {
         /// How many, 0 to 20,000.
@@ -189,13 +189,13 @@ fn read_operation(verb: Verb, row: &Record<'_>, place: usize) -> Option<Op>
 }
 
 /// What a row says that begins a change with this operation.
-fn read_beginning(verb: Verb, row: &Record<'_>) -> Option<Line>
+fn read_beginning(verb: Verb, row: &Record<'_>) -> Option<StepLine>
     ensures value { result ≡ beginning verb (map trimmed (fields_in row.now)) }
 {
     let caller = number(row, 1, 0..=255)?;
     let start = number(row, 2, 0..=u64::MAX)?;
     let op = read_operation(verb, row, 3)?;
-    Some(Line::Begins {
+    Some(StepLine::Begins {
         caller: caller as u8,
         start,
         op,
@@ -204,24 +204,24 @@ fn read_beginning(verb: Verb, row: &Record<'_>) -> Option<Line>
 
 /// What a row of this form says, where each field is a number in its range.
 #[tactic(auto, unfolding(crate::specs::StepFields::said_as))]
-fn read_said(form: Form, row: &Record<'_>) -> Option<Line>
+fn read_said(form: Form, row: &Record<'_>) -> Option<StepLine>
     ensures value { result ≡ said_as form (map trimmed (fields_in row.now)) }
 {
     match form {
         Form::Cycle => {
             let count = number(row, 1, 0..=MOST_CYCLES)?;
-            Some(Line::Cycle { count })
+            Some(StepLine::Cycle { count })
         }
         Form::Look => {
             let caller = number(row, 1, 0..=255)?;
-            Some(Line::Look {
+            Some(StepLine::Look {
                 caller: caller as u8,
             })
         }
         Form::Begins(verb) => read_beginning(verb, row),
         Form::Joins(Some(verb)) => {
             let op = read_operation(verb, row, 2)?;
-            Some(Line::Joins { op })
+            Some(StepLine::Joins { op })
         }
         Form::Joins(None) => None,
     }
@@ -235,12 +235,12 @@ fn is_operator(caller: u8) -> bool
 }
 
 /// Whether the operator of a line, where it has one, is one.
-fn has_operator(line: Line) -> bool
+fn has_operator(line: StepLine) -> bool
     ensures value { result ≡ has_operator line }
 {
     match line {
-        Line::Look { caller } | Line::Begins { caller, .. } => is_operator(caller),
-        Line::Cycle { .. } | Line::Joins { .. } => true,
+        StepLine::Look { caller } | StepLine::Begins { caller, .. } => is_operator(caller),
+        StepLine::Cycle { .. } | StepLine::Joins { .. } => true,
     }
 }
 
@@ -250,7 +250,7 @@ fn has_operator(line: Line) -> bool
 ///
 /// `Word`, `Fields`, `Number` or `Operator`: the first of them, in this order, that is so.
 #[tactic(auto, unfolding(crate::specs::StepRow::line_of))]
-pub fn read_line(row: &Record<'_>) -> Result<Line, StepWhy>
+pub fn read_line(row: &Record<'_>) -> Result<StepLine, StepWhy>
     ensures value { result ≡ line_of (map trimmed (fields_in row.now)) }
 {
     let Some(form) = read_form(row) else {

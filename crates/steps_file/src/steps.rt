@@ -12,13 +12,13 @@ ghost use Rattle.text_fields.specs.CsvRows.{trimmed, rows_of};
 ghost use Rattle.text_fields.specs.RecordReading.{fields_in};
 ghost use Rattle.steps_file.specs.StepRow.{below, meaning, joins};
 ghost use Rattle.steps_file.specs.StepsReading.{Counts, Drafts, GrowsBy, GrewBy, asking, step_of_asked, last_steps};
-ghost use Rattle.steps_file.specs.StepsFile.{AreSteps, Faults, AreLegalSteps, steps_of};
-ghost use Rattle.steps_file.specs.declared.step_rows.Line.{Line};
+ghost use Rattle.steps_file.specs.StepsFile.{AreSteps, IsStepFault, AreLegalSteps, steps_of};
+ghost use Rattle.steps_file.specs.declared.step_rows.StepLine.{StepLine};
 ghost use Rattle.steps_file.specs.declared.step_fault.StepFault.TheVariants.{Memory};
 ghost use Rattle.steps_file.specs.declared.step_fault.StepWhy.TheVariants.{Loose, Changes, Looks, Cycles};
 
 use super::step_fault::{StepFault, StepWhy};
-use super::step_rows::{Line, read_line};
+use super::step_rows::{StepLine, read_line};
 use change_protocol::{Act, Change, Op, Ops};
 use profile::MOST_CYCLES;
 use std::alloc::Global;
@@ -49,7 +49,7 @@ const MAX_LOOKS: u32 = 1_000;
 
 /// What matters of the rows above a row.
 #[derive(Clone, Copy)]
-struct Tally {
+struct StepTally {
     /// Whether the row directly above is of a change.
     in_change: bool,
     /// How many changes were begun.
@@ -60,12 +60,12 @@ struct Tally {
     cycles: u64,
 }
 
-impl Tally {
+impl StepTally {
     /// That of no rows.
-    fn new() -> Tally
+    fn new() -> StepTally
         ensures counts { Counts [] result }
     {
-        Tally {
+        StepTally {
             in_change: false,
             changes: 0,
             looks: 0,
@@ -74,22 +74,22 @@ impl Tally {
     }
 
     /// That of the rows and one more, which says this line.
-    fn with(self, line: Line) -> Result<Tally, StepWhy>
-        ensures counts { (lines : List Line) → Counts lines self → IfOk result (Counts (lines ++ line ∷ [])) }
-        ensures value { (lines : List Line) → Counts lines self
+    fn with(self, line: StepLine) -> Result<StepTally, StepWhy>
+        ensures counts { (lines : List StepLine) → Counts lines self → IfOk result (Counts (lines ++ line ∷ [])) }
+        ensures value { (lines : List StepLine) → Counts lines self
             → MatchResult result (λ tally. below lines line ≡ Ok line) (λ why. below lines line ≡ Err why) }
         ensures in_change { IfOk result (λ tally. joins line ≡ true → self.in_change ≡ true) }
     {
         match line {
-            Line::Cycle { count } => self.with_cycles(count),
-            Line::Look { .. } => self.with_look(),
-            Line::Begins { .. } => self.with_change(),
-            Line::Joins { .. } => self.with_operation(),
+            StepLine::Cycle { count } => self.with_cycles(count),
+            StepLine::Look { .. } => self.with_look(),
+            StepLine::Begins { .. } => self.with_change(),
+            StepLine::Joins { .. } => self.with_operation(),
         }
     }
 
     /// That of one more row, of so many cycles.
-    fn with_cycles(self, count: u64) -> Result<Tally, StepWhy>
+    fn with_cycles(self, count: u64) -> Result<StepTally, StepWhy>
         ensures ok { IfOk result (λ tally. tally
             ≡ record { in_change = false; changes = self.changes; looks = self.looks; cycles = self.cycles + count }) }
         ensures room { is_ok result ≡ nat_le (self.cycles + count) most_cycles }
@@ -99,7 +99,7 @@ impl Tally {
         if cycles > MOST_CYCLES {
             return Err(StepWhy::Cycles);
         }
-        Ok(Tally {
+        Ok(StepTally {
             in_change: false,
             cycles,
             ..self
@@ -107,7 +107,7 @@ impl Tally {
     }
 
     /// That of one more row, of a look.
-    fn with_look(self) -> Result<Tally, StepWhy>
+    fn with_look(self) -> Result<StepTally, StepWhy>
         ensures ok { IfOk result (λ tally. tally
             ≡ record { in_change = false; changes = self.changes; looks = self.looks + 1; cycles = self.cycles }) }
         ensures room { is_ok result ≡ nat_lt self.looks 1000 }
@@ -116,7 +116,7 @@ impl Tally {
         if self.looks >= MAX_LOOKS {
             return Err(StepWhy::Looks);
         }
-        Ok(Tally {
+        Ok(StepTally {
             in_change: false,
             looks: self.looks + 1,
             ..self
@@ -124,7 +124,7 @@ impl Tally {
     }
 
     /// That of one more row, which begins a change.
-    fn with_change(self) -> Result<Tally, StepWhy>
+    fn with_change(self) -> Result<StepTally, StepWhy>
         ensures ok { IfOk result (λ tally. tally
             ≡ record { in_change = true; changes = self.changes + 1; looks = self.looks; cycles = self.cycles }) }
         ensures room { is_ok result ≡ nat_lt self.changes 1000 }
@@ -133,7 +133,7 @@ impl Tally {
         if self.changes >= MAX_CHANGES {
             return Err(StepWhy::Changes);
         }
-        Ok(Tally {
+        Ok(StepTally {
             in_change: true,
             changes: self.changes + 1,
             ..self
@@ -141,7 +141,7 @@ impl Tally {
     }
 
     /// That of one more row, which joins an operation to a change.
-    fn with_operation(self) -> Result<Tally, StepWhy>
+    fn with_operation(self) -> Result<StepTally, StepWhy>
         ensures ok { IfOk result (λ tally. tally
             ≡ record { in_change = true; changes = self.changes; looks = self.looks; cycles = self.cycles }) }
         ensures room { is_ok result ≡ self.in_change }
@@ -156,10 +156,10 @@ impl Tally {
 
 /// What a row says below these rows, and the tally with it.
 #[tactic(auto, unfolding(crate::specs::StepRow::meaning))]
-fn read_row(row: &Record<'_>, above: Tally) -> Result<(Line, Tally), StepWhy>
-    ensures counts { (lines : List Line) → Counts lines above
+fn read_row(row: &Record<'_>, above: StepTally) -> Result<(StepLine, StepTally), StepWhy>
+    ensures counts { (lines : List StepLine) → Counts lines above
         → IfOk result (λ read. Counts (lines ++ read.0 ∷ []) read.1) }
-    ensures value { (lines : List Line) → Counts lines above
+    ensures value { (lines : List StepLine) → Counts lines above
         → MatchResult result (λ read. meaning lines (map trimmed (fields_in row.now)) ≡ Ok read.0)
         (λ why. meaning lines (map trimmed (fields_in row.now)) ≡ Err why) }
     ensures in_change { IfOk result (λ read. joins read.0 ≡ true → above.in_change ≡ true) }
@@ -171,7 +171,7 @@ fn read_row(row: &Record<'_>, above: Tally) -> Result<(Line, Tally), StepWhy>
 
 /// A change to which further rows may add operations.
 #[derive(Drop)]
-struct Asked {
+struct ChangeDraft {
     /// The operator.
     caller: u8,
     /// The change's start.
@@ -180,35 +180,35 @@ struct Asked {
     ops: Vec<Op>,
 }
 
-impl Asked {
+impl ChangeDraft {
     /// A change of one operation.
-    fn new(alloc: Global, caller: u8, start: u64, op: Op) -> Result<Asked, StepFault>
+    fn new(alloc: Global, caller: u8, start: u64, op: Op) -> Result<ChangeDraft, StepFault>
         ensures ok { IfOk result (λ asked. step_of_asked asked ≡ asking caller start (op ∷ [])) }
         ensures fault { IfErr result (λ fault. fault ≡ Memory) }
     {
         let ops = vec![in alloc; op]?;
-        Ok(Asked { caller, start, ops })
+        Ok(ChangeDraft { caller, start, ops })
     }
 
     /// The change with one operation more.
-    fn with(self, op: Op) -> Result<Asked, StepFault>
+    fn with(self, op: Op) -> Result<ChangeDraft, StepFault>
         ensures ok { IfOk result (GrowsBy op self) }
         ensures fault { IfErr result (λ fault. fault ≡ Memory) }
     {
-        let Asked {
+        let ChangeDraft {
             caller,
             start,
             mut ops,
         } = self;
         ops.push(op)?;
-        Ok(Asked { caller, start, ops })
+        Ok(ChangeDraft { caller, start, ops })
     }
 
     /// The step that asks for the change.
     fn into_step(self) -> Step
         ensures value { result ≡ step_of_asked self }
     {
-        let Asked { caller, start, ops } = self;
+        let ChangeDraft { caller, start, ops } = self;
         let change = Change {
             start,
             ops: Ops::of(ops),
@@ -226,7 +226,7 @@ struct Draft {
     /// The steps that stay as they are.
     steps: Vec<Step>,
     /// The change behind them, where the last row is of one.
-    asked: Option<Asked>,
+    asked: Option<ChangeDraft>,
 }
 
 impl Draft {
@@ -268,7 +268,7 @@ impl Draft {
     }
 
     /// With a change more, to which further rows may add operations.
-    fn with_change(self, asked: Asked) -> Result<Draft, StepFault>
+    fn with_change(self, asked: ChangeDraft) -> Result<Draft, StepFault>
         ensures steps { IfOk result (λ draft. draft.steps.items ≡ self.steps.items ++ last_steps self.asked) }
         ensures asked { IfOk result (λ draft. draft.asked ≡ Some asked) }
         ensures fault { IfErr result (λ fault. fault ≡ Memory) }
@@ -301,22 +301,22 @@ impl Draft {
     }
 
     /// Those of the rows and one more, which says this line.
-    fn with(self, alloc: Global, line: Line) -> Result<Draft, StepFault>
+    fn with(self, alloc: Global, line: StepLine) -> Result<Draft, StepFault>
         requires in_change { joins line ≡ true → is_some self.asked ≡ true }
-        ensures drafts { (lines : List Line) → Drafts lines self → IfOk result (Drafts (lines ++ line ∷ [])) }
+        ensures drafts { (lines : List StepLine) → Drafts lines self → IfOk result (Drafts (lines ++ line ∷ [])) }
         ensures fault { IfErr result (λ fault. fault ≡ Memory) }
     {
         match line {
-            Line::Cycle { count } => self.with_step(Step::Cycle { count }),
-            Line::Look { caller } => self.with_step(Step::Act {
+            StepLine::Cycle { count } => self.with_step(Step::Cycle { count }),
+            StepLine::Look { caller } => self.with_step(Step::Act {
                 caller,
                 act: Act::Look,
             }),
-            Line::Begins { caller, start, op } => {
-                let asked = Asked::new(alloc, caller, start, op)?;
+            StepLine::Begins { caller, start, op } => {
+                let asked = ChangeDraft::new(alloc, caller, start, op)?;
                 self.with_change(asked)
             }
-            Line::Joins { op } => self.with_operation(op),
+            StepLine::Joins { op } => self.with_operation(op),
         }
     }
 }
@@ -328,14 +328,14 @@ impl Draft {
 /// `Row` with the first row that is none and why, and `Memory` where memory ran out.
 pub fn read_steps(alloc: Global, bytes: &[u8]) -> Result<Vec<Step>, StepFault>
     ensures ok { IfOk result (λ steps. AreSteps (rows_of bytes.now) steps.items) }
-    ensures fault { IfErr result (Faults (rows_of bytes.now)) }
+    ensures fault { IfErr result (IsStepFault (rows_of bytes.now)) }
     ensures legal { IfOk result (λ steps. AreLegalSteps steps.items) }
     ensures value { MatchResult result (λ steps. steps_of bytes.now ≡ Ok steps.items)
         (λ fault. (fault ≡ Memory) ⊎ (steps_of bytes.now ≡ Err fault)) }
 {
     let mut reader = begin_reading(alloc, bytes);
     let mut row = Record::new(alloc);
-    let mut tally = Tally::new();
+    let mut tally = StepTally::new();
     let mut draft = Draft::new(alloc);
     let mut number = 0u64;
     while next_record(&mut reader, &mut row)? {

@@ -11,6 +11,6 @@ mod sender;
 mod steps;
 mod stuffing;
 
-pub use run::Run;
+pub use run::BitRun;
 pub use sender::Sender;
 pub use stuffing::{StuffFault, bound, stuff, stuffed_len, stuffed_len_bytes, unstuff};

@@ -13,12 +13,12 @@ const FULL: u8 = 5;
 /// It is all that stuffing needs to know of the bits before a place. Its clauses speak of every list
 /// of bits sent, newest first, so a caller may keep that list, or only say in a proof which one it is.
 #[derive(Clone, Copy, Debug, Default, PartialEq, Eq)]
-pub struct Run {
+pub struct BitRun {
     last: bool,
     count: u8,
 }
 
-impl Model for Run {
+impl Model for BitRun {
     ghost use Rattle.std.specs.Prelude.{◌≤◌};
     ghost use Rattle.stuff_bound.specs.Stuffing.{LastRun};
 
@@ -31,12 +31,12 @@ impl Model for Run {
     ghost inverse = { λ v. record { last = v.last; count = v.count } };
 }
 
-impl Run {
+impl BitRun {
     /// Before the first bit.
     pub fn new() -> Self
         ensures tracks { Tracks result [] }
     {
-        Run {
+        BitRun {
             last: false,
             count: 0,
         }
@@ -47,12 +47,12 @@ impl Run {
         ensures tracks { (sent : List Bool) → Tracks self sent → Tracks result (bit ∷ sent) }
     {
         if bit != self.last {
-            Run {
+            BitRun {
                 last: bit,
                 count: 1,
             }
         } else if self.count < FULL {
-            Run {
+            BitRun {
                 last: bit,
                 count: self.count + 1,
             }

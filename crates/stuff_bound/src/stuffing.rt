@@ -7,7 +7,7 @@ ghost use Rattle.stuff_bound.specs.Fields.{bits_of};
 ghost use Rattle.stuff_bound.specs.declared.stuffing.StuffFault.TheVariants.{Memory};
 ghost use Rattle.stuff_bound.specs.StuffFault.{HasFirstSixth, EndsInFive};
 
-use crate::run::Run;
+use crate::run::BitRun;
 use crate::sender::after_bits;
 use std::alloc::{AllocError, AllocFailed, Global};
 use std::error::Error;
@@ -56,7 +56,7 @@ pub fn stuff(alloc: Global, bits: &[bool]) -> Result<Vec<bool>, AllocError>
     ensures value { IfOk result (λ wire. wire.items ≡ stuffed bits.now) }
 {
     let mut wire = Vec::new(alloc);
-    let mut run = Run::new();
+    let mut run = BitRun::new();
     for bit in bits {
         wire.push(*bit)?;
         run = run.then(*bit);
@@ -82,7 +82,7 @@ pub fn unstuff(alloc: Global, bits: &[bool]) -> Result<Vec<bool>, StuffFault>
         → (result ≡ Err (StuffFault.Ends len)) ↔ (EndsInFive bits.now × (len ≡ length bits.now)) }
 {
     let mut plain = Vec::new(alloc);
-    let mut run = Run::new();
+    let mut run = BitRun::new();
     for (place, bit) in bits.iter().enumerate() {
         if run.is_sixth(*bit) {
             return Err(StuffFault::SixEqual { place });
@@ -110,7 +110,7 @@ pub fn stuffed_len(bits: &[bool]) -> usize
     ensures frame { (bytes : ℕ) → length bits.now ≡ 34 + 8 * bytes → result + 13 ≤ worst bytes }
 {
     let mut len = 0;
-    let mut run = Run::new();
+    let mut run = BitRun::new();
     for bit in bits {
         len += 1;
         run = run.then(*bit);

@@ -5,7 +5,7 @@ use Rattle.toml.specs.Data.{Data, Items, array, as_array}
 use Rattle.toml.specs.View.{array_view, items_view, view}
 use Rattle.toml.specs.declared.value.Value.{Value}
 use Rattle.system_file.specs.SystemFile.{elements_in, from_place, list_of}
-use Rattle.system_file.specs.SystemParts.{IsFirst}
+use Rattle.system_file.specs.SystemParts.{IsFirstSystemFault}
 use Rattle.system_file.specs.declared.system_fault.SystemFault.{SystemFault}
 use Rattle.system_file.proofs.SystemFirst.{first_in_front}
 
@@ -47,6 +47,6 @@ module _ (faults : ℕ → Data → List SystemFault) (values : List Value) (who
 
   -- the first fault of the element at a place is the first of all
   pub fault_at_place : (place : ℕ) (value : Value) (fault : SystemFault) → place < length values → whole ≡ left faults values place
-      → IsFirst (faults place (view (get_or values place value))) fault → IsFirst whole fault
+      → IsFirstSystemFault (faults place (view (get_or values place value))) fault → IsFirstSystemFault whole fault
   fault_at_place place value fault below same is =
-      subst (λ all. IsFirst all fault) (sym (same ∙ one_more place value below)) (first_in_front _ (left faults values (place + 1)) fault is)
+      subst (λ all. IsFirstSystemFault all fault) (sym (same ∙ one_more place value below)) (first_in_front _ (left faults values (place + 1)) fault is)

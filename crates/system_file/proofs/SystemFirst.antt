@@ -4,7 +4,7 @@ use Rattle.std.specs.Result.{IsErrAnd}
 use Rattle.system_file.specs.SystemFile.{described_by, document_of, faults_of, judged, system_of}
 use Rattle.toml.specs.Data.{Members}
 use Rattle.system_file.specs.declared.system.System.{System}
-use Rattle.system_file.specs.SystemParts.{IsFirst, first_fault, first_key}
+use Rattle.system_file.specs.SystemParts.{IsFirstSystemFault, first_fault, first_key}
 use Rattle.system_file.specs.declared.system_fault.SystemFault.{SystemFault}
 use Rattle.system_file.specs.declared.system_fault.SystemFault.TheVariants.{Key, Memory, Toml}
 
@@ -13,27 +13,27 @@ still_first [] rest fault e = absurd (cc)
 still_first (other ∷ front) rest fault e = e
 
 -- the first of a front is the first of the whole
-pub first_in_front : (front rest : List SystemFault) (fault : SystemFault) → IsFirst front fault → IsFirst (front ++ rest) fault
+pub first_in_front : (front rest : List SystemFault) (fault : SystemFault) → IsFirstSystemFault front fault → IsFirstSystemFault (front ++ rest) fault
 first_in_front front rest fault is = record { first = λ other. still_first front rest fault (is.first other) }
 
 -- the first of what stands behind nothing is the first of the whole
-pub first_behind : (front rest : List SystemFault) (fault : SystemFault) → front ≡ [] → IsFirst rest fault → IsFirst (front ++ rest) fault
+pub first_behind : (front rest : List SystemFault) (fault : SystemFault) → front ≡ [] → IsFirstSystemFault rest fault → IsFirstSystemFault (front ++ rest) fault
 first_behind [] rest fault none is = is
 first_behind (other ∷ front) rest fault none is = absurd (cc)
 
 -- a fault that is handed on is still the first one
 pub handed-on : {A : Type 0} (faults : List SystemFault) (result : Result A SystemFault) (fault : SystemFault)
-    → IsErrAnd result (λ now. now ≡ fault) → IsFirst faults fault → IfErr result (IsFirst faults)
+    → IsErrAnd result (λ now. now ≡ fault) → IsFirstSystemFault faults fault → IfErr result (IsFirstSystemFault faults)
 handed-on faults (Ok value) fault same is = absurd same
 handed-on faults (Err now) fault same is = rw same is
 
-first_is_judged : (faults : List SystemFault) (system : System) (fault : SystemFault) → IsFirst faults fault → (fault ≡ Memory → ⊥) → judged faults system ≡ Err fault
+first_is_judged : (faults : List SystemFault) (system : System) (fault : SystemFault) → IsFirstSystemFault faults fault → (fault ≡ Memory → ⊥) → judged faults system ≡ Err fault
 first_is_judged [] system fault is other = absurd (let none = is.first other in cc)
 first_is_judged (first ∷ rest) system fault is other = let same : Some first ≡ Some fault = is.first other in cc
 
 -- the first fault of a document is the answer
 pub document_fault : (bytes : List ℕ) (document : Members) (fault : SystemFault)
-    → document_of bytes ≡ Some document → IsFirst (faults_of document) fault → (fault ≡ Memory → ⊥) → system_of bytes ≡ Err fault
+    → document_of bytes ≡ Some document → IsFirstSystemFault (faults_of document) fault → (fault ≡ Memory → ⊥) → system_of bytes ≡ Err fault
 unfolding system_of
 document_fault bytes document fault e is other = rw e (first_is_judged (faults_of document) (described_by document) fault is other)
 
@@ -60,7 +60,7 @@ none_unknown before (key ∷ keys) e = absurd (cc)
 
 -- the first unknown key is the first fault
 pub first_unknown : (before : List ℕ) (keys : List (List ℕ)) (key : List ℕ) (fault : SystemFault)
-    → first_key keys ≡ Some key → ((rest : List SystemFault) → IsFirst (Key (before ++ key) ∷ rest) fault) → IsFirst (map (λ key. Key (before ++ key)) keys) fault
+    → first_key keys ≡ Some key → ((rest : List SystemFault) → IsFirstSystemFault (Key (before ++ key) ∷ rest) fault) → IsFirstSystemFault (map (λ key. Key (before ++ key)) keys) fault
 first_unknown before [] key fault e is = absurd (cc)
 first_unknown before (other ∷ keys) key fault e is =
     let same : Key (before ++ other) ≡ Key (before ++ key) = cc in

@@ -10,7 +10,7 @@ use Rattle.toml.specs.Data.{Data}
 use Rattle.toml.specs.View.{view}
 use Rattle.toml.specs.declared.value.Value.{Value}
 use Rattle.system_file.specs.SystemFile.{from_place, id_of, owner_of, ranges_among, ranges_in_element}
-use Rattle.system_file.specs.SystemParts.{HaveOtherIds, IsFirst, IsOwner, id_of_owner}
+use Rattle.system_file.specs.SystemParts.{HaveOtherIds, IsFirstSystemFault, IsOwner, id_of_owner}
 use Rattle.system_file.specs.declared.system_fault.SystemFault.{SystemFault}
 use Rattle.system_file.proofs.SystemElements.{fault_at_place, left, next_place}
 
@@ -91,12 +91,12 @@ read_next nodes elements place element owners pushed owner read push below at is
 -- the first fault of an element is the first of all
 pub read_fault : (nodes : ℕ) (elements : List Value) (place : ℕ) (element : Value) (owners : List Owner) (fault : SystemFault)
     → IsRead nodes elements place owners → place < length elements → element ≡ get_or elements place element
-    → IsFirst (ranges_in_element nodes (map id_of_owner owners) place (view element)) fault
-    → IsFirst (range_faults_in nodes elements) fault
+    → IsFirstSystemFault (ranges_in_element nodes (map id_of_owner owners) place (view element)) fault
+    → IsFirstSystemFault (range_faults_in nodes elements) fault
 read_fault nodes elements place element owners fault read below at is =
     let faults = ranges_among nodes (map id_of (map view elements)) in
     let here : ranges_in_element nodes (map id_of_owner owners) place (view element) ≡ faults place (view (get_or elements place element)) =
     ap (λ (value : Value). ranges_in_element nodes (map id_of_owner owners) place (view value)) at
     ∙ ap (λ (earlier : List ℕ). ranges_in_element nodes earlier place (view (get_or elements place element))) (ids_before owners place elements read.same) in
     fault_at_place faults elements (range_faults_in nodes elements) place element fault below read.faults
-    (subst (λ (all : List SystemFault). IsFirst all fault) here is)
+    (subst (λ (all : List SystemFault). IsFirstSystemFault all fault) here is)

@@ -12,7 +12,7 @@ use Rattle.toml.specs.declared.value.Value.{Value}
 use Rattle.async_window.specs.declared.request.Owner.{Owner}
 use Rattle.trigger_kind.specs.Kind.{IsSlots}
 use Rattle.cycle_layout.specs.Layout.{IsCycleLength, IsTurnaround, IsWindow}
-use Rattle.system_file.specs.declared.system.Bus.{Bus}
+use Rattle.system_file.specs.declared.system.BusNumbers.{BusNumbers}
 use Rattle.system_file.specs.declared.system.Plan.{Plan}
 use Rattle.system_file.specs.SystemFile.{cycle_row, turnaround_row, window_row, nodes_row, slots_row, policy_row}
 use Rattle.system_file.specs.SystemFile.{fill_of, fill_row, horizon_row, number_of, policy_of}
@@ -53,7 +53,7 @@ first_fault [] = None
 first_fault (fault ∷ rest) = Some fault
 
 -- the fault is the first of these, unless memory ran out
-pub record IsFirst (faults : List SystemFault) (fault : SystemFault) : Type 0 where
+pub record IsFirstSystemFault (faults : List SystemFault) (fault : SystemFault) : Type 0 where
   pub first : (fault ≡ wrong.Memory → ⊥) → first_fault faults ≡ Some fault
 
 -- the number that a value is, where it is from low to high
@@ -65,14 +65,14 @@ abbrev pub id_of_owner : Owner → ℕ
 id_of_owner owner = owner.id
 
 -- the numbers of `bus` are those that the table sets, and they are in range
-pub record IsBusOf (table : Members) (bus : Bus) : Type 0 where
+pub record IsBusOf (table : Members) (bus : BusNumbers) : Type 0 where
   pub cycle : bus.cycle ≡ number_of cycle_row table
   pub turnaround : bus.turnaround ≡ number_of turnaround_row table
   pub window : bus.window ≡ number_of window_row table
   pub nodes : bus.nodes ≡ number_of nodes_row table
   pub slots : bus.slots ≡ number_of slots_row table
 
-pub record IsBus (bus : Bus) : Type 0 where
+pub record AreBusNumbers (bus : BusNumbers) : Type 0 where
   pub cycle : IsCycleLength bus.cycle
   pub turnaround : IsTurnaround bus.turnaround
   pub window : IsWindow bus.window
@@ -81,7 +81,7 @@ pub record IsBus (bus : Bus) : Type 0 where
   pub slots : IsSlots bus.slots
 
 -- the values of `plan` are those that the table sets
-pub record IsPlanOf (table : Members) (plan : Plan) : Type 0 where
+pub record IsPlanSet (table : Members) (plan : Plan) : Type 0 where
   pub policy : plan.policy ≡ policy_of (text_in (value_of policy_row table))
   pub horizon : plan.horizon ≡ number_of horizon_row table
   pub fill : plan.fill ≡ fill_of (text_in (value_of fill_row table))

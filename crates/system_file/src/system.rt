@@ -17,7 +17,7 @@ ghost use Rattle.system_file.specs.SystemFile.{narrow_at, owner_of, plan_of, pla
 ghost use Rattle.system_file.specs.SystemFile.{policy_row, range_at, range_faults, ranges_among, ranges_in_element};
 ghost use Rattle.system_file.specs.SystemFile.{repeated_fault, narrow_faults, system_of};
 ghost use Rattle.system_file.specs.SystemFile.{table_fault, text_in, unknown_faults, unknown_in_element, value_of};
-ghost use Rattle.system_file.specs.SystemParts.{IsBus, HaveOtherIds, IsBusOf, IsFirst, IsOwner, IsPlanOf};
+ghost use Rattle.system_file.specs.SystemParts.{AreBusNumbers, HaveOtherIds, IsBusOf, IsFirstSystemFault, IsOwner, IsPlanSet};
 ghost use Rattle.system_file.specs.SystemParts.{id_of_owner, members_at, prefix_of};
 ghost use Rattle.system_file.specs.declared.system_fault.SystemFault.TheVariants.{Toml, Memory};
 ghost use Rattle.system_file.specs.declared.system_sections.Place.TheVariants as place;
@@ -60,7 +60,7 @@ const MAX_HORIZON: u32 = GREATEST_HORIZON as u32;
 fn read_document(alloc: Global, bytes: &[u8]) -> Result<Table, SystemFault>
     ensures ok { IfOk result (λ document. document_of bytes.now ≡ Some (table_view document)) }
     ensures refused { result ≡ Err Toml → document_of bytes.now ≡ None }
-    ensures fault { IfErr result (IsFirst (Toml ∷ [])) }
+    ensures fault { IfErr result (IsFirstSystemFault (Toml ∷ [])) }
 {
     match toml::table_from_slice(alloc, bytes) {
         Ok(document) => Ok(document),
@@ -149,7 +149,7 @@ fn element_of(index: usize, element: &Value) -> Section<'_>
 /// Tests that all keys of an element of `async` are known.
 fn check_element_keys(alloc: Global, index: usize, element: &Value) -> Result<(), SystemFault>
     ensures ok { OnOk result (unknown_in_element index (view element.now) ≡ []) }
-    ensures fault { IfErr result (IsFirst (unknown_in_element index (view element.now))) }
+    ensures fault { IfErr result (IsFirstSystemFault (unknown_in_element index (view element.now))) }
 {
     element_of(index, element).check_keys(alloc, &["id", "node"])
 }
@@ -157,7 +157,7 @@ fn check_element_keys(alloc: Global, index: usize, element: &Value) -> Result<()
 /// Tests that all keys of the elements of `async` are known.
 fn check_elements_keys(alloc: Global, elements: &[Value]) -> Result<(), SystemFault>
     ensures ok { OnOk result (from_place unknown_in_element 0 (map view elements.now) ≡ []) }
-    ensures fault { IfErr result (IsFirst (from_place unknown_in_element 0 (map view elements.now))) }
+    ensures fault { IfErr result (IsFirstSystemFault (from_place unknown_in_element 0 (map view elements.now))) }
 {
     for (index, element) in elements.iter().enumerate() {
         check_element_keys(alloc, index, element)?;
@@ -168,7 +168,7 @@ fn check_elements_keys(alloc: Global, elements: &[Value]) -> Result<(), SystemFa
 /// Tests that all keys are known.
 fn check_keys(alloc: Global, document: &Table) -> Result<(), SystemFault>
     ensures ok { OnOk result (unknown_faults (table_view document.now) ≡ []) }
-    ensures fault { IfErr result (IsFirst (unknown_faults (table_view document.now))) }
+    ensures fault { IfErr result (IsFirstSystemFault (unknown_faults (table_view document.now))) }
 {
     top_of(document).check_keys(alloc, &["bus", "plan", "async"])?;
     bus_of(document).check_keys(alloc, &["cycle", "turnaround", "window", "nodes", "slots"])?;
@@ -180,7 +180,7 @@ fn check_keys(alloc: Global, document: &Table) -> Result<(), SystemFault>
 fn check_bus(alloc: Global, document: &Table) -> Result<(), SystemFault>
     ensures ok { OnOk result (flat_map (kind_at (codes "bus.") (bus_of (table_view document.now))) bus_rows ≡ []) }
     ensures fault { IfErr result
-        (IsFirst (flat_map (kind_at (codes "bus.") (bus_of (table_view document.now))) bus_rows)) }
+        (IsFirstSystemFault (flat_map (kind_at (codes "bus.") (bus_of (table_view document.now))) bus_rows)) }
 {
     let bus = bus_of(document);
     bus.check_kind(alloc, "cycle", Kind::Integer, true)?;
@@ -194,7 +194,7 @@ fn check_bus(alloc: Global, document: &Table) -> Result<(), SystemFault>
 fn check_plan(alloc: Global, document: &Table) -> Result<(), SystemFault>
     ensures ok { OnOk result (flat_map (kind_at (codes "plan.") (plan_of (table_view document.now))) plan_rows ≡ []) }
     ensures fault { IfErr result
-        (IsFirst (flat_map (kind_at (codes "plan.") (plan_of (table_view document.now))) plan_rows)) }
+        (IsFirstSystemFault (flat_map (kind_at (codes "plan.") (plan_of (table_view document.now))) plan_rows)) }
 {
     let plan = plan_of(document);
     plan.check_kind(alloc, "policy", Kind::Text, false)?;
@@ -205,7 +205,7 @@ fn check_plan(alloc: Global, document: &Table) -> Result<(), SystemFault>
 /// Tests that an element of `async` is a table.
 fn check_is_table(alloc: Global, index: usize, element: &Value) -> Result<(), SystemFault>
     ensures ok { OnOk result (table_fault index (view element.now) ≡ []) }
-    ensures fault { IfErr result (IsFirst (table_fault index (view element.now))) }
+    ensures fault { IfErr result (IsFirstSystemFault (table_fault index (view element.now))) }
 {
     if element.is_table() {
         return Ok(());
@@ -219,7 +219,7 @@ fn check_is_table(alloc: Global, index: usize, element: &Value) -> Result<(), Sy
 /// Tests that an element of `async` is a table whose keys are there and hold integers.
 fn check_element(alloc: Global, index: usize, element: &Value) -> Result<(), SystemFault>
     ensures ok { OnOk result (kinds_in_element index (view element.now) ≡ []) }
-    ensures fault { IfErr result (IsFirst (kinds_in_element index (view element.now))) }
+    ensures fault { IfErr result (IsFirstSystemFault (kinds_in_element index (view element.now))) }
 {
     check_is_table(alloc, index, element)?;
     let section = element_of(index, element);
@@ -230,7 +230,7 @@ fn check_element(alloc: Global, index: usize, element: &Value) -> Result<(), Sys
 /// Tests each element of `async`.
 fn check_elements(alloc: Global, elements: &[Value]) -> Result<(), SystemFault>
     ensures ok { OnOk result (from_place kinds_in_element 0 (map view elements.now) ≡ []) }
-    ensures fault { IfErr result (IsFirst (from_place kinds_in_element 0 (map view elements.now))) }
+    ensures fault { IfErr result (IsFirstSystemFault (from_place kinds_in_element 0 (map view elements.now))) }
 {
     for (index, element) in elements.iter().enumerate() {
         check_element(alloc, index, element)?;
@@ -241,7 +241,7 @@ fn check_elements(alloc: Global, elements: &[Value]) -> Result<(), SystemFault>
 /// Tests that no key is missing, and that each holds its kind.
 fn check_kinds(alloc: Global, document: &Table) -> Result<(), SystemFault>
     ensures ok { OnOk result (kind_faults (table_view document.now) ≡ []) }
-    ensures fault { IfErr result (IsFirst (kind_faults (table_view document.now))) }
+    ensures fault { IfErr result (IsFirstSystemFault (kind_faults (table_view document.now))) }
 {
     let top = top_of(document);
     top.check_kind(alloc, "bus", Kind::Table, true)?;
@@ -255,7 +255,7 @@ fn check_kinds(alloc: Global, document: &Table) -> Result<(), SystemFault>
 /// The numbers of `bus`: the lengths of the elementary cycle, of the turnaround and of the largest
 /// synchronous window in bit times, and how many nodes and slots there are.
 #[derive(Clone, Copy)]
-struct Bus {
+struct BusNumbers {
     cycle: u32,
     turnaround: u32,
     window: u32,
@@ -270,7 +270,7 @@ fn read_slots(alloc: Global, bus: Section) -> Result<u8, SystemFault>
     ensures known { IfOk result IsSlots }
     ensures ok { OnOk result (range_at (prefix_of bus.entry.place) (members_at bus.entry.table) slots_row ≡ []) }
     ensures fault { IfErr result
-        (IsFirst (range_at (prefix_of bus.entry.place) (members_at bus.entry.table) slots_row)) }
+        (IsFirstSystemFault (range_at (prefix_of bus.entry.place) (members_at bus.entry.table) slots_row)) }
 {
     let Some(value) = bus.value("slots") else {
         return Ok(FIRST_SLOTS);
@@ -288,12 +288,12 @@ fn read_slots(alloc: Global, bus: Section) -> Result<u8, SystemFault>
 }
 
 /// The numbers of `bus`, where they are in range.
-fn read_bus(alloc: Global, document: &Table) -> Result<Bus, SystemFault>
+fn read_bus(alloc: Global, document: &Table) -> Result<BusNumbers, SystemFault>
     ensures numbers { IfOk result (IsBusOf (bus_of (table_view document.now))) }
-    ensures ranges { IfOk result IsBus }
+    ensures ranges { IfOk result AreBusNumbers }
     ensures ok { OnOk result (flat_map (range_at (codes "bus.") (bus_of (table_view document.now))) bus_rows ≡ []) }
     ensures fault { IfErr result
-        (IsFirst (flat_map (range_at (codes "bus.") (bus_of (table_view document.now))) bus_rows)) }
+        (IsFirstSystemFault (flat_map (range_at (codes "bus.") (bus_of (table_view document.now))) bus_rows)) }
 {
     let bus = bus_of(document);
     let cycle = bus.number(alloc, "cycle", SHORTEST_CYCLE..=LONGEST_CYCLE)?;
@@ -301,7 +301,7 @@ fn read_bus(alloc: Global, document: &Table) -> Result<Bus, SystemFault>
     let window = bus.number(alloc, "window", SHORTEST_WINDOW..=LONGEST_WINDOW)?;
     let nodes = bus.number(alloc, "nodes", 1..=MAX_NODES)?;
     let slots = read_slots(alloc, bus)?;
-    Ok(Bus {
+    Ok(BusNumbers {
         cycle,
         turnaround,
         window,
@@ -331,7 +331,7 @@ fn read_policy(alloc: Global, plan: Section) -> Result<Policy, SystemFault>
         (λ policy. policy ≡ policy_of (text_in (value_of policy_row (members_at plan.entry.table)))) }
     ensures ok { OnOk result (range_at (prefix_of plan.entry.place) (members_at plan.entry.table) policy_row ≡ []) }
     ensures fault { IfErr result
-        (IsFirst (range_at (prefix_of plan.entry.place) (members_at plan.entry.table) policy_row)) }
+        (IsFirstSystemFault (range_at (prefix_of plan.entry.place) (members_at plan.entry.table) policy_row)) }
 {
     let Some(value) = plan.value("policy") else {
         return Ok(Policy::Rm);
@@ -363,7 +363,7 @@ fn read_fill(alloc: Global, plan: Section) -> Result<Fill, SystemFault>
     ensures fill { IfOk result (λ fill. fill ≡ fill_of (text_in (value_of fill_row (members_at plan.entry.table)))) }
     ensures ok { OnOk result (range_at (prefix_of plan.entry.place) (members_at plan.entry.table) fill_row ≡ []) }
     ensures fault { IfErr result
-        (IsFirst (range_at (prefix_of plan.entry.place) (members_at plan.entry.table) fill_row)) }
+        (IsFirstSystemFault (range_at (prefix_of plan.entry.place) (members_at plan.entry.table) fill_row)) }
 {
     let Some(value) = plan.value("fill") else {
         return Ok(Fill::Prefix);
@@ -388,11 +388,11 @@ struct Plan {
 
 /// What `plan` sets, where its values are in range.
 fn read_plan(alloc: Global, document: &Table) -> Result<Plan, SystemFault>
-    ensures values { IfOk result (IsPlanOf (plan_of (table_view document.now))) }
+    ensures values { IfOk result (IsPlanSet (plan_of (table_view document.now))) }
     ensures ranges { IfOk result (λ plan. (least_horizon ≤ plan.horizon) × (plan.horizon ≤ greatest_horizon)) }
     ensures ok { OnOk result (flat_map (range_at (codes "plan.") (plan_of (table_view document.now))) plan_rows ≡ []) }
     ensures fault { IfErr result
-        (IsFirst (flat_map (range_at (codes "plan.") (plan_of (table_view document.now))) plan_rows)) }
+        (IsFirstSystemFault (flat_map (range_at (codes "plan.") (plan_of (table_view document.now))) plan_rows)) }
 {
     let plan = plan_of(document);
     let policy = read_policy(alloc, plan)?;
@@ -417,7 +417,7 @@ fn check_new(alloc: Global, section: Section, id: u16, earlier: &[Owner]) -> Res
     ensures ok { OnOk result (repeated_fault (prefix_of section.entry.place) (map id_of_owner earlier.now) id ≡ []) }
     ensures new { OnOk result (All (λ other. other.id ≢ id) earlier.now) }
     ensures fault { IfErr result
-        (IsFirst (repeated_fault (prefix_of section.entry.place) (map id_of_owner earlier.now) id)) }
+        (IsFirstSystemFault (repeated_fault (prefix_of section.entry.place) (map id_of_owner earlier.now) id)) }
 {
     if has_owner(earlier, id) {
         Err(section.range_fault(alloc, "id"))
@@ -441,7 +441,7 @@ fn read_owner(
     ensures new { IfOk result (λ owner. All (λ other. HaveOtherIds other owner) earlier.now) }
     ensures ok { OnOk result (ranges_in_element nodes (map id_of_owner earlier.now) index (view element.now) ≡ []) }
     ensures fault { IfErr result
-        (IsFirst (ranges_in_element nodes (map id_of_owner earlier.now) index (view element.now))) }
+        (IsFirstSystemFault (ranges_in_element nodes (map id_of_owner earlier.now) index (view element.now))) }
 {
     let section = element_of(index, element);
     let ids = u32::from(LEAST_ASYNCHRONOUS)..=u32::from(GREATEST_IDENTIFIER);
@@ -460,7 +460,7 @@ fn read_owners(alloc: Global, elements: &[Value], nodes: u8) -> Result<Vec<Owner
     ensures ok { OnOk result
         (from_place (ranges_among nodes (map id_of (map view elements.now))) 0 (map view elements.now) ≡ []) }
     ensures fault { IfErr result
-        (IsFirst (from_place (ranges_among nodes (map id_of (map view elements.now))) 0 (map view elements.now))) }
+        (IsFirstSystemFault (from_place (ranges_among nodes (map id_of (map view elements.now))) 0 (map view elements.now))) }
 {
     let mut owners = Vec::new(alloc);
     for (index, element) in elements.iter().enumerate() {
@@ -471,8 +471,8 @@ fn read_owners(alloc: Global, elements: &[Value], nodes: u8) -> Result<Vec<Owner
 }
 
 /// The layout of an elementary cycle, where it has room for what it needs.
-fn layout_of(bus: Bus) -> Result<Layout, SystemFault>
-    requires ranges { IsBus bus }
+fn layout_of(bus: BusNumbers) -> Result<Layout, SystemFault>
+    requires ranges { AreBusNumbers bus }
     ensures layout { IfOk result
         (λ layout. layout ≡ record {
           cycle = bus.cycle;
@@ -482,7 +482,7 @@ fn layout_of(bus: Bus) -> Result<Layout, SystemFault>
         }) }
     ensures known { IfOk result IsLayout }
     ensures ok { OnOk result (narrow_at (needed bus.turnaround bus.window bus.slots) bus.cycle ≡ []) }
-    ensures fault { IfErr result (IsFirst (narrow_at (needed bus.turnaround bus.window bus.slots) bus.cycle)) }
+    ensures fault { IfErr result (IsFirstSystemFault (narrow_at (needed bus.turnaround bus.window bus.slots) bus.cycle)) }
 {
     match Layout::new(bus.cycle, bus.turnaround, bus.window, bus.slots) {
         Ok(layout) => Ok(layout),
@@ -498,7 +498,7 @@ fn read_values(alloc: Global, document: &Table) -> Result<System, SystemFault>
     ensures valid { IfOk result IsSystem }
     ensures ok { OnOk result (range_faults (table_view document.now) ++ narrow_faults (table_view document.now) ≡ []) }
     ensures fault { IfErr result
-        (IsFirst (range_faults (table_view document.now) ++ narrow_faults (table_view document.now))) }
+        (IsFirstSystemFault (range_faults (table_view document.now) ++ narrow_faults (table_view document.now))) }
 {
     let bus = read_bus(alloc, document)?;
     let plan = read_plan(alloc, document)?;
@@ -525,7 +525,7 @@ fn read_tables(alloc: Global, document: &Table) -> Result<System, SystemFault>
     ensures system { IfOk result (λ system. system ≡ described_by (table_view document.now)) }
     ensures valid { IfOk result IsSystem }
     ensures ok { OnOk result (faults_of (table_view document.now) ≡ []) }
-    ensures fault { IfErr result (IsFirst (faults_of (table_view document.now))) }
+    ensures fault { IfErr result (IsFirstSystemFault (faults_of (table_view document.now))) }
 {
     check_keys(alloc, document)?;
     check_kinds(alloc, document)?;

@@ -8,7 +8,7 @@ ghost use Rattle.toml.specs.Data.{get_member, integer};
 ghost use Rattle.toml.specs.View.{table_view, view};
 ghost use Rattle.system_file.specs.SystemFile.{is_among, is_whole_from, kind_fault, number_in};
 ghost use Rattle.system_file.specs.SystemFile.{range_fault, unknown_in, unknown_keys};
-ghost use Rattle.system_file.specs.SystemParts.{IsFirst, first_key, is_kind, members_at, prefix_of, whole_in};
+ghost use Rattle.system_file.specs.SystemParts.{IsFirstSystemFault, first_key, is_kind, members_at, prefix_of, whole_in};
 ghost use Rattle.system_file.specs.declared.system_fault.SystemFault.{SystemFault};
 ghost use Rattle.system_file.specs.declared.system_fault.SystemFault.TheVariants.{Key, Range};
 
@@ -97,7 +97,7 @@ impl<'a> Section<'a> {
     /// The fault that a key is unknown or missing, or that it holds another kind.
     fn key_fault(self, alloc: Global, key: &str) -> SystemFault
         ensures first { (rest : List SystemFault)
-            → IsFirst (Key (prefix_of self.entry.place ++ key.now) ∷ rest) result }
+            → IsFirstSystemFault (Key (prefix_of self.entry.place ++ key.now) ∷ rest) result }
     {
         match self.place.path(alloc, key) {
             Ok(path) => SystemFault::Key { path },
@@ -108,7 +108,7 @@ impl<'a> Section<'a> {
     /// The fault that the value of a key is out of range.
     pub(crate) fn range_fault(self, alloc: Global, key: &str) -> SystemFault
         ensures first { (rest : List SystemFault)
-            → IsFirst (Range (prefix_of self.entry.place ++ key.now) ∷ rest) result }
+            → IsFirstSystemFault (Range (prefix_of self.entry.place ++ key.now) ∷ rest) result }
     {
         match self.place.path(alloc, key) {
             Ok(path) => SystemFault::Range { path },
@@ -133,7 +133,7 @@ impl<'a> Section<'a> {
             (unknown_in (prefix_of self.entry.place)
             (map (λ known. known.now) known.now) (members_at self.entry.table) ≡ []) }
         ensures fault { IfErr result
-            (IsFirst (unknown_in (prefix_of self.entry.place)
+            (IsFirstSystemFault (unknown_in (prefix_of self.entry.place)
             (map (λ known. known.now) known.now) (members_at self.entry.table))) }
     {
         match self.unknown_key(known) {
@@ -154,7 +154,7 @@ impl<'a> Section<'a> {
             (kind_fault (prefix_of self.entry.place ++ key.now) (is_kind kind) needed
             (get_member key.now (members_at self.entry.table)) ≡ []) }
         ensures fault { IfErr result
-            (IsFirst (kind_fault (prefix_of self.entry.place ++ key.now) (is_kind kind) needed
+            (IsFirstSystemFault (kind_fault (prefix_of self.entry.place ++ key.now) (is_kind kind) needed
             (get_member key.now (members_at self.entry.table)))) }
     {
         match self.value(key) {
@@ -191,7 +191,7 @@ impl<'a> Section<'a> {
             (is_whole_from (range_inclusive_start range) (range_inclusive_end range))
             (option_or (get_member key.now (members_at self.entry.table)) None) ≡ []) }
         ensures fault { IfErr result
-            (IsFirst (range_fault (prefix_of self.entry.place ++ key.now)
+            (IsFirstSystemFault (range_fault (prefix_of self.entry.place ++ key.now)
             (is_whole_from (range_inclusive_start range) (range_inclusive_end range))
             (option_or (get_member key.now (members_at self.entry.table)) None))) }
     {
@@ -224,7 +224,7 @@ impl<'a> Section<'a> {
             (is_whole_from (range_inclusive_start range) (range_inclusive_end range))
             (option_or (get_member key.now (members_at self.entry.table)) (Some (integer (pos default)))) ≡ []) }
         ensures fault { IfErr result
-            (IsFirst (range_fault (prefix_of self.entry.place ++ key.now)
+            (IsFirstSystemFault (range_fault (prefix_of self.entry.place ++ key.now)
             (is_whole_from (range_inclusive_start range) (range_inclusive_end range))
             (option_or (get_member key.now (members_at self.entry.table)) (Some (integer (pos default)))))) }
     {

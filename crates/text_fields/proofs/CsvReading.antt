@@ -10,7 +10,7 @@ use Rattle.csv.specs.declared.reader.Reader.{Reader}
 use Rattle.csv.specs.declared.parser.Action.{Action}
 use Rattle.csv.specs.declared.parser.State.{State}
 use Rattle.csv.specs.declared.parser.State.TheVariants as st
-use Rattle.text_fields.specs.CsvReading.{Between, Reads, ReadsOne, records_left}
+use Rattle.text_fields.specs.CsvReading.{Between, ReadsCsv, ReadsOneCsv, records_left}
 use Rattle.text_fields.specs.CsvRows.{records_of}
 
 -- where a byte ends a record, the reader stands between two records
@@ -140,8 +140,8 @@ read_one rem a b fields left config source read =
     (m.0, m.1, m.2.1 ∙ ap Some (same_read m.2.0 fields b.state m.0 m.2.2 m.2.3.0 m.2.3.1))
 
 -- one more record read
-pub reads_one : (bytes : List ℕ) (a b : Reader (Bor (List ℕ))) (read : List (List (List ℕ))) (fields : List (List ℕ)) → Reads bytes a read
-    → ReadRecord (λ s. Some s.now) a b true fields → b.first ≡ true → b.config ≡ a.config → b.trim ≡ a.trim → ReadsOne bytes a b read fields
+pub reads_one : (bytes : List ℕ) (a b : Reader (Bor (List ℕ))) (read : List (List (List ℕ))) (fields : List (List ℕ)) → ReadsCsv bytes a read
+    → ReadRecord (λ s. Some s.now) a b true fields → b.first ≡ true → b.config ≡ a.config → b.trim ≡ a.trim → ReadsOneCsv bytes a b read fields
 reads_one bytes a b read fields so_far one first config trim =
     let next = read_one (λ (s : Bor (List ℕ)). Some s.now) a b fields so_far.left so_far.config so_far.source one in
     let r : Read = (fields, b.state, next.0) in
@@ -165,7 +165,7 @@ reads_one bytes a b read fields so_far one first config trim =
     }
 
 -- where no record is left, those that were read are all
-pub reads_all : (bytes : List ℕ) (a : Reader (Bor (List ℕ))) (read : List (List (List ℕ))) (so_far : Reads bytes a read)
+pub reads_all : (bytes : List ℕ) (a : Reader (Bor (List ℕ))) (read : List (List (List ℕ))) (so_far : ReadsCsv bytes a read)
     → next_record default_config a.state [] [] so_far.left ≡ None → records_of bytes ≡ read
 reads_all bytes a read so_far ended =
     so_far.rows ∙ ap (λ records. read ++ records) (records_left-none a.state so_far.left ended) ∙ append-nil read

@@ -4,17 +4,17 @@ use Rattle.std.proofs.lemmas.List.{append-nil, append_cancel_left}
 use Rattle.csv.specs.declared.reader.Reader.{Reader}
 use Rattle.text_fields.specs.CsvReading as csv
 use Rattle.text_fields.specs.CsvRows.{records_of}
-use Rattle.text_fields.specs.RecordReading.{AreBehind, AreLeft, Reads, ReadsOne, bytes_left}
+use Rattle.text_fields.specs.RecordReading.{AreBehind, AreLeft, ReadsOneRecord, ReadsRecords, bytes_left}
 use Rattle.text_fields.specs.declared.records.RecordReader.{RecordReader}
 
-few_left : (text : List ℕ) (reader : Reader (Bor (List ℕ))) (front : List (List (List ℕ))) → csv.Reads text reader front
+few_left : (text : List ℕ) (reader : Reader (Bor (List ℕ))) (front : List (List (List ℕ))) → csv.ReadsCsv text reader front
     → length front + csv.bytes_left reader ≤ length text
 few_left text reader front is = rw is.source is.few
 
-module _ (bytes : List ℕ) (old : RecordReader) (read : List (List (List ℕ))) (so_far : Reads bytes old read) where
+module _ (bytes : List ℕ) (old : RecordReader) (read : List (List (List ℕ))) (so_far : ReadsRecords bytes old read) where
   -- one record more, behind which these are left
   goes_on : (new : RecordReader) (fields : List (List ℕ)) (below : List (List (List ℕ))) → so_far.rows ≡ fields ∷ below
-      → AreLeft new.rest.now new.other below → bytes_left new < bytes_left old → ReadsOne bytes old new read fields
+      → AreLeft new.rest.now new.other below → bytes_left new < bytes_left old → ReadsOneRecord bytes old new read fields
   goes_on new fields below are left fewer =
       let split : records_of bytes ≡ read ++ fields ∷ below = so_far.whole ∙ ap (λ rows. read ++ rows) are in
       record {
@@ -38,7 +38,7 @@ module _ (bytes : List ℕ) (old : RecordReader) (read : List (List (List ℕ)))
     plain_rows = rw plain at so_far.left
 
     pub by_plain : (new : RecordReader) (fields : List (List ℕ)) → new.other ≡ None → records_of old.rest.now ≡ fields ∷ records_of new.rest.now
-        → length new.rest.now < length old.rest.now → ReadsOne bytes old new read fields
+        → length new.rest.now < length old.rest.now → ReadsOneRecord bytes old new read fields
     by_plain new fields other is fewer =
         goes_on new fields (records_of new.rest.now) (sym plain_rows ∙ is) (rw other refl) (rw (other, plain) fewer)
 
@@ -46,7 +46,7 @@ module _ (bytes : List ℕ) (old : RecordReader) (read : List (List (List ℕ)))
     by_plain_all none = all_read (sym plain_rows ∙ none)
 
     pub to_csv : (new : RecordReader) (fields : List (List ℕ)) (first second : Reader (Bor (List ℕ))) → new.other ≡ Some second
-        → csv.Reads old.rest.now first [] → csv.ReadsOne old.rest.now first second [] fields → ReadsOne bytes old new read fields
+        → csv.ReadsCsv old.rest.now first [] → csv.ReadsOneCsv old.rest.now first second [] fields → ReadsOneRecord bytes old new read fields
     to_csv new fields first second other begun one =
         let fewer : csv.bytes_left second < length old.rest.now = omega (arith, one.fewer, few_left old.rest.now first [] begun) in
         let left : AreBehind second one.below = record { text = old.rest.now; front = fields ∷ []; reads = one.reads; split = one.split } in
@@ -58,8 +58,8 @@ module _ (bytes : List ℕ) (old : RecordReader) (read : List (List (List ℕ)))
     behind = rw is at so_far.left
 
     pub by_csv : (new : RecordReader) (fields : List (List ℕ)) (after : Reader (Bor (List ℕ))) → new.other ≡ Some after
-        → ((text : List ℕ) (front : List (List (List ℕ))) → csv.Reads text before front → csv.ReadsOne text before after front fields)
-        → ReadsOne bytes old new read fields
+        → ((text : List ℕ) (front : List (List (List ℕ))) → csv.ReadsCsv text before front → csv.ReadsOneCsv text before after front fields)
+        → ReadsOneRecord bytes old new read fields
     by_csv new fields after other reads =
         let one = reads behind.text behind.front behind.reads in
         let rows : so_far.rows ≡ fields ∷ one.below = append_cancel_left behind.front so_far.rows (fields ∷ one.below) (sym behind.split ∙ one.split) in
@@ -72,7 +72,7 @@ module _ (bytes : List ℕ) (old : RecordReader) (read : List (List (List ℕ)))
         } in
         goes_on new fields one.below rows (rw other left) (rw (other, is) one.fewer)
 
-    pub by_csv_all : ((text : List ℕ) (front : List (List (List ℕ))) → csv.Reads text before front → records_of text ≡ front) → records_of bytes ≡ read
+    pub by_csv_all : ((text : List ℕ) (front : List (List (List ℕ))) → csv.ReadsCsv text before front → records_of text ≡ front) → records_of bytes ≡ read
     by_csv_all all =
         let whole = all behind.text behind.front behind.reads in
         let none : so_far.rows ≡ [] = append_cancel_left behind.front so_far.rows [] (sym behind.split ∙ whole ∙ sym (append-nil behind.front)) in

@@ -22,7 +22,7 @@ bytes_left reader = length (unwrap_or (source_of (λ s. Some s.now) reader) [])
 
 -- how a reader stands between two records: it has these bytes left, the records that were read, and then those left,
 -- are all records, and a byte at least was read for each
-pub record Reads (bytes : List ℕ) (reader : Reader (Bor (List ℕ))) (read : List (List (List ℕ))) : Type 0 where
+pub record ReadsCsv (bytes : List ℕ) (reader : Reader (Bor (List ℕ))) (read : List (List (List ℕ))) : Type 0 where
   pub trim : reader.trim ≡ trim.None
   pub ready : Ready reader
   pub config : reader.config ≡ default_config
@@ -33,9 +33,9 @@ pub record Reads (bytes : List ℕ) (reader : Reader (Bor (List ℕ))) (read : L
   pub few : length read + length left ≤ length bytes
 
 -- the record that was read, between those read before and those below it: fewer bytes are left then
-pub record ReadsOne (bytes : List ℕ) (before after : Reader (Bor (List ℕ))) (read : List (List (List ℕ)))
+pub record ReadsOneCsv (bytes : List ℕ) (before after : Reader (Bor (List ℕ))) (read : List (List (List ℕ)))
     (fields : List (List ℕ)) : Type 0 where
   pub below : List (List (List ℕ))
   pub split : records_of bytes ≡ read ++ fields ∷ below
-  pub reads : Reads bytes after (read ++ fields ∷ [])
+  pub reads : ReadsCsv bytes after (read ++ fields ∷ [])
   pub fewer : bytes_left after < bytes_left before

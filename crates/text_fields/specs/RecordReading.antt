@@ -30,7 +30,7 @@ pub record IsCut (line : List ℕ) (fields : List (List ℕ)) (behind : List ℕ
 pub record AreBehind (reader : Reader (Bor (List ℕ))) (rows : List (List (List ℕ))) : Type 0 where
   pub text : List ℕ
   pub front : List (List (List ℕ))
-  pub reads : csv.Reads text reader front
+  pub reads : csv.ReadsCsv text reader front
   pub split : records_of text ≡ front ++ rows
 
 -- the records that are left: those of the rest of the text, or those that `csv` has left
@@ -48,16 +48,16 @@ bytes_left reader = left_of reader.rest.now reader.other
 
 -- how a reader stands between two records: those that were read, and then those that are left, are all records, and a
 -- byte at least was read for each
-pub record Reads (bytes : List ℕ) (reader : RecordReader) (read : List (List (List ℕ))) : Type 0 where
+pub record ReadsRecords (bytes : List ℕ) (reader : RecordReader) (read : List (List (List ℕ))) : Type 0 where
   pub rows : List (List (List ℕ))
   pub left : AreLeft reader.rest.now reader.other rows
   pub whole : records_of bytes ≡ read ++ rows
   pub few : length read + bytes_left reader ≤ length bytes
 
 -- the record that was read, between those read before and those below it: fewer bytes are left then
-pub record ReadsOne (bytes : List ℕ) (before after : RecordReader) (read : List (List (List ℕ)))
+pub record ReadsOneRecord (bytes : List ℕ) (before after : RecordReader) (read : List (List (List ℕ)))
     (fields : List (List ℕ)) : Type 0 where
   pub below : List (List (List ℕ))
   pub split : records_of bytes ≡ read ++ fields ∷ below
-  pub reads : Reads bytes after (read ++ fields ∷ [])
+  pub reads : ReadsRecords bytes after (read ++ fields ∷ [])
   pub fewer : bytes_left after < bytes_left before

@@ -9,7 +9,7 @@ ghost use Rattle.std.specs.Range.{range_inclusive_start, range_inclusive_end};
 ghost use Rattle.csv.specs.Reading.{ReadRecord, Ready, reader_trim, took_first};
 ghost use Rattle.csv.specs.declared.reader.Trim.TheVariants as csv_trim;
 ghost use Rattle.csv.specs.Records.{field_at, fields_of};
-ghost use Rattle.text_fields.specs.CsvReading.{Reads, ReadsOne};
+ghost use Rattle.text_fields.specs.CsvReading.{ReadsCsv, ReadsOneCsv};
 ghost use Rattle.text_fields.specs.CsvRows.{number_at, records_of, trimmed, without_leading_spaces};
 
 use crate::decimals::read_number;
@@ -19,7 +19,7 @@ use std::ops::RangeInclusive;
 
 /// A reader of the records of bytes, each of any number of fields, and none of them a header.
 pub fn records_in(alloc: Global, bytes: &[u8]) -> Reader<&[u8]>
-    ensures reads { Reads bytes.now result [] }
+    ensures reads { ReadsCsv bytes.now result [] }
 {
     ReaderBuilder::new()
         .has_headers(false)
@@ -48,9 +48,9 @@ fn read_record(reader: &mut Reader<&[u8]>, row: &mut ByteRecord) -> Result<bool,
 /// Only where memory runs out.
 pub fn read_next(reader: &mut Reader<&[u8]>, row: &mut ByteRecord) -> Result<bool, AllocError>
     ensures one { IfOk result (λ found. found ≡ true → (bytes : List ℕ) (read : List (List (List ℕ)))
-        → Reads bytes reader.old read → ReadsOne bytes reader.old reader.new read (fields_of row.new)) }
+        → ReadsCsv bytes reader.old read → ReadsOneCsv bytes reader.old reader.new read (fields_of row.new)) }
     ensures all { IfOk result (λ found. found ≡ false → (bytes : List ℕ) (read : List (List (List ℕ)))
-        → Reads bytes reader.old read → records_of bytes ≡ read) }
+        → ReadsCsv bytes reader.old read → records_of bytes ≡ read) }
 {
     let found = read_record(reader, row)?;
     Ok(found)

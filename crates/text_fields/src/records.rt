@@ -11,7 +11,7 @@ ghost use Rattle.std.specs.Range.{range_inclusive_start, range_inclusive_end};
 ghost use Rattle.csv.specs.Records.{field_at};
 ghost use Rattle.text_fields.specs.CsvRows.{number_at, records_of, trimmed};
 ghost use Rattle.text_fields.specs.PlainRows.{is_plain, without_ends};
-ghost use Rattle.text_fields.specs.RecordReading.{IsCut, Reads, ReadsOne, fields_in, parts_in};
+ghost use Rattle.text_fields.specs.RecordReading.{IsCut, ReadsOneRecord, ReadsRecords, fields_in, parts_in};
 
 use crate::csv_rows::{read_next, records_in, trim};
 use crate::decimals::read_number;
@@ -217,7 +217,7 @@ fn read_plain<'a>(text: &'a [u8], row: &mut Record<'a>) -> Option<(bool, &'a [u8
 
 /// A reader of the records of these bytes.
 pub fn begin_reading(alloc: Global, bytes: &[u8]) -> RecordReader<'_>
-    ensures reads { Reads bytes.now result [] }
+    ensures reads { ReadsRecords bytes.now result [] }
 {
     RecordReader {
         alloc,
@@ -232,9 +232,9 @@ pub fn begin_reading(alloc: Global, bytes: &[u8]) -> RecordReader<'_>
 fn read_other<'a>(reader: &mut RecordReader<'a>, row: &mut Record<'a>) -> Result<bool, AllocError>
     requires plain { reader.old.other ≡ None }
     ensures one { IfOk result (λ found. found ≡ true → (bytes : List ℕ) (read : List (List (List ℕ)))
-        → Reads bytes reader.old read → ReadsOne bytes reader.old reader.new read (fields_in row.new)) }
+        → ReadsRecords bytes reader.old read → ReadsOneRecord bytes reader.old reader.new read (fields_in row.new)) }
     ensures all { IfOk result (λ found. found ≡ false → (bytes : List ℕ) (read : List (List (List ℕ)))
-        → Reads bytes reader.old read → records_of bytes ≡ read) }
+        → ReadsRecords bytes reader.old read → records_of bytes ≡ read) }
 {
     let mut records = records_in(reader.alloc, reader.rest);
     let found = read_next(&mut records, &mut row.other)?;
@@ -253,9 +253,9 @@ pub fn next_record<'a>(
     row: &mut Record<'a>,
 ) -> Result<bool, AllocError>
     ensures one { IfOk result (λ found. found ≡ true → (bytes : List ℕ) (read : List (List (List ℕ)))
-        → Reads bytes reader.old read → ReadsOne bytes reader.old reader.new read (fields_in row.new)) }
+        → ReadsRecords bytes reader.old read → ReadsOneRecord bytes reader.old reader.new read (fields_in row.new)) }
     ensures all { IfOk result (λ found. found ≡ false → (bytes : List ℕ) (read : List (List (List ℕ)))
-        → Reads bytes reader.old read → records_of bytes ≡ read) }
+        → ReadsRecords bytes reader.old read → records_of bytes ≡ read) }
 {
     if let Some(records) = &mut reader.other {
         let found = read_next(records, &mut row.other)?;

@@ -21,11 +21,11 @@ use Rattle.steps_file.specs.declared.steps.Step.{Step}
 use Rattle.system_file.specs.declared.system.System.{System}
 use Rattle.replay_run.specs.Run.{setting_of}
 use Rattle.bus_trace.specs.EventRows.{told_at}
-use Rattle.bus_trace.specs.Logged.{IsNear}
+use Rattle.bus_trace.specs.Logged.{IsEventNear}
 use Rattle.bus_trace.specs.LogRows.{events_told}
 use Rattle.log_reader.specs.declared.row.LogRow.{LogRow}
-use Rattle.trace_audit.specs.Again.{Asks, EndsNear, IsAgain, IsBroughtOn, IsOpened}
-use Rattle.trace_audit.specs.Ahead.{IsAhead}
+use Rattle.trace_audit.specs.Again.{Asks, EndsNear, IsAgain, IsRerunBroughtOn, IsRerunOpened}
+use Rattle.trace_audit.specs.Ahead.{AreStepsAhead}
 use Rattle.trace_audit.specs.States.{KeepsStates, state_of}
 use Rattle.trace_audit.specs.declared.rerun.Rerun.{Rerun}
 use Rattle.trace_audit.proofs.Rows.{TraceLaws, called-told, opened-told}
@@ -44,11 +44,11 @@ module _ (system : System) (steps : List Step) (requests : List Request) (trace 
   setting = setting_of system requests
 
   -- a change or a look
-  pub called-on : CallsBetween → (event : Event) → is_open event ≡ false → IsNear event → Asks steps old.master.history line event
+  pub called-on : CallsBetween → (event : Event) → is_open event ≡ false → IsEventNear event → Asks steps old.master.history line event
       → new.master.rules ≡ old.master.rules → new.nodes ≡ old.nodes
       → new.master.history ≡ old.master.history ++ event ∷ [] → IsLegal new.master.rules new.master.history
-      → KeepsStates new.master.rules new.master.history new.states → IsAhead steps (old.master.history ++ event ∷ []) new.ahead
-      → IsBroughtOn system steps requests trace old line new
+      → KeepsStates new.master.rules new.master.history new.states → AreStepsAhead steps (old.master.history ++ event ∷ []) new.ahead
+      → IsRerunBroughtOn system steps requests trace old line new
   called-on laws event closed near asks rules nodes history legal states ahead =
       let same_rules : new.master.rules ≡ system.rules = rules ∙ again.same_rules in
       let whole : IsLegal system.rules (old.master.history ++ event ∷ []) =
@@ -69,7 +69,7 @@ module _ (system : System) (steps : List Step) (requests : List Request) (trace 
         history = history;
         frames = [];
         again = subst (λ t. IsAgain system requests t new) (sym (append-nil trace)) now;
-        ahead = subst (λ h. IsAhead steps h new.ahead) (sym history) ahead;
+        ahead = subst (λ h. AreStepsAhead steps h new.ahead) (sym history) ahead;
         told = ap (λ t. events_told t [] new.master.history) (append-nil trace) ∙ ap (events_told trace []) history
             ∙ called-told trace old.master.history event new.width new.sent closed;
       }
@@ -81,7 +81,7 @@ module _ (system : System) (requests : List Request) (trace : List TimedFrame) (
       → RanOrder order old.nodes new.nodes new.sent → new.width ≡ order.l → new.master.rules ≡ old.master.rules
       → new.master.history ≡ old.master.history ++ Open order.cycle order.mask ∷ []
       → KeepsStates new.master.rules new.master.history new.states
-      → IsOpened system requests trace old new
+      → IsRerunOpened system requests trace old new
   opened-with laws runs order ordered did same rules history states =
       let setting : Setting = setting_of system requests in
       let way = way-run runs setting old.master.history trace new.sent old.nodes new.nodes order ordered did again.way in
@@ -103,10 +103,10 @@ module _ (system : System) (requests : List Request) (trace : List TimedFrame) (
       }
 
 module _ (system : System) (steps : List Step) (requests : List Request) (trace : List TimedFrame) (old new : Rerun) (line : LogRow) where
-  pub opened-on : (opened : IsOpened system requests trace old new)
+  pub opened-on : (opened : IsRerunOpened system requests trace old new)
       → Asks steps old.master.history line (Open opened.cycle opened.mask)
-      → IsAhead steps old.master.history old.ahead → new.ahead ≡ old.ahead
-      → IsBroughtOn system steps requests trace old line new
+      → AreStepsAhead steps old.master.history old.ahead → new.ahead ≡ old.ahead
+      → IsRerunBroughtOn system steps requests trace old line new
   opened-on opened asks ahead same = record {
     event = Open opened.cycle opened.mask;
     asks = asks;
@@ -114,15 +114,15 @@ module _ (system : System) (steps : List Step) (requests : List Request) (trace 
     history = opened.history;
     frames = new.sent;
     again = opened.again;
-    ahead = subst (λ a. IsAhead steps new.master.history a) (sym same)
-        (subst (λ h. IsAhead steps h old.ahead) (sym opened.history)
+    ahead = subst (λ a. AreStepsAhead steps new.master.history a) (sym same)
+        (subst (λ h. AreStepsAhead steps h old.ahead) (sym opened.history)
         (ahead-opened steps old.master.history old.ahead (Open opened.cycle opened.mask) (λ caller. refl) ahead));
     told = opened.told;
   }
 
 -- the rows of the event that was done can be told
 pub ends-near : (system : System) (steps : List Step) (requests : List Request) (trace : List TimedFrame) (old new : Rerun) (line : LogRow)
-    → IsBroughtOn system steps requests trace old line new → EndsNear new.master.history
+    → IsRerunBroughtOn system steps requests trace old line new → EndsNear new.master.history
 ends-near system steps requests trace old new line on =
     record { event = on.event; ends = record { before = old.master.history; is = on.history }; near = on.near }
 

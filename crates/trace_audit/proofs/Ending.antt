@@ -34,7 +34,7 @@ use Rattle.log_reader.specs.declared.row.LogRow.{LogRow}
 use Rattle.log_reader.specs.declared.row.LogRow.TheVariants as row
 use Rattle.trace_audit.specs.Again.{Asks}
 use Rattle.trace_audit.specs.Audit.{CanStand, IsRunOf, IsWholeLog}
-use Rattle.trace_audit.specs.Auditing.{AnswersAll, IsAuditing, is_end, is_inner, left_of}
+use Rattle.trace_audit.specs.Auditing.{AnswersAllActs, IsAuditing, is_end, is_inner, left_of}
 use Rattle.trace_audit.specs.Reading.{AreReadFrom, IsHistoryOf, IsReadFrom, is_event_row}
 use Rattle.trace_audit.specs.declared.auditor.Auditor.{Auditor}
 use Rattle.trace_audit.proofs.Acts.{begins-acts}
@@ -293,7 +293,7 @@ events-range rules steps before (line ∷ lines) (event ∷ events) legal read =
 
 -- all that the steps ask for has happened
 pub answers-operators : (rules : Rules) (steps : List Step) (rows : List LogRow) (history : List Event) → All IsStep steps
-    → IsHistoryOf rules steps rows history → next_of history ≡ sum_by count_of steps → AnswersAll steps history → AnswersOperators history steps
+    → IsHistoryOf rules steps rows history → next_of history ≡ sum_by count_of steps → AnswersAllActs steps history → AnswersOperators history steps
 answers-operators rules steps rows history legal read opened all = record {
   opened = opened;
   answered = λ operator some few. all-called steps history operator (begins-acts rules steps rows history read operator) (all operator some few);
@@ -301,5 +301,5 @@ answers-operators rules steps rows history legal read opened all = record {
 }
 
 -- and the other way round
-pub operators-answer : (steps : List Step) (history : List Event) → AnswersOperators history steps → AnswersAll steps history
+pub operators-answer : (steps : List Step) (history : List Event) → AnswersOperators history steps → AnswersAllActs steps history
 operators-answer steps history answers = λ operator some few. called-all steps history operator (answers.answered operator some few)

@@ -25,8 +25,8 @@ use Rattle.bus_trace.specs.EventRows.{told_at}
 use Rattle.bus_trace.specs.LogRows.{events_told, log_rows}
 use Rattle.log_reader.specs.declared.row.LogRow.{LogRow}
 use Rattle.log_reader.specs.declared.row.LogRow.TheVariants as row
-use Rattle.trace_audit.specs.Again.{Asks, IsAgain, IsBroughtOn}
-use Rattle.trace_audit.specs.Ahead.{IsAhead}
+use Rattle.trace_audit.specs.Again.{Asks, IsAgain, IsRerunBroughtOn}
+use Rattle.trace_audit.specs.Ahead.{AreStepsAhead}
 use Rattle.trace_audit.specs.Audit.{CanStand}
 use Rattle.trace_audit.specs.Auditing.{IsAuditing, is_inner, left_of}
 use Rattle.trace_audit.specs.Reading.{IsHistoryOf, IsReadFrom, is_event_row}
@@ -148,7 +148,7 @@ module _ (system : System) (steps : List Step) (requests : List Request) (rows :
   all-told all = sym (append-nil rows) ∙ ap (λ l. rows ++ l) (sym (none-left all)) ∙ auditing.told
 
   module _ (kept : Promises) (verdicts : OneVerdict) (new : Rerun)
-      (on : IsBroughtOn system steps requests auditing.trace auditor.rerun line new)
+      (on : IsRerunBroughtOn system steps requests auditing.trace auditor.rerun line new)
       (all : auditor.came ≡ length auditor.rows.items) where
     abbrev trace : List TimedFrame
     trace = auditing.trace ++ on.frames
@@ -208,7 +208,7 @@ module _ (system : System) (steps : List Step) (requests : List Request) (rows :
         record {
           trace = trace;
           again = subst (IsAgain system requests trace) (sym same_run) on.again;
-          ahead = subst (λ r. IsAhead steps r.master.history r.ahead) (sym same_run) on.ahead;
+          ahead = subst (λ r. AreStepsAhead steps r.master.history r.ahead) (sym same_run) on.ahead;
           read = subst (IsHistoryOf system.rules steps (rows ++ line ∷ [])) (sym history_is)
               (history-push system.rules steps rows line history on.event is_event auditing.read read);
           only = λ other other_read legal. new-only other other_read legal ∙ ap (λ r. r.master.history) (sym same_run);
@@ -232,7 +232,7 @@ module _ (system : System) (steps : List Step) (requests : List Request) (rows :
         record {
           trace = trace;
           again = subst (IsAgain system requests trace) (sym same_run) on.again;
-          ahead = subst (λ r. IsAhead steps r.master.history r.ahead) (sym same_run) on.ahead;
+          ahead = subst (λ r. AreStepsAhead steps r.master.history r.ahead) (sym same_run) on.ahead;
           read = subst (λ l. IsHistoryOf system.rules steps l next.rerun.master.history) whole
               (history-behind system.rules steps (rows ++ line ∷ []) later quiet next.rerun.master.history
               (subst (IsHistoryOf system.rules steps (rows ++ line ∷ [])) (sym history_is)

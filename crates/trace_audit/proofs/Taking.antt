@@ -14,8 +14,8 @@ use Rattle.steps_file.specs.declared.steps.Step.{Step}
 use Rattle.steps_file.specs.declared.steps.Step.TheVariants as step
 use Rattle.live_master.specs.Callers.{is_called_by}
 use Rattle.live_steps.specs.Live.{act_of, acts_of}
-use Rattle.trace_audit.specs.Ahead.{IsAhead, act_in}
-use Rattle.trace_audit.specs.declared.ahead.Ahead.{Ahead}
+use Rattle.trace_audit.specs.Ahead.{AreStepsAhead, act_in}
+use Rattle.trace_audit.specs.declared.ahead.StepsAhead.{StepsAhead}
 use Rattle.trace_audit.proofs.Readings.{get-drop}
 
 -- The first act of what is left
@@ -81,7 +81,7 @@ count-more : (p : Event → Bool) (history : List Event) (event : Event)
     → count_by p (history ++ event ∷ []) ≡ count_by p history + cond (p event) 1 0
 count-more p history event = let sum = sum_by-append (λ e. cond (p e) 1 0) history (event ∷ []) in omega (arith, sum)
 
-module _ (steps : List Step) (history : List Event) (ahead : Ahead) (is : IsAhead steps history ahead) (operator place : ℕ)
+module _ (steps : List Step) (history : List Event) (ahead : StepsAhead) (is : AreStepsAhead steps history ahead) (operator place : ℕ)
     (few : operator < 9)
     (same : acts_of operator (drop place steps) ≡ acts_of operator (drop (slice_index ahead.places operator) steps)) where
   pub next-act : ((d : Step) → slice_get steps place ≡ Some d → is_some (act_of operator d) ≡ true)
@@ -91,7 +91,7 @@ module _ (steps : List Step) (history : List Event) (ahead : Ahead) (is : IsAhea
       ∙ get-drop (count_by (is_called_by operator) history) (acts_of operator steps)
 
   -- after the act
-  abbrev behind : Ahead
+  abbrev behind : StepsAhead
   behind = record ahead { places = slice_set ahead.places operator (place + 1) }
 
   own-acts : (event : Event) → is_called_by operator event ≡ true → is_some (act_in operator steps place) ≡ true
@@ -106,7 +106,7 @@ module _ (steps : List Step) (history : List Event) (ahead : Ahead) (is : IsAhea
       ∙ ap (λ n. drop n (acts_of operator steps)) (ap (λ n. count + n) (sym one) ∙ sym (count-more (is_called_by operator) history event))
 
   pub ahead-behind : (event : Event) → ((caller : ℕ) → is_called_by caller event ≡ (operator == caller))
-      → is_some (act_in operator steps place) ≡ true → IsAhead steps (history ++ event ∷ []) behind
+      → is_some (act_in operator steps place) ≡ true → AreStepsAhead steps (history ++ event ∷ []) behind
   ahead-behind event calls some = record {
     cycles = is.cycles;
     numbers = length-set ahead.places operator (place + 1) ∙ is.numbers;
@@ -128,8 +128,8 @@ module _ (steps : List Step) (history : List Event) (ahead : Ahead) (is : IsAhea
   }
 
 -- after the opening of a cycle
-pub ahead-opened : (steps : List Step) (history : List Event) (ahead : Ahead) (event : Event)
-    → ((caller : ℕ) → is_called_by caller event ≡ false) → IsAhead steps history ahead → IsAhead steps (history ++ event ∷ []) ahead
+pub ahead-opened : (steps : List Step) (history : List Event) (ahead : StepsAhead) (event : Event)
+    → ((caller : ℕ) → is_called_by caller event ≡ false) → AreStepsAhead steps history ahead → AreStepsAhead steps (history ++ event ∷ []) ahead
 ahead-opened steps history ahead event none is = record {
   cycles = is.cycles;
   numbers = is.numbers;

@@ -16,7 +16,7 @@ use Rattle.bus_trace.specs.LogRows.{events_told}
 use Rattle.log_reader.specs.declared.row.LogRow.{LogRow}
 use Rattle.log_reader.specs.declared.row.LogRow.TheVariants as row
 use Rattle.trace_audit.specs.Audit.{AllStand, CanStand, IsAudited, IsFirstBreak, IsUnfinished, IsWholeLog}
-use Rattle.trace_audit.specs.Auditing.{AnswersAll, Hears, IsAuditing, IsEnded, IsHeard, IsUpTo, Takes, is_end, is_inner}
+use Rattle.trace_audit.specs.Auditing.{AnswersAllActs, AreRowsHeard, Hears, IsAuditing, IsEnded, IsUpTo, TakesRow, is_end, is_inner}
 use Rattle.trace_audit.specs.declared.audit_fault.AuditFault.{AuditFault}
 use Rattle.trace_audit.specs.declared.audit_fault.AuditFault.TheVariants.{Memory}
 use Rattle.trace_audit.specs.declared.log_audit.LogAudit.{LogAudit}
@@ -107,7 +107,7 @@ module _ (system : System) (steps : List Step) (requests : List Request) (rows :
 
 -- no row yet
 pub none-heard : (system : System) (steps : List Step) (requests : List Request) (audit : LogAudit)
-    → IsAuditing system steps requests [] audit.auditor → audit.ended ≡ false → IsHeard system steps requests [] audit
+    → IsAuditing system steps requests [] audit.auditor → audit.ended ≡ false → AreRowsHeard system steps requests [] audit
 none-heard system steps requests audit auditing going = record {
   stand = λ number few.
       let none : 0 ≡ number = omega (arith, few) in
@@ -136,7 +136,7 @@ inner-not_end (row.End next) inner = absurd (cc)
 module _ (steps : List Step) (old new : LogAudit) where
   -- a row that does not end a log
   pub hears-row : (line : LogRow) (stands : Bool) → old.ended ≡ false → new.ended ≡ false → is_end line ≡ false
-      → Takes steps old.auditor new.auditor line stands → Hears steps old new line stands
+      → TakesRow steps old.auditor new.auditor line stands → Hears steps old new line stands
   hears-row line stands going still not_end takes = record {
     stand = λ is system requests rows heard.
         let (auditing, none) = subst (IsUpTo system steps requests rows old.auditor) going heard.up_to in
@@ -193,7 +193,7 @@ module _ (steps : List Step) (old new : LogAudit) where
 -- All rows
 
 module _ (system : System) (steps : List Step) (requests : List Request) (rows : List LogRow) (audit : LogAudit)
-    (heard : IsHeard system steps requests rows audit) where
+    (heard : AreRowsHeard system steps requests rows audit) where
   -- no row ends the log
   pub not-ended : audit.ended ≡ false → IsUnfinished system steps requests rows
   not-ended going =
@@ -205,7 +205,7 @@ module _ (system : System) (steps : List Step) (requests : List Request) (rows :
     last-row = subst (IsUpTo system steps requests rows audit.auditor) ended heard.up_to
 
     -- not all that the steps ask for has happened
-    pub is-unfinished : (next_of audit.auditor.rerun.master.history ≡ sum_by count_of steps → AnswersAll steps audit.auditor.rerun.master.history → ⊥)
+    pub is-unfinished : (next_of audit.auditor.rerun.master.history ≡ sum_by count_of steps → AnswersAllActs steps audit.auditor.rerun.master.history → ⊥)
         → IsUnfinished system steps requests rows
     is-unfinished none =
         let last = last-row in
@@ -219,7 +219,7 @@ module _ (system : System) (steps : List Step) (requests : List Request) (rows :
 
     -- all has
     pub is-audited : All IsStep steps → next_of audit.auditor.rerun.master.history ≡ sum_by count_of steps
-        → AnswersAll steps audit.auditor.rerun.master.history → IsAudited system steps requests rows
+        → AnswersAllActs steps audit.auditor.rerun.master.history → IsAudited system steps requests rows
     is-audited legal opened answered =
         let last = last-row in
         let history = audit.auditor.rerun.master.history in

@@ -19,9 +19,9 @@ use Rattle.log_reader.specs.Row.{row_text, text_of_rows}
 use Rattle.log_reader.specs.declared.row.LogRow.{LogRow}
 use Rattle.log_reader.specs.declared.row.LogRow.TheVariants as row
 use Rattle.log_reader.proofs.Shared.{written-shorter}
-use Rattle.trace_audit.specs.Again.{IsAgain, IsBroughtOn}
+use Rattle.trace_audit.specs.Again.{IsAgain, IsRerunBroughtOn}
 use Rattle.trace_audit.specs.Audit.{AllStand, CanStand}
-use Rattle.trace_audit.specs.Auditing.{CanAudit, CanHear, IsAuditing, IsHeard, IsUpTo, TakesWritten, is_end, is_inner}
+use Rattle.trace_audit.specs.Auditing.{AreRowsHeard, CanAudit, CanHear, IsAuditing, IsUpTo, TakesWritten, is_end, is_inner}
 use Rattle.trace_audit.specs.Reading.{is_event_row}
 use Rattle.trace_audit.specs.declared.log_audit.LogAudit.{LogAudit}
 use Rattle.trace_audit.specs.declared.rerun.Rerun.{Rerun}
@@ -92,17 +92,17 @@ module _ (steps : List Step) (old : LogAudit) (going : old.ended ≡ false) (all
   abbrev after : LogAudit
   after = record old { auditor = record old.auditor { rerun = new } }
 
-  module _ (system : System) (requests : List Request) (rows : List LogRow) (heard : IsHeard system steps requests rows old) where
+  module _ (system : System) (requests : List Request) (rows : List LogRow) (heard : AreRowsHeard system steps requests rows old) where
     parts : IsUpTo system steps requests rows old.auditor false
     parts = subst (IsUpTo system steps requests rows old.auditor) going heard.up_to
 
-    event-heard : (asked : LogRow) (on : IsBroughtOn system steps requests parts.0.trace old.auditor.rerun asked new)
+    event-heard : (asked : LogRow) (on : IsRerunBroughtOn system steps requests parts.0.trace old.auditor.rerun asked new)
         (line : LogRow) (later : List LogRow) → told_at new.width on.event new.sent ≡ line ∷ later
-        → IsHeard system steps requests (rows ++ line ∷ later) after
+        → AreRowsHeard system steps requests (rows ++ line ∷ later) after
     event-heard asked on line later are =
         let auditing = parts.0 in
         let first : slice_get (told_at new.width on.event new.sent) 0 ≡ Some line = ap (λ l. slice_get l 0) are in
-        let own : IsBroughtOn system steps requests auditing.trace old.auditor.rerun line new = record {
+        let own : IsRerunBroughtOn system steps requests auditing.trace old.auditor.rerun line new = record {
           event = on.event;
           asks = own-asks steps old.auditor.rerun.master.history asked on.event new.width new.sent line on.asks first;
           near = on.near;
@@ -127,7 +127,7 @@ module _ (steps : List Step) (old : LogAudit) (going : old.ended ≡ false) (all
   -- where a text begins with the rows of the event, these are heard
   pub event-written : (event : Event) → new.master.history ≡ old.auditor.rerun.master.history ++ event ∷ []
       → ((system : System) (requests : List Request) (trace : List TimedFrame) → IsAgain system requests trace old.auditor.rerun
-      → (asked : LogRow) × IsBroughtOn system steps requests trace old.auditor.rerun asked new)
+      → (asked : LogRow) × IsRerunBroughtOn system steps requests trace old.auditor.rerun asked new)
       → (text rest : List ℕ) → BeginsWith text (told_at new.width event new.sent) rest → TakesWritten steps old after text rest
   event-written event is on text rest begins =
       let head = told-head new.width event new.sent in

@@ -12,11 +12,11 @@ use Rattle.steps_file.specs.declared.steps.Step.{Step}
 use Rattle.system_file.specs.declared.system.System.{System}
 use Rattle.replay_run.specs.Run.{setting_of}
 use Rattle.bus_trace.specs.EventRows.{told_at}
-use Rattle.bus_trace.specs.Logged.{IsNear}
+use Rattle.bus_trace.specs.Logged.{IsEventNear}
 use Rattle.bus_trace.specs.LogRows.{events_told}
 use Rattle.log_reader.specs.declared.row.LogRow.{LogRow}
 use Rattle.log_reader.specs.declared.row.LogRow.TheVariants as row
-use Rattle.trace_audit.specs.Ahead.{IsAhead}
+use Rattle.trace_audit.specs.Ahead.{AreStepsAhead}
 use Rattle.trace_audit.specs.Reading.{IsNextAct}
 use Rattle.trace_audit.specs.States.{KeepsStates}
 use Rattle.trace_audit.specs.declared.rerun.Rerun.{Rerun}
@@ -40,10 +40,10 @@ pub record EndsIn (history : List Event) (event : Event) : Type 0 where
 pub record EndsNear (history : List Event) : Type 0 where
   pub event : Event
   pub ends : EndsIn history event
-  pub near : IsNear event
+  pub near : IsEventNear event
 
 -- a cycle was opened and run: its window, in bit times, and its frames are those that the run has of the last cycle
-pub record IsOpened (system : System) (requests : List Request) (trace : List TimedFrame) (old new : Rerun) : Type 0 where
+pub record IsRerunOpened (system : System) (requests : List Request) (trace : List TimedFrame) (old new : Rerun) : Type 0 where
   pub cycle : ℕ
   pub mask : ℕ
   pub history : new.master.history ≡ old.master.history ++ Open cycle mask ∷ []
@@ -63,14 +63,14 @@ Asks steps before line event = ⊥
 
 -- the run has one event more, which the row asks for and the steps no longer have before it. The rows of the event can be
 -- told, with the window and the frames of the cycle that was opened last
-pub record IsBroughtOn (system : System) (steps : List Step) (requests : List Request) (trace : List TimedFrame)
+pub record IsRerunBroughtOn (system : System) (steps : List Step) (requests : List Request) (trace : List TimedFrame)
     (old : Rerun) (line : LogRow) (new : Rerun) : Type 0 where
   pub event : Event
   pub asks : Asks steps old.master.history line event
-  pub near : IsNear event
+  pub near : IsEventNear event
   pub history : new.master.history ≡ old.master.history ++ event ∷ []
   pub frames : List TimedFrame
   pub again : IsAgain system requests (trace ++ frames) new
-  pub ahead : IsAhead steps new.master.history new.ahead
+  pub ahead : AreStepsAhead steps new.master.history new.ahead
   pub told : events_told (trace ++ frames) [] new.master.history
       ≡ events_told trace [] old.master.history ++ told_at new.width event new.sent

@@ -6,7 +6,7 @@ use Rattle.steps_file.specs.StepsFile.{count_of}
 use Rattle.steps_file.specs.declared.steps.Step.{Step}
 use Rattle.live_master.specs.Callers.{is_called_by}
 use Rattle.live_steps.specs.Live.{act_of, acts_of}
-use Rattle.trace_audit.specs.declared.ahead.Ahead.{Ahead}
+use Rattle.trace_audit.specs.declared.ahead.StepsAhead.{StepsAhead}
 
 -- what a step asks of this operator, where there is a step
 abbrev pub act_of_some : ℕ → Option Step → Option Act
@@ -19,7 +19,7 @@ act_in operator steps place = act_of_some operator (slice_get steps place)
 
 -- after a history: the acts of each operator in the steps from its place on are those that it has not taken in the
 -- history; and all counts together ask for so many cycles
-pub record IsAhead (steps : List Step) (history : List Event) (ahead : Ahead) : Type 0 where
+pub record AreStepsAhead (steps : List Step) (history : List Event) (ahead : StepsAhead) : Type 0 where
   pub cycles : ahead.cycles ≡ sum_by count_of steps
   pub numbers : length ahead.places ≡ 9
   pub acts : (operator : ℕ) → operator < 9 → acts_of operator (drop (slice_index ahead.places operator) steps)

@@ -15,7 +15,7 @@ use Rattle.log_reader.specs.declared.row.LogRow.TheVariants as row
 use Rattle.live_master.specs.Callers.{is_called_by}
 use Rattle.live_steps.specs.Live.{acts_of}
 use Rattle.trace_audit.specs.Again.{IsAgain}
-use Rattle.trace_audit.specs.Ahead.{IsAhead}
+use Rattle.trace_audit.specs.Ahead.{AreStepsAhead}
 use Rattle.trace_audit.specs.Audit.{AllStand, CanStand, IsAudited}
 use Rattle.trace_audit.specs.Reading.{IsHistoryOf}
 use Rattle.trace_audit.specs.declared.auditor.Auditor.{Auditor}
@@ -41,7 +41,7 @@ pub record IsAuditing (system : System) (steps : List Step) (requests : List Req
     (auditor : Auditor) : Type 0 where
   pub trace : List TimedFrame
   pub again : IsAgain system requests trace auditor.rerun
-  pub ahead : IsAhead steps auditor.rerun.master.history auditor.rerun.ahead
+  pub ahead : AreStepsAhead steps auditor.rerun.master.history auditor.rerun.ahead
   pub read : IsHistoryOf system.rules steps rows auditor.rerun.master.history
   pub only : (other : List Event) → IsHistoryOf system.rules steps rows other → IsLegal system.rules other
       → other ≡ auditor.rerun.master.history
@@ -56,7 +56,7 @@ CanAudit steps auditor =
     (system : System) × (requests : List Request) × (rows : List LogRow) × IsAuditing system steps requests rows auditor
 
 -- what a row says to an auditor that it is the next one, or that it is not: with it the rows can stand too, or they cannot
-pub record Takes (steps : List Step) (old new : Auditor) (line : LogRow) (stands : Bool) : Type 0 where
+pub record TakesRow (steps : List Step) (old new : Auditor) (line : LogRow) (stands : Bool) : Type 0 where
   pub stand : stands ≡ true → (system : System) (requests : List Request) (rows : List LogRow)
       → IsAuditing system steps requests rows old → IsAuditing system steps requests (rows ++ line ∷ []) new
   pub break : stands ≡ false → (system : System) (requests : List Request) (rows : List LogRow)
@@ -72,8 +72,8 @@ is_end (row.Frame timed) = false
 is_end (row.End next) = true
 
 -- the steps are answered by these events: all acts of each operator
-abbrev pub AnswersAll : List Step → List Event → Type 0
-AnswersAll steps history = (operator : ℕ) → 1 ≤ operator → operator ≤ 8
+abbrev pub AnswersAllActs : List Step → List Event → Type 0
+AnswersAllActs steps history = (operator : ℕ) → 1 ≤ operator → operator ≤ 8
     → count_by (is_called_by operator) history ≡ length (acts_of operator steps)
 
 -- the last of the rows ends a log: those before it are audited, none of their last event is left, and so many cycles were
@@ -94,7 +94,7 @@ IsUpTo system steps requests rows auditor false =
 IsUpTo system steps requests rows auditor true = IsEnded system steps requests rows auditor
 
 -- the audit has heard these rows, and each number of the first of them can stand
-pub record IsHeard (system : System) (steps : List Step) (requests : List Request) (rows : List LogRow)
+pub record AreRowsHeard (system : System) (steps : List Step) (requests : List Request) (rows : List LogRow)
     (audit : LogAudit) : Type 0 where
   pub stand : AllStand system steps requests rows
   pub up_to : IsUpTo system steps requests rows audit.auditor audit.ended
@@ -102,22 +102,22 @@ pub record IsHeard (system : System) (steps : List Step) (requests : List Reques
 -- so it is for some system, requests and rows
 abbrev pub CanHear : List Step → LogAudit → Type 0
 CanHear steps audit =
-    (system : System) × (requests : List Request) × (rows : List LogRow) × IsHeard system steps requests rows audit
+    (system : System) × (requests : List Request) × (rows : List LogRow) × AreRowsHeard system steps requests rows audit
 
 -- what a row says to an audit that it is the next one, or that it is not: with it the rows can stand too, or they cannot
 pub record Hears (steps : List Step) (old new : LogAudit) (line : LogRow) (stands : Bool) : Type 0 where
   pub stand : stands ≡ true → (system : System) (requests : List Request) (rows : List LogRow)
-      → IsHeard system steps requests rows old → IsHeard system steps requests (rows ++ line ∷ []) new
+      → AreRowsHeard system steps requests rows old → AreRowsHeard system steps requests (rows ++ line ∷ []) new
   pub break : stands ≡ false → (system : System) (requests : List Request) (rows : List LogRow)
-      → IsHeard system steps requests rows old → CanStand system steps requests (rows ++ line ∷ []) → ⊥
+      → AreRowsHeard system steps requests rows old → CanStand system steps requests (rows ++ line ∷ []) → ⊥
 
 -- the text begins with that of some rows of a log, and with these the rows can stand too
 pub record TakesWritten (steps : List Step) (old new : LogAudit) (text rest : List ℕ) : Type 0 where
   pub line : LogRow
   pub later : List LogRow
   pub begins : BeginsWith text (line ∷ later) rest
-  pub hears : (system : System) (requests : List Request) (rows : List LogRow) → IsHeard system steps requests rows old
-      → IsHeard system steps requests (rows ++ line ∷ later) new
+  pub hears : (system : System) (requests : List Request) (rows : List LogRow) → AreRowsHeard system steps requests rows old
+      → AreRowsHeard system steps requests (rows ++ line ∷ later) new
 
 -- the audit has heard rows of a log whose texts, one after the other, are the text up to this rest
 pub record IsHeardUpTo (system : System) (steps : List Step) (requests : List Request) (text rest : List ℕ)
@@ -125,7 +125,7 @@ pub record IsHeardUpTo (system : System) (steps : List Step) (requests : List Re
   pub rows : List LogRow
   pub legal : All IsLogRow rows
   pub written : text ≡ text_of_rows rows ++ rest
-  pub heard : IsHeard system steps requests rows audit
+  pub heard : AreRowsHeard system steps requests rows audit
 
 -- the text is the texts of rows of a log, one after the other, and these are audited
 pub record IsWrittenLog (system : System) (steps : List Step) (requests : List Request) (text : List ℕ) : Type 0 where

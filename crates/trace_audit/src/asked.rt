@@ -5,7 +5,7 @@
 
 /// What the row with which a text begins may ask for.
 #[derive(Clone, Copy, Debug)]
-pub enum Asked {
+pub enum AskedEvent {
     /// The answer to the next change of operator `caller`, planned from the cycle `from`.
     Change { caller: u8, from: u64 },
     /// The next look of operator `caller`.
@@ -30,9 +30,9 @@ fn decimal_ahead(bytes: &[u8]) -> u64 {
 }
 
 /// The change that bytes behind the word of its row may ask for. An operator has one digit.
-fn change_ahead(bytes: &[u8]) -> Option<Asked> {
+fn change_ahead(bytes: &[u8]) -> Option<AskedEvent> {
     match bytes {
-        [digit, b',', from @ ..] => Some(Asked::Change {
+        [digit, b',', from @ ..] => Some(AskedEvent::Change {
             caller: digit.wrapping_sub(b'0'),
             from: decimal_ahead(from),
         }),
@@ -41,9 +41,9 @@ fn change_ahead(bytes: &[u8]) -> Option<Asked> {
 }
 
 /// The look that bytes behind the word of its row may ask for.
-fn look_ahead(bytes: &[u8]) -> Option<Asked> {
+fn look_ahead(bytes: &[u8]) -> Option<AskedEvent> {
     match bytes {
-        [digit, b',', ..] => Some(Asked::Look {
+        [digit, b',', ..] => Some(AskedEvent::Look {
             caller: digit.wrapping_sub(b'0'),
         }),
         _ => None,
@@ -51,12 +51,12 @@ fn look_ahead(bytes: &[u8]) -> Option<Asked> {
 }
 
 /// What the first bytes may ask for.
-pub fn asked_ahead(bytes: &[u8]) -> Option<Asked> {
+pub fn asked_ahead(bytes: &[u8]) -> Option<AskedEvent> {
     match bytes {
-        [b'o', b'p', b'e', b'n', b',', ..] => Some(Asked::Opening),
+        [b'o', b'p', b'e', b'n', b',', ..] => Some(AskedEvent::Opening),
         [b's', b'u', b'b', b'm', b'i', b't', b',', later @ ..] => change_ahead(later),
         [b'l', b'o', b'o', b'k', b',', later @ ..] => look_ahead(later),
-        [b'e', b'n', b'd', b',', ..] => Some(Asked::End),
+        [b'e', b'n', b'd', b',', ..] => Some(AskedEvent::End),
         _ => None,
     }
 }

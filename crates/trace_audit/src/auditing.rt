@@ -6,7 +6,7 @@ ghost use Rattle.requests_file.specs.RequestsFile.{AreLegal};
 ghost use Rattle.steps_file.specs.StepsFile.{AreLegalSteps};
 ghost use Rattle.system_file.specs.SystemFile.{IsSystem};
 ghost use Rattle.system_file.specs.declared.system.System.{System};
-ghost use Rattle.log_reader.specs.LogReading.{IsBehind, ReadsRow};
+ghost use Rattle.log_reader.specs.LogReading.{HasReadRows, ReadsRow};
 ghost use Rattle.log_reader.specs.Row.{AreRowsOf};
 ghost use Rattle.log_reader.specs.declared.row.LogRow.{LogRow};
 ghost use Rattle.trace_audit.specs.Audit.{IsAuditFault, IsAudited};
@@ -63,11 +63,11 @@ pub fn audit(
 /// Only where memory runs out.
 fn next_row(reader: &mut LogReader<'_>) -> Result<Option<LogRow>, AllocError>
     requires log { (bytes : List ℕ) × (read : List LogRow) × (rows : List LogRow)
-        × IsBehind bytes reader.old read × AreRowsOf bytes rows }
+        × HasReadRows bytes reader.old read × AreRowsOf bytes rows }
     ensures more { IfOk result (λ found. IfSome found (λ row. (bytes : List ℕ) (rows : List LogRow)
-        → IsBehind bytes reader.old rows → ReadsRow bytes reader.old reader.new rows row)) }
+        → HasReadRows bytes reader.old rows → ReadsRow bytes reader.old reader.new rows row)) }
     ensures all { IfOk result (λ found. IfNone found ((bytes : List ℕ) (rows : List LogRow)
-        → IsBehind bytes reader.old rows → AreRowsOf bytes rows)) }
+        → HasReadRows bytes reader.old rows → AreRowsOf bytes rows)) }
 {
     one_log();
     match reader.next_row() {

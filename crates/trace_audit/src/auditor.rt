@@ -8,7 +8,7 @@ ghost use Rattle.steps_file.specs.StepsFile.{AreLegalSteps, count_of};
 ghost use Rattle.system_file.specs.SystemFile.{IsSystem};
 ghost use Rattle.system_file.specs.declared.system.System.{System};
 ghost use Rattle.log_reader.specs.declared.row.LogRow.{LogRow};
-ghost use Rattle.trace_audit.specs.Auditing.{AnswersAll, CanAudit, IsAuditing, Takes, is_end};
+ghost use Rattle.trace_audit.specs.Auditing.{AnswersAllActs, CanAudit, IsAuditing, TakesRow, is_end};
 
 use crate::event_rows::is_at;
 use crate::rerun::Rerun;
@@ -37,8 +37,8 @@ pub struct Auditor {
 
 /// Whether the history has all acts that the steps of a file ask of each operator.
 fn answers_all(history: &[Event], steps: &[Step]) -> bool
-    ensures all { result ≡ true → AnswersAll steps.now history.now }
-    ensures not_all { result ≡ false → AnswersAll steps.now history.now → ⊥ }
+    ensures all { result ≡ true → AnswersAllActs steps.now history.now }
+    ensures not_all { result ≡ false → AnswersAllActs steps.now history.now → ⊥ }
 {
     for operator in 1..9 {
         if calls_of(history, operator) != acts_of(steps, operator) {
@@ -75,7 +75,7 @@ impl Auditor {
     /// Takes a row while rows of the last event are left: whether it is the first of them.
     fn take_left(&mut self, line: &LogRow) -> bool
         requires left { self.old.came < length self.old.rows.items }
-        ensures takes { (steps : List Step) → Takes steps self.old self.new line.now result }
+        ensures takes { (steps : List Step) → TakesRow steps self.old self.new line.now result }
     {
         legal_runs();
         triggers_count_cycles();
@@ -101,7 +101,7 @@ impl Auditor {
         requires can { CanAudit steps.now self.old }
         requires none_left { self.old.came ≡ length self.old.rows.items }
         requires not_end { is_end line.now ≡ false }
-        ensures takes { IfOk result (Takes steps.now self.old self.new line.now) }
+        ensures takes { IfOk result (TakesRow steps.now self.old self.new line.now) }
     {
         legal_runs();
         triggers_count_cycles();
@@ -127,7 +127,7 @@ impl Auditor {
         requires steps { AreLegalSteps steps.now }
         requires can { CanAudit steps.now self.old }
         requires not_end { is_end line.now ≡ false }
-        ensures takes { IfOk result (Takes steps.now self.old self.new line.now) }
+        ensures takes { IfOk result (TakesRow steps.now self.old self.new line.now) }
     {
         if self.came < self.rows.len() {
             return Ok(self.take_left(line));
@@ -157,9 +157,9 @@ impl Auditor {
     pub fn is_whole(&self, steps: &[Step]) -> bool
         requires steps { AreLegalSteps steps.now }
         ensures opened { result ≡ true → next_of self.now.rerun.master.history ≡ sum_by count_of steps.now }
-        ensures answered { result ≡ true → AnswersAll steps.now self.now.rerun.master.history }
+        ensures answered { result ≡ true → AnswersAllActs steps.now self.now.rerun.master.history }
         ensures none { result ≡ false → next_of self.now.rerun.master.history ≡ sum_by count_of steps.now
-            → AnswersAll steps.now self.now.rerun.master.history → ⊥ }
+            → AnswersAllActs steps.now self.now.rerun.master.history → ⊥ }
     {
         if self.rerun.master.next() != cycles_of(steps) {
             return false;

@@ -2,7 +2,7 @@
 
 ghost use Rattle.std.specs.Prelude.{◌≡◌, ◌∷◌, ◌^◌, ◌<◌, IfOk, Some, false, map, slice_get, true};
 ghost use Rattle.bus_trace.specs.EventRows.{told_at};
-ghost use Rattle.bus_trace.specs.Logged.{IsNear};
+ghost use Rattle.bus_trace.specs.Logged.{IsEventNear};
 ghost use Rattle.bus_trace.specs.LogRows.{plan_told, verdict_told};
 ghost use Rattle.log_reader.specs.declared.row.LogRow.TheVariants as row;
 
@@ -98,7 +98,7 @@ pub fn rows_of(
     width: u32,
     frames: &[TimedFrame],
 ) -> Result<Vec<LogRow>, AllocError>
-    requires near { IsNear event.now }
+    requires near { IsEventNear event.now }
     ensures rows { IfOk result (λ rows. rows.items ≡ told_at width event.now frames.now) }
 {
     match event {

@@ -10,9 +10,9 @@ ghost use Rattle.system_file.specs.declared.system.System.{System};
 ghost use Rattle.log_reader.specs.declared.row.LogRow.{LogRow};
 ghost use Rattle.log_reader.specs.declared.row.LogRow.TheVariants as row;
 ghost use Rattle.trace_audit.specs.Audit.{IsAuditFault, IsAudited};
-ghost use Rattle.trace_audit.specs.Auditing.{CanHear, Hears, IsHeard, TakesWritten};
+ghost use Rattle.trace_audit.specs.Auditing.{AreRowsHeard, CanHear, Hears, TakesWritten};
 
-use crate::asked::{Asked, asked_ahead};
+use crate::asked::{AskedEvent, asked_ahead};
 use crate::audit_fault::AuditFault;
 use crate::auditor::Auditor;
 use admission::laws::one_verdict;
@@ -50,7 +50,7 @@ impl LogAudit {
         requires system { IsSystem system.now }
         requires steps { AreLegalSteps steps.now }
         requires requests { AreLegal system.now.owners requests.now }
-        ensures heard { IfOk result (IsHeard system.now steps.now requests.now []) }
+        ensures heard { IfOk result (AreRowsHeard system.now steps.now requests.now []) }
     {
         let auditor = Auditor::begin(alloc, system, steps, requests)?;
         Ok(LogAudit {
@@ -112,7 +112,7 @@ impl LogAudit {
         &mut self,
         alloc: Global,
         steps: &[Step],
-        asked: Asked,
+        asked: AskedEvent,
         room: &mut Gathered,
         text: &'a [u8],
     ) -> Result<Option<&'a [u8]>, AllocError>
@@ -169,7 +169,7 @@ impl LogAudit {
             return Ok(None);
         }
         match asked_ahead(text) {
-            Some(Asked::End) => Ok(self.take_end_written(room, text)),
+            Some(AskedEvent::End) => Ok(self.take_end_written(room, text)),
             Some(asked) => self.take_event_written(alloc, steps, asked, room, text),
             None => Ok(None),
         }
@@ -183,7 +183,7 @@ impl LogAudit {
     pub fn finish(&self, steps: &[Step]) -> Result<(), AuditFault>
         requires steps { AreLegalSteps steps.now }
         ensures answer { (system : System) (requests : List Request) (rows : List LogRow)
-            → IsHeard system steps.now requests rows self.now
+            → AreRowsHeard system steps.now requests rows self.now
             → MatchResult result (λ _. IsAudited system steps.now requests rows)
             (IsAuditFault system steps.now requests rows) }
     {

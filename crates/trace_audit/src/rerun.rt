@@ -14,18 +14,18 @@ ghost use Rattle.master_core.specs.declared.event.Event.{Event};
 ghost use Rattle.master_core.specs.declared.event.Event.TheVariants.{Submit, Look};
 ghost use Rattle.master_core.specs.History.{IsLegal, IsRight, IsRightAnswer, next_of};
 ghost use Rattle.bus_trace.specs.EventRows.{told_at};
-ghost use Rattle.bus_trace.specs.Logged.{IsNear};
+ghost use Rattle.bus_trace.specs.Logged.{IsEventNear};
 ghost use Rattle.log_reader.specs.declared.row.LogRow.{LogRow};
 ghost use Rattle.log_reader.specs.declared.row.LogRow.TheVariants as row;
 ghost use Rattle.log_reader.specs.declared.row.LogVerdict.{LogVerdict};
-ghost use Rattle.trace_audit.specs.Ahead.{IsAhead};
-ghost use Rattle.trace_audit.specs.Again.{Asks, CanGoOn, EndsIn, EndsNear, IsAgain, IsBroughtOn, IsOpened};
+ghost use Rattle.trace_audit.specs.Ahead.{AreStepsAhead};
+ghost use Rattle.trace_audit.specs.Again.{Asks, CanGoOn, EndsIn, EndsNear, IsAgain, IsRerunBroughtOn, IsRerunOpened};
 ghost use Rattle.cycle_engine.specs.Nodes.{CanLearn, states_of};
 ghost use Rattle.bus_trace.specs.Compared.{BeginsWith};
 ghost use Rattle.trace_audit.specs.States.{KeepsStates};
 
-use crate::ahead::Ahead;
-use crate::asked::Asked;
+use crate::ahead::StepsAhead;
+use crate::asked::AskedEvent;
 use crate::event_rows::rows_of;
 use crate::states::{States, keep_answered};
 use crate::step_acts::act_at;
@@ -58,7 +58,7 @@ pub struct Rerun {
     /// The states of the plan from which a change can be planned.
     pub states: States,
     /// What it has before it in the steps.
-    pub ahead: Ahead,
+    pub ahead: StepsAhead,
     /// The length of the synchronous window of the cycle that was opened last, in bit times.
     pub width: u32,
     /// The frames of that cycle.
@@ -106,7 +106,7 @@ impl Rerun {
         requires requests { AreLegal system.now.owners requests.now }
         ensures again { IfOk result (IsAgain system.now requests.now []) }
         ensures empty { IfOk result (λ rerun. rerun.master.history ≡ []) }
-        ensures ahead { IfOk result (λ rerun. IsAhead steps.now rerun.master.history rerun.ahead) }
+        ensures ahead { IfOk result (λ rerun. AreStepsAhead steps.now rerun.master.history rerun.ahead) }
     {
         beginning();
         requests_of_owners();
@@ -114,7 +114,7 @@ impl Rerun {
         let events = count_plain_calls(steps).saturating_add(steps.len());
         let master = fresh_master(alloc, system, events)?;
         let states = States::of(alloc, master.state(), events)?;
-        let ahead = Ahead::of(steps);
+        let ahead = StepsAhead::of(steps);
         let sent = Segment::new(alloc, &system.layout)?;
         Ok(Rerun {
             master,
@@ -197,7 +197,7 @@ impl Rerun {
         requires going { CanGoOn self.old }
         requires few { next_of self.old.master.history < most_cycles }
         ensures opened { OnOk result ((system : System) (requests : List Request) (trace : List TimedFrame)
-            → IsAgain system requests trace self.old → IsOpened system requests trace self.old self.new) }
+            → IsAgain system requests trace self.old → IsRerunOpened system requests trace self.old self.new) }
         ensures ahead { self.new.ahead ≡ self.old.ahead }
     {
         legal_runs();
@@ -218,7 +218,7 @@ impl Rerun {
     fn last_event(&self) -> &Event
         requires near { EndsNear self.now.master.history }
         ensures last { (event : Event) → EndsIn self.now.master.history event → result.now ≡ event }
-        ensures near { IsNear result.now }
+        ensures near { IsEventNear result.now }
     {
         let history = self.master.history();
         &history[history.len() - 1]
@@ -264,11 +264,11 @@ impl Rerun {
     ) -> Result<bool, AllocError>
         requires steps { AreLegalSteps steps.now }
         requires going { CanGoOn self.old }
-        requires ahead { IsAhead steps.now self.old.master.history self.old.ahead }
+        requires ahead { AreStepsAhead steps.now self.old.master.history self.old.ahead }
         requires few { next_of self.old.master.history ≤ sum_by count_of steps.now }
         ensures on { (system : System) (requests : List Request) (trace : List TimedFrame) (told : LogVerdict)
             → IsAgain system requests trace self.old → IfOk result (λ followed. followed ≡ true
-            → IsBroughtOn system steps.now requests trace self.old (row.Submit caller from told) self.new) }
+            → IsRerunBroughtOn system steps.now requests trace self.old (row.Submit caller from told) self.new) }
         ensures none { IfOk result (λ followed. followed ≡ false → ((told : LogVerdict) (event : Event)
             → IsRight self.old.master.rules self.old.master.history event
             → Asks steps.now self.old.master.history (row.Submit caller from told) event → ⊥)) }
@@ -286,11 +286,11 @@ impl Rerun {
     fn follow_look(&mut self, alloc: Global, steps: &[Step], caller: u8) -> Result<bool, AllocError>
         requires steps { AreLegalSteps steps.now }
         requires going { CanGoOn self.old }
-        requires ahead { IsAhead steps.now self.old.master.history self.old.ahead }
+        requires ahead { AreStepsAhead steps.now self.old.master.history self.old.ahead }
         requires few { next_of self.old.master.history ≤ sum_by count_of steps.now }
         ensures on { (system : System) (requests : List Request) (trace : List TimedFrame) (next : ℕ)
             → IsAgain system requests trace self.old → IfOk result (λ followed. followed ≡ true
-            → IsBroughtOn system steps.now requests trace self.old (row.Look caller next) self.new) }
+            → IsRerunBroughtOn system steps.now requests trace self.old (row.Look caller next) self.new) }
         ensures none { IfOk result (λ followed. followed ≡ false → ((next : ℕ) (event : Event)
             → IsRight self.old.master.rules self.old.master.history event
             → Asks steps.now self.old.master.history (row.Look caller next) event → ⊥)) }
@@ -311,11 +311,11 @@ impl Rerun {
     fn follow_opening(&mut self, alloc: Global, steps: &[Step]) -> Result<bool, AllocError>
         requires steps { AreLegalSteps steps.now }
         requires going { CanGoOn self.old }
-        requires ahead { IsAhead steps.now self.old.master.history self.old.ahead }
+        requires ahead { AreStepsAhead steps.now self.old.master.history self.old.ahead }
         requires few { next_of self.old.master.history ≤ sum_by count_of steps.now }
         ensures on { (system : System) (requests : List Request) (trace : List TimedFrame) (cycle mask l : ℕ)
             → IsAgain system requests trace self.old → IfOk result (λ followed. followed ≡ true
-            → IsBroughtOn system steps.now requests trace self.old (row.Open cycle mask l) self.new) }
+            → IsRerunBroughtOn system steps.now requests trace self.old (row.Open cycle mask l) self.new) }
         ensures none { IfOk result (λ followed. followed ≡ false → ((cycle mask l : ℕ) (event : Event)
             → IsRight self.old.master.rules self.old.master.history event
             → Asks steps.now self.old.master.history (row.Open cycle mask l) event → ⊥)) }
@@ -341,11 +341,11 @@ impl Rerun {
     ) -> Result<bool, AllocError>
         requires steps { AreLegalSteps steps.now }
         requires going { CanGoOn self.old }
-        requires ahead { IsAhead steps.now self.old.master.history self.old.ahead }
+        requires ahead { AreStepsAhead steps.now self.old.master.history self.old.ahead }
         requires few { next_of self.old.master.history ≤ sum_by count_of steps.now }
         ensures on { (system : System) (requests : List Request) (trace : List TimedFrame)
             → IsAgain system requests trace self.old → IfOk result (λ followed. followed ≡ true
-            → IsBroughtOn system steps.now requests trace self.old line.now self.new) }
+            → IsRerunBroughtOn system steps.now requests trace self.old line.now self.new) }
         ensures none { IfOk result (λ followed. followed ≡ false → ((event : Event)
             → IsRight self.old.master.rules self.old.master.history event
             → Asks steps.now self.old.master.history line.now event → ⊥)) }
@@ -370,21 +370,21 @@ impl Rerun {
         &mut self,
         alloc: Global,
         steps: &[Step],
-        asked: Asked,
+        asked: AskedEvent,
     ) -> Result<bool, AllocError>
         requires steps { AreLegalSteps steps.now }
         requires going { CanGoOn self.old }
-        requires ahead { IsAhead steps.now self.old.master.history self.old.ahead }
+        requires ahead { AreStepsAhead steps.now self.old.master.history self.old.ahead }
         requires few { next_of self.old.master.history ≤ sum_by count_of steps.now }
         ensures on { (system : System) (requests : List Request) (trace : List TimedFrame)
             → IsAgain system requests trace self.old → IfOk result (λ followed. followed ≡ true
-            → (line : LogRow) × IsBroughtOn system steps.now requests trace self.old line self.new) }
+            → (line : LogRow) × IsRerunBroughtOn system steps.now requests trace self.old line self.new) }
     {
         match asked {
-            Asked::Change { caller, from } => self.follow_change(alloc, steps, caller, from),
-            Asked::Look { caller } => self.follow_look(alloc, steps, caller),
-            Asked::Opening => self.follow_opening(alloc, steps),
-            Asked::End => Ok(false),
+            AskedEvent::Change { caller, from } => self.follow_change(alloc, steps, caller, from),
+            AskedEvent::Look { caller } => self.follow_look(alloc, steps, caller),
+            AskedEvent::Opening => self.follow_opening(alloc, steps),
+            AskedEvent::End => Ok(false),
         }
     }
 }

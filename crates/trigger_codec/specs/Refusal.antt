@@ -8,11 +8,11 @@ use Rattle.trigger_codec.specs.Bytes.{width_told}
 
 -- the identifier is judged first, then the number of bytes, then the window; each fault carries the
 -- number that is wrong
-abbrev pub Refuses : DataFrame → TriggerFault → Type 0
-Refuses frame (WrongId id) = (id ≡ frame.identifier) × (frame.identifier ≢ 0)
-Refuses frame (WrongLength dlc) =
+abbrev pub RefusesFirst : DataFrame → TriggerFault → Type 0
+RefusesFirst frame (WrongId id) = (id ≡ frame.identifier) × (frame.identifier ≢ 0)
+RefusesFirst frame (WrongLength dlc) =
     (dlc ≡ length frame.bytes) × (frame.identifier ≡ 0) × (length frame.bytes ≢ 8)
-Refuses frame (Window l) =
+RefusesFirst frame (Window l) =
     (l ≡ width_told frame.bytes) × (frame.identifier ≡ 0) × (length frame.bytes ≡ 8)
     × (longest_window < width_told frame.bytes)
 

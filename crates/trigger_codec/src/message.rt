@@ -8,7 +8,7 @@ ghost use Rattle.bit_sets.specs.Sets.{most_slots};
 ghost use Rattle.trigger_codec.specs.Bytes.{flags_of_both, later_frames, low_slots, high_slots};
 ghost use Rattle.trigger_codec.specs.Bytes.{trigger_frame, trigger_of, flags_in};
 ghost use Rattle.trigger_codec.specs.Bytes.{second_frame, second_of, second_flags_in};
-ghost use Rattle.trigger_codec.specs.Refusal.{Refuses, RefusesSecond};
+ghost use Rattle.trigger_codec.specs.Refusal.{RefusesFirst, RefusesSecond};
 
 use crate::trigger_fault::TriggerFault;
 use bit_sets::union;
@@ -108,7 +108,7 @@ pub fn decode(frame: &Frame) -> Result<Trigger, TriggerFault>
     ensures every { (cycle l mask : ℕ) → l ≤ longest_window → mask < 2 ^ most_slots
         → frame.now ≡ trigger_frame cycle l mask
         → result ≡ Ok (record { low = cycle % 256; l = l; mask = low_slots mask }) }
-    ensures fault { IfErr result (Refuses frame.now) }
+    ensures fault { IfErr result (RefusesFirst frame.now) }
     ensures reading { result_ok result ≡ trigger_of frame.now }
 {
     let id = frame.id();

@@ -4,7 +4,7 @@ use mathlib.Core.Option.{some, some-injective, some-ne-none}
 use lib.ListN.{get_elem?}
 use Rattle.atomic_table.specs.Table.{State, Seen, opening}
 use Rattle.turn_lock.specs.Passes.{first_view}
-use Rattle.turn_lock.specs.Rule.{count_live, Fits, Kept}
+use Rattle.turn_lock.specs.Rule.{count_live, FitsLog, IsRuleKept}
 use Rattle.turn_lock.specs.declared.view.View.{View}
 use Rattle.turn_lock.proofs.Live.{only_one, same_view}
 
@@ -17,9 +17,9 @@ alone a b zero e = (refl, some-injective a b e)
 alone a b (suc j) e = absurd (some-ne-none b (sym e))
 
 module _ {T E F : Type 0} (entries : T → List E) (fixed : T → F) (number : E → ℕ) (key : F) where
-  pub opens : (x : T) → entries x ≡ [] → fixed x ≡ key → Kept entries fixed number key (opening (0 ∷ []) (Some x ∷ []) (first_view key))
+  pub opens : (x : T) → entries x ≡ [] → fixed x ≡ key → IsRuleKept entries fixed number key (opening (0 ∷ []) (Some x ∷ []) (first_view key))
   opens x empty keeps =
-      let fits : Fits entries fixed number key [] (first_view key ∷ []) 0 (first_view key) = record {
+      let fits : FitsLog entries fixed number key [] (first_view key ∷ []) 0 (first_view key) = record {
         numbered = refl;
         shows = refl;
         begins = ([], refl);
@@ -35,7 +35,7 @@ module _ {T E F : Type 0} (entries : T → List E) (fixed : T → F) (number : E
         log = [];
         wide = refl;
         first = (first_view key, refl, refl);
-        each = λ i v at live. let t = alone (first_view key) v i at in subst (λ (z : ℕ × View E F). Fits entries fixed number key [] (first_view key ∷ []) z.0 z.1) (λ k. (sym t.0 k, t.1 k)) fits;
+        each = λ i v at live. let t = alone (first_view key) v i at in subst (λ (z : ℕ × View E F). FitsLog entries fixed number key [] (first_view key ∷ []) z.0 z.1) (λ k. (sym t.0 k, t.1 k)) fits;
         known = record { seat = 0; view = first_view key; there = refl; alive = refl; whole = refl };
         turn = inl record {
           even = refl;
@@ -48,7 +48,7 @@ module _ {T E F : Type 0} (entries : T → List E) (fixed : T → F) (number : E
       }
 
   -- the first pass, with none out and the turn let go, has seen what the value at home stands for
-  pub closes : (s : State (Option T) (View E F)) (id : ℕ) (v : View E F) → Seen (Kept entries fixed number key) id v s → v.spent ≡ false → v.number ≡ 0 → v.out ≡ 0 → v.found ≡ None
+  pub closes : (s : State (Option T) (View E F)) (id : ℕ) (v : View E F) → Seen (IsRuleKept entries fixed number key) id v s → v.spent ≡ false → v.number ≡ 0 → v.out ≡ 0 → v.found ≡ None
       → (x : T) × (get_elem? s.homes 0 ≡ some (some (Some x))) × (entries x ≡ v.seen) × (fixed x ≡ key)
   closes s id v seen alive z empty idle =
       let kept = seen.0 in

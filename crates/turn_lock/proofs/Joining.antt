@@ -10,7 +10,7 @@ use Rattle.atomic_table.specs.Table.{State, Joins}
 use Rattle.atomic_table.proofs.Lists.{at_set, set_here, set_else}
 use Rattle.turn_lock.specs.History.{own}
 use Rattle.turn_lock.specs.Passes.{spent_view, longer, joined}
-use Rattle.turn_lock.specs.Rule.{IsLive, count_live, IsSeenWhole, IsBlamed, IsJoined, Fits, IsFree, IsTaken, Kept}
+use Rattle.turn_lock.specs.Rule.{IsLivePass, count_live, IsSeenWhole, IsBlamed, IsJoined, FitsLog, IsFree, IsTurnTaken, IsRuleKept}
 use Rattle.turn_lock.specs.declared.view.View.{View}
 use Rattle.turn_lock.proofs.Shared.{own_between, at_below, longer_left, longer_right, longer_begins, longer_whole}
 use Rattle.turn_lock.proofs.Live.{count-set_same, count-set_spent, count_some, live_after, live_before, same_view, other_holds}
@@ -27,16 +27,16 @@ module _ {T E F : Type 0} (entries : T → List E) (fixed : T → F) (number : E
   St = State (Option T) (View E F)
 
   abbrev Rule : St → Type 0
-  Rule = Kept entries fixed number key
+  Rule = IsRuleKept entries fixed number key
 
   abbrev Fit : List E → List (View E F) → ℕ → View E F → Type 0
-  Fit = Fits entries fixed number key
+  Fit = FitsLog entries fixed number key
 
   abbrev Free : List E → St → Type 0
   Free = IsFree entries fixed number key
 
   abbrev Taken : List E → St → Type 0
-  Taken = IsTaken entries fixed number
+  Taken = IsTurnTaken entries fixed number
 
   abbrev Joined : List E → List (View E F) → List E → ℕ → List E → Type 0
   Joined = IsJoined entries fixed number
@@ -74,13 +74,13 @@ module _ {T E F : Type 0} (entries : T → List E) (fixed : T → F) (number : E
     pub at_cases : (j : ℕ) (u : View E F) → get_elem? after j ≡ some u → u.spent ≡ false → (j ≢ other) × (((j ≡ id) × (b ≡ u)) ⊎ ((j ≢ id) × (get_elem? views j ≡ some u)))
     at_cases j u e live = ⊎_elim (λ t. absurd (not_spent (sym live ∙ ap (λ (z : View E F). z.spent) (sym t.1)))) (λ t. (t.0, at_set views id j b u t.1)) (at_set grown other j spent_view u e)
 
-    pub live_still : (n : ℕ) → n ≢ other → IsLive views n → IsLive after n
+    pub live_still : (n : ℕ) → n ≢ other → IsLivePass views n → IsLivePass after n
     live_still n n' live = let m = live_after views id v b at alive n live in (m.0, set_else grown other n spent_view n' ∙ m.1, m.2)
 
-    live_from : (n : ℕ) → IsLive after n → IsLive views n
+    live_from : (n : ℕ) → IsLivePass after n → IsLivePass views n
     live_from n live = live_before views id v b at alive n (live_before grown other w spent_view at_grown alive' n live)
 
-    gone : IsLive after other → ⊥
+    gone : IsLivePass after other → ⊥
     gone live = (at_cases other live.0 live.1 live.2).0 refl
 
     blamed : (j word : ℕ) → IsBlamed views j word → IsBlamed after j word
@@ -155,7 +155,7 @@ module _ {T E F : Type 0} (entries : T → List E) (fixed : T → F) (number : E
       seen_own = ap (λ (n : ℕ). own number n seen) fit'.numbered ∙ own_between number other w.seen seen log w.mine right_begins seen_begins fit'.seen_own fit'.all_own;
       all_own = ap (λ (n : ℕ). own number n log) fit'.numbered ∙ fit'.all_own;
       made = let low = at_below views other w at' in let is = fit'.numbered in omega (arith, long);
-      gone = λ live. gone (subst (IsLive after) fit'.numbered live);
+      gone = λ live. gone (subst (IsLivePass after) fit'.numbered live);
     }
 
     fits_both : Fit log after id b

@@ -6,7 +6,7 @@ use native.Mathlib.Decide.{ℕ_discrete}
 use lib.ListN.{get_elem?}
 use Rattle.atomic_table.proofs.Lists.{at_set, set_here, set_else}
 use Rattle.turn_lock.specs.Passes.{spent_view}
-use Rattle.turn_lock.specs.Rule.{IsLive, count_live}
+use Rattle.turn_lock.specs.Rule.{IsLivePass, count_live}
 use Rattle.turn_lock.specs.declared.view.View.{View}
 use Rattle.turn_lock.proofs.Shared.{at_below}
 
@@ -49,14 +49,14 @@ module _ {E F : Type 0} where
       let more = count_some (set vs i spent_view) j w (set_else vs i j spent_view ne ∙ at') alive' in
       omega arith
 
-  pub live_here : (vs : List (View E F)) (i : ℕ) (v w : View E F) → get_elem? vs i ≡ some v → w.spent ≡ false → IsLive (set vs i w) i
+  pub live_here : (vs : List (View E F)) (i : ℕ) (v w : View E F) → get_elem? vs i ≡ some v → w.spent ≡ false → IsLivePass (set vs i w) i
   live_here vs i v w at alive = (w, set_here vs i w (at_below vs i v at), alive)
 
-  pub live_after : (vs : List (View E F)) (i : ℕ) (v w : View E F) → get_elem? vs i ≡ some v → w.spent ≡ false → (n : ℕ) → IsLive vs n → IsLive (set vs i w) n
+  pub live_after : (vs : List (View E F)) (i : ℕ) (v w : View E F) → get_elem? vs i ≡ some v → w.spent ≡ false → (n : ℕ) → IsLivePass vs n → IsLivePass (set vs i w) n
   live_after vs i v w at alive n l =
-      dite (ℕ_discrete n i) (λ e. subst (IsLive (set vs i w)) (sym e) (live_here vs i v w at alive)) (λ ne. (l.0, set_else vs i n w ne ∙ l.1, l.2))
+      dite (ℕ_discrete n i) (λ e. subst (IsLivePass (set vs i w)) (sym e) (live_here vs i v w at alive)) (λ ne. (l.0, set_else vs i n w ne ∙ l.1, l.2))
 
-  pub live_before : (vs : List (View E F)) (i : ℕ) (v w : View E F) → get_elem? vs i ≡ some v → v.spent ≡ false → (n : ℕ) → IsLive (set vs i w) n → IsLive vs n
+  pub live_before : (vs : List (View E F)) (i : ℕ) (v w : View E F) → get_elem? vs i ≡ some v → v.spent ≡ false → (n : ℕ) → IsLivePass (set vs i w) n → IsLivePass vs n
   live_before vs i v w at alive n l =
       ⊎_elim (λ t. (v, ap (get_elem? vs) t.0 ∙ at, alive)) (λ t. (l.0, t.1, l.2)) (at_set vs i n w l.0 l.1)
 

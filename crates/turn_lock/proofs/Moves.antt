@@ -9,7 +9,7 @@ use Rattle.atomic_table.proofs.Lists.{at_set, set_here, set_else}
 use Rattle.turn_lock.specs.History.{own, HasEnded}
 use Rattle.turn_lock.specs.Passes.{Facts}
 use Rattle.turn_lock.proofs.Told.{told}
-use Rattle.turn_lock.specs.Rule.{IsLive, IsSeenWhole, IsBlamed, IsJoined, Fits, IsFree, IsTaken, Kept}
+use Rattle.turn_lock.specs.Rule.{IsLivePass, IsSeenWhole, IsBlamed, IsJoined, FitsLog, IsFree, IsTurnTaken, IsRuleKept}
 use Rattle.turn_lock.specs.declared.view.View.{View}
 use Rattle.turn_lock.proofs.Shared.{prefix_trans, at_below}
 use Rattle.turn_lock.proofs.Live.{count-set_same, live_here, live_after, live_before, same_view}
@@ -27,7 +27,7 @@ pub record Goes {E F : Type 0} (v w : View E F) : Type 0 where
 
 module _ {T E F : Type 0} (entries : T → List E) (fixed : T → F) (number : E → ℕ) (key : F) where
   abbrev Fit : List E → List (View E F) → ℕ → View E F → Type 0
-  Fit = Fits entries fixed number key
+  Fit = FitsLog entries fixed number key
 
   abbrev Join : List E → List (View E F) → List E → ℕ → List E → Type 0
   Join = IsJoined entries fixed number
@@ -66,9 +66,9 @@ module _ {T E F : Type 0} (entries : T → List E) (fixed : T → F) (number : E
           gone = λ l. j.gone (live_before views i v w at alive n l);
         }
 
-    covers_after : (n : ℕ) (ended : List (ℕ × List E)) → IsLive views n ⊎ (HasEnded ended n ⊎ (own number n log ≡ [])) → IsLive (set views i w) n ⊎ (HasEnded ended n ⊎ (own number n log' ≡ []))
+    covers_after : (n : ℕ) (ended : List (ℕ × List E)) → IsLivePass views n ⊎ (HasEnded ended n ⊎ (own number n log ≡ [])) → IsLivePass (set views i w) n ⊎ (HasEnded ended n ⊎ (own number n log' ≡ []))
     covers_after n ended c = ⊎_elim (λ l. inl (live_after views i v w at alive' n l))
-        (λ d. ⊎_elim (λ h. inr (inl h)) (λ e. dite (ℕ_discrete n i) (λ is. inl (subst (IsLive (set views i w)) (sym is) (live_here views i v w at alive'))) (λ ne. inr (inr (others n ne ∙ e)))) d) c
+        (λ d. ⊎_elim (λ h. inr (inl h)) (λ e. dite (ℕ_discrete n i) (λ is. inl (subst (IsLivePass (set views i w)) (sym is) (live_here views i v w at alive'))) (λ ne. inr (inr (others n ne ∙ e)))) d) c
 
     fits_other : (j : ℕ) (u : View E F) → j ≢ i → Fit log views j u → Fit log' (set views i w) j u
     fits_other j u ne f = record {
@@ -107,7 +107,7 @@ module _ {T E F : Type 0} (entries : T → List E) (fixed : T → F) (number : E
           length-set views i w ∙ ((f.counts z).0 ∙ ap (λ (k : ℕ). k + 1) (sym goes.made)),
           count-set_same views i v w at goes.spent ∙ ((f.counts z).1 ∙ ap (λ (k : ℕ). k + 1) (sym goes.out)),
         );
-        covers = λ z n. subst (λ (l : List (ℕ × List E)). IsLive (set views i w) n ⊎ (HasEnded l n ⊎ (own number n log' ≡ []))) (sym goes.ended) (covers_after n v.ended (f.covers z n));
+        covers = λ z n. subst (λ (l : List (ℕ × List E)). IsLivePass (set views i w) n ⊎ (HasEnded l n ⊎ (own number n log' ≡ []))) (sym goes.ended) (covers_after n v.ended (f.covers z n));
         waits = waits;
       }
 
@@ -132,9 +132,9 @@ module _ {T E F : Type 0} (entries : T → List E) (fixed : T → F) (number : E
       here' = set_here views i w (at_below views i v at)
 
       -- the rule holds afterwards, and tells of the pass that made the step
-      pub kept_after : (words : List ℕ) (homes : List (mathlib.Core.Option.Option (Option T))) → length words ≡ 1 → IsLive views 0 → IsSeenWhole log views
-          → (IsFree entries fixed number key log' record { words = words; homes = homes; views = set views i w } ⊎ IsTaken entries fixed number log' record { words = words; homes = homes; views = set views i w })
-          → Kept entries fixed number key record { words = words; homes = homes; views = set views i w } × Facts number w
+      pub kept_after : (words : List ℕ) (homes : List (mathlib.Core.Option.Option (Option T))) → length words ≡ 1 → IsLivePass views 0 → IsSeenWhole log views
+          → (IsFree entries fixed number key log' record { words = words; homes = homes; views = set views i w } ⊎ IsTurnTaken entries fixed number log' record { words = words; homes = homes; views = set views i w })
+          → IsRuleKept entries fixed number key record { words = words; homes = homes; views = set views i w } × Facts number w
       kept_after words homes wide first known turn = (
         record {
           log = log';

@@ -8,7 +8,7 @@ use Rattle.atomic_table.specs.Table.{State, Splits}
 use Rattle.atomic_table.proofs.Lists.{at_set, set_here, set_else, at_longer}
 use Rattle.turn_lock.specs.History.{own}
 use Rattle.turn_lock.specs.Passes.{split_from, split_off}
-use Rattle.turn_lock.specs.Rule.{IsLive, IsSeenWhole, IsBlamed, IsJoined, Fits, IsFree, IsTaken, Kept}
+use Rattle.turn_lock.specs.Rule.{IsLivePass, IsSeenWhole, IsBlamed, IsJoined, FitsLog, IsFree, IsTurnTaken, IsRuleKept}
 use Rattle.turn_lock.specs.declared.view.View.{View}
 use Rattle.turn_lock.proofs.Shared.{own_none, at_below, at_snoc_at}
 use Rattle.turn_lock.proofs.Live.{count-snoc, count-set_same, live_after, live_before, same_view, other_holds}
@@ -26,16 +26,16 @@ module _ {T E F : Type 0} (entries : T → List E) (fixed : T → F) (number : E
   St = State (Option T) (View E F)
 
   abbrev Rule : St → Type 0
-  Rule = Kept entries fixed number key
+  Rule = IsRuleKept entries fixed number key
 
   abbrev Fit : List E → List (View E F) → ℕ → View E F → Type 0
-  Fit = Fits entries fixed number key
+  Fit = FitsLog entries fixed number key
 
   abbrev Free : List E → St → Type 0
   Free = IsFree entries fixed number key
 
   abbrev Taken : List E → St → Type 0
-  Taken = IsTaken entries fixed number
+  Taken = IsTurnTaken entries fixed number
 
   abbrev Joined : List E → List (View E F) → List E → ℕ → List E → Type 0
   Joined = IsJoined entries fixed number
@@ -75,10 +75,10 @@ module _ {T E F : Type 0} (entries : T → List E) (fixed : T → F) (number : E
     left_there : get_elem? after id ≡ some l
     left_there = at_longer left (r ∷ []) id l at_left
 
-    live_to : (n : ℕ) → IsLive views n → IsLive after n
+    live_to : (n : ℕ) → IsLivePass views n → IsLivePass after n
     live_to n live = let m = live_after views id v l at alive n live in (m.0, at_longer left (r ∷ []) n m.0 m.1, m.2)
 
-    live_from : (n : ℕ) → n < length views → IsLive after n → IsLive views n
+    live_from : (n : ℕ) → n < length views → IsLivePass after n → IsLivePass views n
     live_from n low live = ⊎_elim (λ e. live_before views id v l at alive n (live.0, e, live.2)) (λ e. let here = e.0 in absurd (omega (arith, long))) (at_snoc_at left r live.0 n live.1)
 
     blamed : (j word : ℕ) → IsBlamed views j word → IsBlamed after j word

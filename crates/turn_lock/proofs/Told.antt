@@ -4,13 +4,13 @@ use mathlib.Core.Option.{some}
 use lib.ListN.{get_elem?}
 use Rattle.turn_lock.specs.History.{own}
 use Rattle.turn_lock.specs.Passes.{Facts}
-use Rattle.turn_lock.specs.Rule.{count_live, Fits}
+use Rattle.turn_lock.specs.Rule.{count_live, FitsLog}
 use Rattle.turn_lock.specs.declared.view.View.{View}
 use Rattle.turn_lock.proofs.Shared.{own_none}
 use Rattle.turn_lock.proofs.Live.{only_one, same_view}
 
 module _ {T E F : Type 0} (entries : T → List E) (fixed : T → F) (number : E → ℕ) (key : F) (views : List (View E F)) (log : List E) (i : ℕ) (v : View E F) (at : get_elem? views i ≡ some v) (alive : v.spent ≡ false)
-    (f : Fits entries fixed number key log views i v) where
+    (f : FitsLog entries fixed number key log views i v) where
   alone : v.number ≡ 0 → v.out ≡ 0 → (i ≡ 0) × (count_live views ≡ 1)
   alone z0 empty = let first : i ≡ 0 = sym f.numbered ∙ z0 in (first, (f.counts first).1 ∙ ap (λ (k : ℕ). k + 1) empty)
 

@@ -12,7 +12,7 @@ use Rattle.atomic_table.specs.Table.{State, Me, Step, step, Allows, Act, keeps, 
 use Rattle.atomic_table.proofs.Lists.{at_set, set_here, set_else}
 use Rattle.turn_lock.specs.History.{own, added}
 use Rattle.turn_lock.specs.Passes.{carried, granted, refused, committed, given_back}
-use Rattle.turn_lock.specs.Rule.{IsBlamed, IsFree, IsTaken, Kept}
+use Rattle.turn_lock.specs.Rule.{IsBlamed, IsFree, IsRuleKept, IsTurnTaken}
 use Rattle.turn_lock.specs.Steps.{Looked, IsGranted, IsRefused, Tried, Committed, GivenBack}
 use Rattle.turn_lock.specs.declared.view.View.{View}
 use Rattle.turn_lock.proofs.Shared.{at_below, prefix_refl, prefix_length, own_one_more, own_no_more}
@@ -46,13 +46,13 @@ module _ {T E F : Type 0} (entries : T → List E) (fixed : T → F) (number : E
   Sat = Me (Option T) (View E F)
 
   abbrev Rule : St → Type 0
-  Rule = Kept entries fixed number key
+  Rule = IsRuleKept entries fixed number key
 
   abbrev Free : List E → St → Type 0
   Free = IsFree entries fixed number key
 
   abbrev Taken : List E → St → Type 0
-  Taken = IsTaken entries fixed number
+  Taken = IsTurnTaken entries fixed number
 
   -- no play reads its step
   abbrev any_step : Step (Option T)

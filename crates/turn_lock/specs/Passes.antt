@@ -22,12 +22,12 @@ longer xs ys = cond (nat_le (length ys) (length xs)) xs ys
 
 module _ {E F : Type 0} where
   -- a pass of that lock
-  abbrev pub IsOf : Lock F → Known E F → Type 0
-  IsOf lock pass = (pass.table ≡ lock.table) × (pass.view.fixed ≡ Some lock.fixed)
+  abbrev pub IsOfLock : Lock F → Known E F → Type 0
+  IsOfLock lock pass = (pass.table ≡ lock.table) × (pass.view.fixed ≡ Some lock.fixed)
 
   -- a pass of that lock that holds no turn
   abbrev pub IsReady : Lock F → Known E F → Type 0
-  IsReady lock pass = IsOf lock pass × (pass.view.found ≡ None)
+  IsReady lock pass = IsOfLock lock pass × (pass.view.found ≡ None)
 
   -- the pass, knowing something else
   abbrev pub knowing : Known E F → View E F → Known E F

@@ -11,8 +11,8 @@ use Rattle.turn_lock.specs.declared.view.View.{View}
 
 module _ {E F : Type 0} where
   -- the pass of this number was made and not joined
-  abbrev pub IsLive : List (View E F) → ℕ → Type 0
-  IsLive views n = (v : View E F) × (get_elem? views n ≡ some v) × (v.spent ≡ false)
+  abbrev pub IsLivePass : List (View E F) → ℕ → Type 0
+  IsLivePass views n = (v : View E F) × (get_elem? views n ≡ some v) × (v.spent ≡ false)
 
   -- how many passes were made and not joined
   abbrev pub count_live : List (View E F) → ℕ
@@ -45,10 +45,10 @@ module _ {T E F : Type 0} (entries : T → List E) (fixed : T → F) (number : E
     pub seen_own : own number n seen ≡ es
     pub all_own : own number n log ≡ es
     pub made : n < length views
-    pub gone : IsLive views n → ⊥
+    pub gone : IsLivePass views n → ⊥
 
   -- what a pass knows is true: the pass i, which was not joined
-  pub record Fits (key : F) (log : List E) (views : List (View E F)) (i : ℕ) (v : View E F) : Type 0 where
+  pub record FitsLog (key : F) (log : List E) (views : List (View E F)) (i : ℕ) (v : View E F) : Type 0 where
     pub numbered : v.number ≡ i
     pub shows : v.fixed ≡ Some key
     pub begins : IsPrefix v.seen log
@@ -58,7 +58,7 @@ module _ {T E F : Type 0} (entries : T → List E) (fixed : T → F) (number : E
     pub met_begin : (xs : List E) → Contains v.met xs → IsPrefix xs v.seen
     pub counted : v.made ≡ v.out + length v.ended
     pub counts : i ≡ 0 → (length views ≡ v.made + 1) × (count_live views ≡ v.out + 1)
-    pub covers : i ≡ 0 → (n : ℕ) → IsLive views n ⊎ (HasEnded v.ended n ⊎ (own number n log ≡ []))
+    pub covers : i ≡ 0 → (n : ℕ) → IsLivePass views n ⊎ (HasEnded v.ended n ⊎ (own number n log ≡ []))
     pub waits : v.refused ≢ 0 → IsBlamed views i v.last
 
   -- the turn is free: no pass holds it, and the value at home stands for the history
@@ -71,7 +71,7 @@ module _ {T E F : Type 0} (entries : T → List E) (fixed : T → F) (number : E
     pub keeps : fixed value ≡ key
 
   -- the turn is held by one pass, which found the history and has the slot
-  pub record IsTaken (log : List E) (s : State (Option T) (View E F)) : Type 0 where
+  pub record IsTurnTaken (log : List E) (s : State (Option T) (View E F)) : Type 0 where
     pub odd : slice_index s.words 0 ≡ 2 * length log + 1
     pub holder : ℕ
     pub view : View E F
@@ -83,10 +83,10 @@ module _ {T E F : Type 0} (entries : T → List E) (fixed : T → F) (number : E
     pub away : s.homes ≡ none ∷ []
 
   -- the rule
-  pub record Kept (key : F) (s : State (Option T) (View E F)) : Type 0 where
+  pub record IsRuleKept (key : F) (s : State (Option T) (View E F)) : Type 0 where
     pub log : List E
     pub wide : length s.words ≡ 1
-    pub first : IsLive s.views 0
-    pub each : (i : ℕ) (v : View E F) → get_elem? s.views i ≡ some v → v.spent ≡ false → Fits key log s.views i v
+    pub first : IsLivePass s.views 0
+    pub each : (i : ℕ) (v : View E F) → get_elem? s.views i ≡ some v → v.spent ≡ false → FitsLog key log s.views i v
     pub known : IsSeenWhole log s.views
-    pub turn : IsFree key log s ⊎ IsTaken log s
+    pub turn : IsFree key log s ⊎ IsTurnTaken log s

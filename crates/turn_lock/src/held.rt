@@ -6,7 +6,7 @@ ghost use Rattle.std.specs.Borrow.{sem, RestsIfErr, Lends};
 ghost use mathlib.Core.List.{IsPrefix};
 ghost use mir.Syntax.{named};
 ghost use Rattle.turn_lock.specs.History.{own};
-ghost use Rattle.turn_lock.specs.Passes.{IsOf, IsReady, IsFound, IsOneMore, Facts};
+ghost use Rattle.turn_lock.specs.Passes.{IsOfLock, IsReady, IsFound, IsOneMore, Facts};
 ghost use Rattle.turn_lock.specs.Passes.{knowing, granted, refused, committed, given_back};
 ghost use Rattle.turn_lock.specs.contracts.pass.Pass.{the_row};
 ghost use Rattle.turn_lock.specs.contracts.held.Held.{the_row as held_row};
@@ -57,7 +57,7 @@ fn take_turn<T: Stands + Drop>(turn: &Turn<T>, pass: &mut Pass<T>) -> Result<T, 
 
 /// Puts the value back into its slot, and lets the turn go with an entry more.
 fn let_go_with_more<T: Stands + Drop>(turn: &Turn<T>, pass: &mut Pass<T>, value: T)
-    requires of { IsOf turn.now pass.old }
+    requires of { IsOfLock turn.now pass.old }
     requires next { (e : T.Entry) × IsOneMore T.entries T.number pass.old.view value e }
     requires fixed { T.fixed value ≡ turn.now.fixed }
     ensures committed { pass.new ≡ knowing pass.old (committed (T.entries value) pass.old.view) }
@@ -72,7 +72,7 @@ fn let_go_with_more<T: Stands + Drop>(turn: &Turn<T>, pass: &mut Pass<T>, value:
 
 /// Puts the value back into its slot, and lets the turn go with nothing added.
 fn let_go<T: Stands + Drop>(turn: &Turn<T>, pass: &mut Pass<T>, value: T)
-    requires of { IsOf turn.now pass.old }
+    requires of { IsOfLock turn.now pass.old }
     requires same { IsFound T.entries pass.old.view value }
     requires fixed { T.fixed value ≡ turn.now.fixed }
     ensures given_back { pass.new ≡ knowing pass.old (given_back (T.entries value) pass.old.view) }
@@ -141,7 +141,7 @@ impl<T: Stands + Drop> Held<'_, T> {
     /// Lets the turn go with one entry more, by one `fetch_add` of 1 on the word. The value has to
     /// stand for the list that was found with an entry of this pass behind it.
     pub fn commit(self)
-        requires of { IsOf self.turn.now self.pass.now }
+        requires of { IsOfLock self.turn.now self.pass.now }
         requires next { (e : T.Entry) × IsOneMore T.entries T.number self.pass.now.view self.value e }
         requires fixed { T.fixed self.value ≡ self.turn.now.fixed }
         ensures committed { self.exit.0.now ≡ knowing self.entry.pass.now
@@ -157,7 +157,7 @@ impl<T: Stands + Drop> Held<'_, T> {
     /// Lets the turn go with nothing added, by one `fetch_sub` of 1 on the word. The value has to
     /// stand for the list that was found.
     pub fn give_back(self)
-        requires of { IsOf self.turn.now self.pass.now }
+        requires of { IsOfLock self.turn.now self.pass.now }
         requires same { IsFound T.entries self.pass.now.view self.value }
         requires fixed { T.fixed self.value ≡ self.turn.now.fixed }
         ensures given_back { self.exit.0.now ≡ knowing self.entry.pass.now

@@ -12,10 +12,10 @@ pub struct TurnRule<T> {
 }
 
 impl<T: Stands> TableRule<Option<T>, View<T::Entry, T::Fixed>, Snapshot<T>> for TurnRule<T> {
-    ghost use Rattle.turn_lock.specs.Rule.{Kept};
+    ghost use Rattle.turn_lock.specs.Rule.{IsRuleKept};
     ghost use Rattle.turn_lock.specs.Passes.{first_view};
 
-    ghost holds = { λ first s. Kept T.entries T.fixed T.number (T.fixed first.value) s };
+    ghost holds = { λ first s. IsRuleKept T.entries T.fixed T.number (T.fixed first.value) s };
 
     ghost first = { λ first. first_view (T.fixed first.value) };
 }

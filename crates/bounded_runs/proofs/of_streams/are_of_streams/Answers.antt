@@ -9,7 +9,7 @@ use Rattle.async_bound.specs.Streams.{AreStreams, IsStream}
 use Rattle.bounded_runs.specs.declared.of_streams.StrayWhy.{StrayWhy}
 use Rattle.bounded_runs.specs.declared.of_streams.Traffic.{Traffic}
 use Rattle.bounded_runs.specs.Requests.{AreOfStreams}
-use Rattle.bounded_runs.specs.Strays.{Follows, IsFirstStray, Strays, arrivals_of, streams_of}
+use Rattle.bounded_runs.specs.Strays.{FollowsStreams, IsFirstStray, Strays, arrivals_of, streams_of}
 use Rattle.bounded_runs.proofs.Belongs.{arrivals-more, arrivals-rise, belongs-front, belongs-more, belongs-nil, strays-not}
 use Rattle.bounded_runs.proofs.of_streams.are_of_streams.Goals as goal
 
@@ -52,10 +52,10 @@ not-all streams requests k why first are =
 
 one-more : (streams : List Stream) (requests : List Request) (k : ℕ) (r : Request) (own : List Stream) (arrived : List ℕ)
     → AreStreams streams → k < length requests → r ≡ get_or requests k r → AreOfStreams streams (take k requests)
-    → own ≡ streams_of streams r.frame.identifier → arrived ≡ arrivals_of (take k requests) r.frame.identifier → Follows own arrived r
+    → own ≡ streams_of streams r.frame.identifier → arrived ≡ arrivals_of (take k requests) r.frame.identifier → FollowsStreams own arrived r
     → AreOfStreams streams (take (k + 1) requests)
 one-more streams requests k r own arrived known within is before same_own same_arrived follows =
-    let here = subst (λ l. Follows (streams_of streams r.frame.identifier) l r) same_arrived (subst (λ l. Follows l arrived r) same_own follows) in
+    let here = subst (λ l. FollowsStreams (streams_of streams r.frame.identifier) l r) same_arrived (subst (λ l. FollowsStreams l arrived r) same_own follows) in
     subst (AreOfStreams streams) (sym (with-one requests k r within is)) (belongs-more streams known (take k requests) r before here)
 
 replaced : (len : ℕ) (new old : List Traffic) → len ≡ length old → length new ≡ length old → take len (new ++ drop (length new) old) ≡ new

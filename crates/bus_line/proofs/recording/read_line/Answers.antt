@@ -3,7 +3,7 @@ use Rattle.std.proofs.Common.{◌≡◌, ◌≢◌, List, length}
 use Rattle.std.proofs.lemmas.Result.{IfOk-weaker, IfErr-weaker}
 use Rattle.can_frame.specs.declared.data_frame.TimedFrame.{TimedFrame}
 use Rattle.bus_line.specs.declared.line_fault.LineFault.TheVariants.{Memory}
-use Rattle.bus_line.specs.Recording.{Breaks, IsRecording}
+use Rattle.bus_line.specs.Recording.{BreaksLine, IsRecording}
 use Rattle.bus_line.proofs.OneRecording.{no_trace}
 use Rattle.bus_line.proofs.recording.read_line.Goals as goal
 
@@ -16,4 +16,4 @@ returns-clause-only c =
 pub returns-clause-none : goal.returns-clause-none
 returns-clause-none c =
     let bits = c.args.bits.now in
-    IfErr-weaker c.read.result (Breaks bits) (λ fault. fault ≢ Memory → (trace : List TimedFrame) → IsRecording trace 0 (length bits) bits → ⊥) (no_trace bits c.one_recording.ensures.unbroken) c.read.ensures.breaks
+    IfErr-weaker c.read.result (BreaksLine bits) (λ fault. fault ≢ Memory → (trace : List TimedFrame) → IsRecording trace 0 (length bits) bits → ⊥) (no_trace bits c.one_recording.ensures.unbroken) c.read.ensures.breaks

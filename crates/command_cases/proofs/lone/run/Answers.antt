@@ -5,7 +5,7 @@ use Rattle.cycle_layout.specs.Layout.{CycleLayout, IsLayout}
 use Rattle.admission_rules.specs.declared.Rules.{Rules}
 use Rattle.turn_lock.specs.Passes.{first_view}
 use Rattle.kept_run.specs.Setting.{IsSetting}
-use Rattle.live_run.specs.Live.{AreFresh, IsFirst}
+use Rattle.live_run.specs.Live.{AreFresh, IsFirstPass}
 use Rattle.command_cases.proofs.lone.run.Goals as goal
 
 pub run_live-requires : goal.run_live-requires
@@ -25,7 +25,7 @@ run_live-requires g c κs within =
           ∙ sym (ap (λ (l : CycleLayout). l.slots) (layout ∙ c.in-Ok.ensures.layout));
       asynchronous = λ k d none. absurd (omega arith);
     } in
-    let pass : IsFirst c.in_ok-shared.shared c.in_ok-shared.pass = record {
+    let pass : IsFirstPass c.in_ok-shared.shared c.in_ok-shared.pass = record {
       is = c.in_ok-shared.ensures.pass ∙ ap (λ f. record { table = c.in_ok-shared.shared.table; view = first_view f }) (sym rules);
       standing = c.in_ok-shared.ensures.standing;
     } in

@@ -3,7 +3,7 @@ use Rattle.std.specs.List.{cons_option}
 use Rattle.cycle_layout.specs.Layout.{IsLayout, sync_start}
 use Rattle.trigger_codec.specs.Bytes.{triggers_with}
 use Rattle.node_model.specs.Node.{NodeState}
-use Rattle.cycle_engine.specs.Stations.{AreDue, StationsView, announced, due_from, stationed}
+use Rattle.cycle_engine.specs.Stations.{AreDueTriggers, StationsView, announced, due_from, stationed}
 use Rattle.cycle_engine.specs.SyncWindow.{IsBeforeWindow}
 use Rattle.cycle_engine.proofs.Along.{told-layout}
 use Rattle.cycle_engine.proofs.NodesApart.{AreDue-triggers}
@@ -18,8 +18,8 @@ announce-requires-clause-due c =
     let layout = c.layout.result.now in
     let triggers : c.encode-first.result ∷ cons_option c.later_trigger-later.result [] ≡ triggers_with layout.slots order.cycle order.l order.mask =
     ap (λ frame. frame ∷ cons_option c.later_trigger-later.result []) c.encode-first.ensures.frame ∙ c.later_trigger-later.ensures.frames order.l in
-    subst (λ l. AreDue l (due_from (order.cycle * c.from.result) (c.encode-first.result ∷ cons_option c.later_trigger-later.result []))) c.layout.ensures.layout
-    (subst (λ fs. AreDue layout (due_from (order.cycle * c.from.result) fs)) (sym triggers)
+    subst (λ l. AreDueTriggers l (due_from (order.cycle * c.from.result) (c.encode-first.result ∷ cons_option c.later_trigger-later.result []))) c.layout.ensures.layout
+    (subst (λ fs. AreDueTriggers layout (due_from (order.cycle * c.from.result) fs)) (sym triggers)
     (AreDue-triggers layout (order.cycle * c.from.result) order.cycle order.l order.mask))
 
 pub returns-clause-layout : goal.returns-clause-layout

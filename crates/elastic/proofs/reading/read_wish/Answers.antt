@@ -4,7 +4,7 @@ use Rattle.std.proofs.lemmas.Bool.Decides.{nat_tests}
 use Rattle.std.specs.Result.{is_ok}
 use Rattle.text_fields.specs.RecordReading.{fields_in}
 use Rattle.text_fields.specs.CsvRows.{rows_of}
-use Rattle.elastic.specs.WishesFile.{Faults}
+use Rattle.elastic.specs.WishesFile.{IsWishFault}
 use Rattle.elastic.specs.declared.wish_fault.WishWhy.TheVariants.{Word}
 use Rattle.elastic.specs.declared.wish_fault.WishFault.TheVariants.{Row}
 use Rattle.elastic.proofs.ReadingWish.{fault_is, fault_of_row, none_read, passes_on, passes_value, reads_first, reads_more, wish_is, wish_read}
@@ -12,7 +12,7 @@ use Rattle.elastic.proofs.reading.read_wish.Goals as goal
 
 pub returns-in_err-start-clause-fault : goal.returns-in_err-start-clause-fault
 returns-in_err-start-clause-fault c =
-    passes_on c.from_residual.result (Faults (rows_of c.args.bytes.now)) c.in_err-start.field-0.0 c.from_residual.ensures.1
+    passes_on c.from_residual.result (IsWishFault (rows_of c.args.bytes.now)) c.in_err-start.field-0.0 c.from_residual.ensures.1
     (c.in_err-start.ensures.fault c.args.bytes.now c.begin_reading-reader.ensures.reads)
 
 pub returns-in_err-start-clause-value : goal.returns-in_err-start-clause-value
@@ -46,7 +46,7 @@ returns-in_err-op-clause-fault c =
     let fields = fields_in c.next_record.new.row in
     let read = c.in_ok-next_record.ensures.one c.if-branch.true c.args.bytes.now so_far.before so_far.reads in
     let above : c.len.result ≡ length c.loop-ops.ops.items = search rules in
-    passes_on c.from_residual-in_err-op.result (Faults (rows_of c.args.bytes.now)) c.in_err-op.field-0.0 c.from_residual-in_err-op.ensures.1
+    passes_on c.from_residual-in_err-op.result (IsWishFault (rows_of c.args.bytes.now)) c.in_err-op.field-0.0 c.from_residual-in_err-op.ensures.1
     (fault_of_row c.args.bytes.now so_far.before read.below fields c.in_ok-start.start c.loop-ops.ops.items so_far.says read.split c.len.result c.in_err-op.field-0.0 above c.in_err-op.ensures.fault)
 
 pub returns-in_err-op-clause-value : goal.returns-in_err-op-clause-value

@@ -1,4 +1,4 @@
-use Rattle.kept_run.specs.Progress.{AreReady, IsUnderWay}
+use Rattle.kept_run.specs.Progress.{AreNodesReady, IsUnderWay}
 use Rattle.kept_run.proofs.Histories.{after-closed}
 use Rattle.kept_run.proofs.Ready.{ready-answered}
 use Rattle.kept_run.proofs.Steps.{answered}
@@ -10,5 +10,5 @@ returns-clause-under_way c = λ setting history calls trace closed legal way.
 
 pub returns-clause-ready : goal.returns-clause-ready
 returns-clause-ready c = λ setting history calls trace nodes closed legal ready.
-    after-closed setting.rules (λ h. AreReady setting h trace nodes)
+    after-closed setting.rules (λ h. AreNodesReady setting h trace nodes)
     (λ before call opens_nothing _ so_far. ready-answered setting trace nodes before call opens_nothing so_far) history calls closed legal ready

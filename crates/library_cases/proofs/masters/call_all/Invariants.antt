@@ -1,10 +1,10 @@
 use Rattle.std.proofs.Common.{◌≡◌}
-use Rattle.turn_lock.specs.Passes.{IsOf}
+use Rattle.turn_lock.specs.Passes.{IsOfLock}
 use Rattle.library_cases.proofs.masters.call_all.Given as goal
 
 abbrev pub invariant-loop-word : goal.invariant-loop-word
 invariant-loop-word l = record {
-  dispatcher : IsOf l.shared l.dispatcher;
-  operator : IsOf l.shared l.operator;
+  dispatcher : IsOfLock l.shared l.dispatcher;
+  operator : IsOfLock l.shared l.operator;
   out : l.dispatcher.view.out ≡ l.initial.dispatcher.view.out;
 }

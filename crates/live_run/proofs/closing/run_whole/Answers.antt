@@ -10,7 +10,7 @@ use Rattle.kept_run.specs.Kept.{Kept}
 use Rattle.kept_run.specs.Setting.{IsSetting, Setting}
 use Rattle.live_master.specs.Callers.{number_of}
 use Rattle.live_run.specs.Answers.{AnswersActs}
-use Rattle.live_run.specs.Live.{AreFresh, IsFirst, IsLeft}
+use Rattle.live_run.specs.Live.{AreFresh, AreRequestsLeft, IsFirstPass}
 use Rattle.live_run.specs.Left.{left_at, numbers_of}
 use Rattle.live_run.proofs.Lefts.{left_at_of, numbered}
 use Rattle.live_run.proofs.Whole.{calls-of-few}
@@ -32,7 +32,7 @@ run_live-requires g c κs within =
       numbers = c.in_ok-nodes.ensures.numbers;
     }) in
     let rules : c.in_ok-shared.shared.fixed ≡ g.setting.rules = c.in_ok-shared.ensures.rules ∙ ap (λ (s : Setting). s.rules) (sym given) in
-    let pass : IsFirst c.in_ok-shared.shared c.in_ok-shared.pass = record {
+    let pass : IsFirstPass c.in_ok-shared.shared c.in_ok-shared.pass = record {
       is = c.in_ok-shared.ensures.pass
           ∙ ap (λ f. record { table = c.in_ok-shared.shared.table; view = first_view f }) (sym c.in_ok-shared.ensures.rules);
       standing = c.in_ok-shared.ensures.standing;
@@ -59,7 +59,7 @@ returns-clause-run g c =
             (subst (λ (calls : List Event). AnswersActs (k + 1) acts calls) (sym one.all) one.answers);
         others = calls-of-few (length scripts) closed.history v run.dispatcher c.close-master.ensures.calls run.numbers;
       };
-      left = subst (λ (h : List Event). IsLeft g.setting h c.in_ok-run.run') (sym same) run.left;
+      left = subst (λ (h : List Event). AreRequestsLeft g.setting h c.in_ok-run.run') (sym same) run.left;
     }
 
 pub returns-clause-left : goal.returns-clause-left

@@ -1,5 +1,5 @@
 use Rattle.std.proofs.Common.{◌∙◌}
-use Rattle.live_run.specs.declared.dispatching.Bus.{Bus}
+use Rattle.live_run.specs.declared.dispatching.LiveBus.{LiveBus}
 use Rattle.live_run.specs.Running.{IsSameBus}
 use Rattle.live_run.proofs.Cycles.{can_run, has_run}
 use Rattle.live_run.proofs.Openings.{can_run-same, running-same, running-seen}
@@ -7,7 +7,7 @@ use Rattle.live_run.proofs.dispatching.open_cycle.Goals as goal
 
 pub run_order-requires-clause-before : goal.run_order-requires-clause-before
 run_order-requires-clause-before g c =
-    let bus : Bus = record { nodes = c.open_next.new.nodes; trace = c.reserve_frames.new.bus.trace } in
+    let bus : LiveBus = record { nodes = c.open_next.new.nodes; trace = c.reserve_frames.new.bus.trace } in
     let same : IsSameBus c.args.bus.now bus = record {
       trace = c.reserve_frames.ensures.same.trace;
       layout = c.open_next.ensures.layout ∙ c.reserve_frames.ensures.same.layout;
@@ -23,7 +23,7 @@ returns-in_err-reserve_frames-clause-running g c = λ setting running.
 
 pub returns-in_err-order-clause-running : goal.returns-in_err-order-clause-running
 returns-in_err-order-clause-running g c = λ setting running.
-    let bus : Bus = record { nodes = c.open_next.new.nodes; trace = c.reserve_frames.new.bus.trace } in
+    let bus : LiveBus = record { nodes = c.open_next.new.nodes; trace = c.reserve_frames.new.bus.trace } in
     let same : IsSameBus c.args.bus.now bus = record {
       trace = c.reserve_frames.ensures.same.trace;
       layout = c.open_next.ensures.layout ∙ c.reserve_frames.ensures.same.layout;
@@ -35,7 +35,7 @@ returns-in_err-order-clause-running g c = λ setting running.
 
 pub returns-clause-running : goal.returns-clause-running
 returns-clause-running g c = λ setting running.
-    let bus : Bus = record { nodes = c.open_next.new.nodes; trace = c.reserve_frames.new.bus.trace } in
+    let bus : LiveBus = record { nodes = c.open_next.new.nodes; trace = c.reserve_frames.new.bus.trace } in
     let same : IsSameBus c.args.bus.now bus = record {
       trace = c.reserve_frames.ensures.same.trace;
       layout = c.open_next.ensures.layout ∙ c.reserve_frames.ensures.same.layout;

@@ -1,6 +1,6 @@
 use Rattle.std.proofs.Common.{◌≡◌, ◌≤◌, ◌∙◌, ℕ, List, All, Contains, length, drop, true, sym, ap, subst, arith}
 use Rattle.std.proofs.lemmas.List.Elements.{All-nil}
-use Rattle.turn_lock.specs.Passes.{IsOf, Known}
+use Rattle.turn_lock.specs.Passes.{IsOfLock, Known}
 use Rattle.admission_rules.specs.declared.Rules.{Rules}
 use Rattle.master_core.specs.declared.event.Event.{Event}
 use Rattle.live_run.specs.declared.crew.Operator.{Operator}
@@ -30,7 +30,7 @@ retire_all-answered-requires-clause-operators g c =
     subst (λ (l : List Script). AreDone c.args.shared.now l operators) c.as_slice.ensures.value c.share-ran.ensures.done in
     let same : length c.args.scripts.items ≡ length operators =
     omega (arith, c.in_ok-operators.ensures.count, c.len.ensures, c.args.scripts.ok.0, long) in
-    subst (λ (l : List Operator). All (λ (o : Operator). IsOf c.args.shared.now o.pass) l)
+    subst (λ (l : List Operator). All (λ (o : Operator). IsOfLock c.args.shared.now o.pass) l)
     (sym (whole c.in_ok-operators.operators.len operators (drop (length operators) c.in_ok-operators.operators.items) long))
     (λ k d within. (done-stand c.args.shared.now c.args.scripts.items operators same done k d within).ready.0)
 

@@ -1,5 +1,5 @@
 use Rattle.std.proofs.Common.{◌≡◌, ◌⊎◌, subst, sym}
-use Rattle.log_reader.specs.LogReading.{IsBehind}
+use Rattle.log_reader.specs.LogReading.{HasReadRows}
 use Rattle.log_reader.specs.Row.{IsLogFault}
 use Rattle.log_reader.specs.declared.log_fault.LogFault.TheVariants.{Memory, Row}
 use Rattle.log_reader.proofs.Readings.{no-rows, none-faulty, none-found, passes-match, passes-on, same-fault, whole-back}
@@ -35,7 +35,7 @@ loop-rows-smaller c =
 pub loop-rows-preserved : goal.loop-rows-preserved
 loop-rows-preserved c =
     let more = rw c.in-Some.is at c.in_ok-row.ensures.more in
-    subst (IsBehind c.args.bytes.now c.next_row.new.self) (sym c.in_ok-push.ensures.items)
+    subst (HasReadRows c.args.bytes.now c.next_row.new.self) (sym c.in_ok-push.ensures.items)
     (more c.args.bytes.now c.loop-rows.rows.items c.loop-rows.invariant).behind
 
 pub returns-clause-fields : goal.returns-clause-fields

@@ -1,6 +1,6 @@
 -- The next instance of the entry takes the place of the known one.
 use Rattle.std.proofs.Common.{◌+◌, ◌%◌, ◌^◌, ◌<◌, get_or, length, refl, ap, arith}
-use Rattle.node_model.specs.Kept.{IsReady}
+use Rattle.node_model.specs.Kept.{IsSlotReady}
 use Rattle.node_model.proofs.Ready.{at-place, next-ready, one-ready, unknown}
 use Rattle.node_model.proofs.entries.turn.Goals as goal
 
@@ -12,6 +12,6 @@ returns-clause-ready c = λ entries before.
     let found = get_or slots place unknown in
     one-ready entries slots place _
     (next-ready entries place found (found.release + c.from-period.result) ((found.number + 1) % 2 ^ 64) c.args.cycle
-    (at-place (IsReady entries place) slots place unknown within (before place))
+    (at-place (IsSlotReady entries place) slots place unknown within (before place))
     (ap (λ n. found.release + n) c.from-period.ensures) refl (omega (arith, c.ranges.cycle)) (c.if-not-is_sendable.ensures.sendable refl))
     before

@@ -1,6 +1,6 @@
 use Rattle.std.proofs.Common.{◌≡◌, ℕ, ◌-◌, ◌<◌, ◌≤◌}
 use Rattle.bit_sets.specs.Sets.{has_bit, most_slots}
-use Rattle.plan_check.specs.Blocks.{IsLast}
+use Rattle.plan_check.specs.Blocks.{IsLastBlock}
 use Rattle.plan_check.specs.Breaches.{IsGoodAt}
 use Rattle.plan_check.specs.PlanKept.{is_held}
 use Rattle.plan_check.specs.Places.{ArePassed}
@@ -14,7 +14,7 @@ invariant-loop-cycle l = record {
   after : l.certificate.from ≤ l.cycle;
   within : l.cycle ≤ l.end;
   passed : ArePassed l.placed l.cycle l.slots l.places;
-  last : IsLast l.placed l.cycle l.last;
+  last : IsLastBlock l.placed l.cycle l.last;
   held : (s : ℕ) → s < most_slots → has_bit l.held s ≡ is_held l.placed l.certificate (l.cycle - l.certificate.from) s;
   before : l.certificate.first < l.cycle → (s : ℕ) → s < most_slots
       → has_bit l.before s ≡ is_held l.placed l.certificate (l.certificate.first - l.certificate.from) s;

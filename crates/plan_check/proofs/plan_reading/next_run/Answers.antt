@@ -1,5 +1,5 @@
 use Rattle.std.proofs.Common.{◌≡◌, true, ap, sym, ◌∙◌, arith}
-use Rattle.plan_check.specs.declared.plan_runs.Run.{Run}
+use Rattle.plan_check.specs.declared.plan_runs.MaskRun.{MaskRun}
 use Rattle.plan_check.specs.PlanText.{is_other, run_line}
 use Rattle.plan_check.proofs.LineReads.{follows-other, of-version, run-same}
 use Rattle.plan_check.proofs.PlanReads.{clean-run}
@@ -27,9 +27,9 @@ returns-else-run-ge1-clause-none c = λ run after may few small is.
     c.in_ok-line.ensures.line (clean-run c.args.version run small) is in
     let same : read ≡ run = run-same c.args.version read run c.in_ok-run.ensures.of_version (of-version c.args.version c.args.last run may small)
     (sym c.in_ok-run.ensures.found ∙ line) in
-    let counts : read.count ≡ run.count = ap (λ (r : Run). r.count) same in
+    let counts : read.count ≡ run.count = ap (λ (r : MaskRun). r.count) same in
     let other : is_other c.args.last read.mask c.args.version ≡ true
-    = ap (λ (r : Run). is_other c.args.last r.mask c.args.version) same ∙ follows-other c.args.version c.args.last run may.follows in
+    = ap (λ (r : MaskRun). is_other c.args.last r.mask c.args.version) same ∙ follows-other c.args.version c.args.last run may.follows in
     let some = may.some in
     elim c.else-run-ge1.branch [
       | else-run-ge1-via-then-run-ge1+then-run-most+else-is_other w ↦ let test = w.is_other.ensures.other in let none = w.if-is_other in absurd (cc)

@@ -1,5 +1,5 @@
 use Rattle.std.proofs.Common.{◌≡◌, ◌+◌, ◌-◌, sym, ◌∙◌, arith}
-use Rattle.bus_trace.specs.Log.{triggers_in, triggers_with}
+use Rattle.bus_trace.specs.Log.{trigger_count_with, triggers_in}
 use Rattle.plan_report.proofs.Counted.{tallies-before, tallies-strange}
 use Rattle.plan_report.proofs.sent.count_frame.Goals as goal
 
@@ -12,5 +12,5 @@ returns-in_default-clause-tallies c = λ frames are seen. tallies-strange frames
 pub returns-clause-tallies : goal.returns-clause-tallies
 returns-clause-tallies c = λ frames are seen.
     let some = c.if-seen-eq0.false in
-    let now : triggers_with (triggers_in frames) c.args.sent.now ≡ c.args.seen - 1 + 1 = omega arith in
+    let now : trigger_count_with (triggers_in frames) c.args.sent.now ≡ c.args.seen - 1 + 1 = omega arith in
     c.count_slot.ensures.counted frames c.args.sent.now are c.in-Some.ensures.slot.1 now

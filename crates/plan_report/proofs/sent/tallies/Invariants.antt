@@ -1,6 +1,6 @@
 use Rattle.std.proofs.Common.{◌≡◌, ◌≤◌, ◌-◌, take}
 use Rattle.bus_trace.specs.Log.{triggers_in}
-use Rattle.plan_report.specs.Current.{ArePassed}
+use Rattle.plan_report.specs.Current.{AreEntriesPassed}
 use Rattle.plan_report.specs.Tally.{AreTallies}
 use Rattle.plan_report.proofs.sent.tallies.Given as goal
 
@@ -9,5 +9,5 @@ invariant-loop-sent l = record {
   counted : AreTallies (take l.sent-index l.trace) l.placed l.tallies.items;
   triggers : l.seen ≡ triggers_in (take l.sent-index l.trace);
   few : l.seen ≤ l.sent-index;
-  passed : ArePassed l.placed l.places.first (l.seen - 1);
+  passed : AreEntriesPassed l.placed l.places.first (l.seen - 1);
 }

@@ -1,6 +1,6 @@
 use Rattle.std.proofs.Common.{refl, sym, subst}
 use Rattle.planner_policies.specs.Plan.{IsValid}
-use Rattle.release_wheel.specs.Wheel.{IsKept}
+use Rattle.release_wheel.specs.Wheel.{IsWheelKept}
 use Rattle.release_wheel.proofs.NearPlans.{onward-after, rows-onward, stepped-missed, stepped-planned, valid-after}
 use Rattle.release_wheel.proofs.near.step_near.Goals as goal
 
@@ -35,5 +35,5 @@ returns-clause-standing c =
       end = made.kept.near;
       valid = valid-after all near c.args.w mid new well valid c.step.result planned made.next made.same_cycle made.same_slots;
       rows = rows-onward all near mid new came.rows (onward-after all near c.args.w mid new well valid c.step.result made.next made.same_cycle)
-          (subst (λ r. IsKept r new) c.at_wheel.ensures.entries made.kept);
+          (subst (λ r. IsWheelKept r new) c.at_wheel.ensures.entries made.kept);
     }

@@ -4,11 +4,11 @@ use Rattle.bit_sets.specs.Sets.{has_bit}
 use Rattle.release_wheel.specs.declared.wheel.Wheel.{Wheel}
 use Rattle.planner_policies.specs.Due.{IsPlanned}
 use Rattle.planner_policies.specs.Plan.{Ranking, planning_of}
-use Rattle.release_wheel.specs.Wheel.{IsKept, IsReady}
+use Rattle.release_wheel.specs.Wheel.{IsWheelKept, IsWheelReady}
 use Rattle.release_wheel.proofs.RowCycles.{planned-all, quiet-cost, quiet-released, quiet-slots, turned-quiet}
 use Rattle.release_wheel.proofs.wheel.pass.Goals as goal
 
-turns-on : (ranking : Ranking) (w : Wheel) → IsKept ranking w → w.cycle < w.quiet → w.turns ≡ true
+turns-on : (ranking : Ranking) (w : Wheel) → IsWheelKept ranking w → w.cycle < w.quiet → w.turns ≡ true
 turns-on ranking w kept less =
     ⊎_elim
     (λ (on : w.turns ≡ true). on)
@@ -23,7 +23,7 @@ returns-clause-planned c = λ window.
     let less = c.requires.quiet in
     let on = turns-on ranking w kept less in
     let turned = (kept.turned on).turned in
-    let ready : IsReady ranking w.dues.waiting.slots w = record { released = quiet-released w turned less; of_ranking = (kept.turned on).of_ranking; well = c.requires.well; valid = kept.valid } in
+    let ready : IsWheelReady ranking w.dues.waiting.slots w = record { released = quiet-released w turned less; of_ranking = (kept.turned on).of_ranking; well = c.requires.well; valid = kept.valid } in
     let cost = quiet-cost w turned less in
     let number = c.empty.ensures.number in
     let P : ℕ → Type 0 = λ width. IsPlanned (planning_of ranking window w.cycle w.dues.waiting.slots) w.cycle (has_bit w.dues.waiting.slots) c.empty.result width c.empty-wheel.result in

@@ -1,13 +1,13 @@
 use Rattle.std.proofs.Common.{◌≡◌, ◌-◌, ◌<◌, ◌≤◌, ℕ}
 use Rattle.planner_policies.specs.Plan.{IsValid, planning_of}
 use Rattle.release_wheel.specs.Passed.{IsPassed}
-use Rattle.release_wheel.specs.Wheel.{IsKept}
+use Rattle.release_wheel.specs.Wheel.{IsWheelKept}
 use Rattle.release_wheel.proofs.wheel.pass_quiet.Given as goal
 
 -- the cycles that were passed until now are quiet, and the planner stands behind them
 abbrev pub invariant-loop-wheel : goal.invariant-loop-wheel
 invariant-loop-wheel l = record {
-  kept : IsKept l.ranked l.wheel;
+  kept : IsWheelKept l.ranked l.wheel;
   quiet : l.wheel.quiet ≡ l.fn.wheel.quiet;
   slots : l.wheel.dues.waiting.slots ≡ l.fn.wheel.dues.waiting.slots;
   empty : l.fn.wheel.dues.waiting.slots ≡ 0;

@@ -7,7 +7,7 @@ use Rattle.release_wheel.specs.declared.wheel.Wheel.{Wheel}
 use Rattle.planner_policies.specs.Due.{IsPlanned}
 use Rattle.planner_policies.specs.Plan.{IsValid, Ranking, planning_of}
 use Rattle.planner_policies.specs.Ranked.{AreRanked}
-use Rattle.release_wheel.specs.Wheel.{IsKept, IsOfRanking, IsPlannedOn, IsSameTable}
+use Rattle.release_wheel.specs.Wheel.{IsOfRanking, IsPlannedOn, IsSameTable, IsWheelKept}
 use Rattle.planner_policies.proofs.Shared.{left-valid}
 use Rattle.release_wheel.proofs.wheel.step.Goals as goal
 
@@ -33,8 +33,8 @@ planned-on ranking window pending old released new mask width cycle table on =
       table = table-on old released new table on.table;
     }
 
-kept-on : (ranking : Ranking) (window : ℕ) (old new : Wheel) (mask width : ℕ) → IsWellPlaced ranking.placed → IsKept ranking old → old.turns ≡ true
-    → old.cycle < 2 ^ 42 → IsPlannedOn ranking window old.dues.waiting.slots old new mask width → IsKept ranking new
+kept-on : (ranking : Ranking) (window : ℕ) (old new : Wheel) (mask width : ℕ) → IsWellPlaced ranking.placed → IsWheelKept ranking old → old.turns ≡ true
+    → old.cycle < 2 ^ 42 → IsPlannedOn ranking window old.dues.waiting.slots old new mask width → IsWheelKept ranking new
 kept-on ranking window old new mask width well kept turns near on =
     let plan = planning_of ranking window old.cycle old.dues.waiting.slots in
     let P : ℕ → Type 0 = λ at. IsValid ranking.placed at new.dues.waiting.slots in

@@ -1,14 +1,14 @@
 use Rattle.std.proofs.Common.{nat_le, List, sym, subst}
 use Rattle.requirement_table.specs.declared.entries.Placed.{Placed}
 use Rattle.planner_policies.specs.declared.Fill.{Fill}
-use Rattle.release_wheel.specs.Taking.{AreDistinct, IsTook}
+use Rattle.release_wheel.specs.Taking.{AreOfDistinctSlots, IsTook}
 use Rattle.release_wheel.proofs.RowCycles.{distinct, part-by-row}
 use Rattle.release_wheel.proofs.wheel.take_by_row.Goals as goal
 
 pub take_rows-requires-clause-distinct : goal.take_rows-requires-clause-distinct
 take_rows-requires-clause-distinct c =
     let w = c.args.wheel.now in
-    let P : List Placed → Type 0 = λ entries. AreDistinct entries c.args.due in
+    let P : List Placed → Type 0 = λ entries. AreOfDistinctSlots entries c.args.due in
     subst P (sym c.as_slice.ensures.value)
     (distinct c.args.ranked.now c.args.state.now.pending c.args.w w c.requires.ready c.args.due c.requires.rows)
 

@@ -1,8 +1,8 @@
 use Rattle.std.proofs.Common.{rules, ◌∙◌}
 use Rattle.std.specs.List.{flat_map}
 use Rattle.kept_run.proofs.Shared.{Promises}
-use Rattle.replay_run.specs.Begun.{IsBegun}
-use Rattle.replay_run.specs.Progress.{IsOnBus}
+use Rattle.replay_run.specs.Begun.{IsRunBegun}
+use Rattle.replay_run.specs.Progress.{IsKeptOnBus}
 use Rattle.replay_run.specs.Run.{IsRun, calls_of, setting_of}
 use Rattle.replay_run.specs.Runs.{AnswersAll, AnswersFirst}
 use Rattle.replay_run.specs.Whole.{IsCutOff}
@@ -14,7 +14,7 @@ returns-in_err-bus-clause-cut g c =
     let system = c.args.system.now in
     let steps = c.args.steps.now in
     let requests = c.args.requests.now in
-    let all = not-begun g.L.Listener.heard g.L.Listener.broke (IsBegun system steps requests) (IsRun system steps requests) c.args.listener.now
+    let all = not-begun g.L.Listener.heard g.L.Listener.broke (IsRunBegun system steps requests) (IsRun system steps requests) c.args.listener.now
     (g.met.L.Listener.nothing c.args.listener.now)
     (begun-at_once (record { kept = c.promise.ensures.kept }) system steps requests c.in_ranges.ensures.setting
     (c.beginning.ensures.under_way (setting_of system requests))) in
@@ -35,14 +35,14 @@ returns-in_err-log_run-clause-cut g c =
     let start = kept_so laws system steps requests c.args.keeps in
     let calls = flat_map calls_of steps in
     let all = cut-weaker g.L.Listener.heard g.L.Listener.broke
-    (AnswersFirst (λ on. IsOnBus on.setting) start calls) (AnswersAll (λ on. IsOnBus on.setting) start calls) (IsBegun system steps requests) (IsRun system steps requests)
+    (AnswersFirst (λ on. IsKeptOnBus on.setting) start calls) (AnswersAll (λ on. IsKeptOnBus on.setting) start calls) (IsRunBegun system steps requests) (IsRun system steps requests)
     c.args.listener.now c.log_run.new.listener c.in_err-log_run.field-0.0
     (λ history trace is. begun-of laws system steps requests history trace is.later is.answers is.keeps)
     (λ history trace is. run-of laws system steps requests history trace is.answers is.keeps)
     (c.in_err-log_run.ensures.cut start
     (record { history_is = c.in_ok-bus.ensures.empty; going = c.in_ok-bus.ensures.going; kept = c.in_ok-bus.ensures.kept })) in
     caused c.from_residual-in_err-log_run.result
-    (IsCutOff g.L.Listener.heard g.L.Listener.broke (IsBegun system steps requests) (IsRun system steps requests) c.args.listener.now c.log_run.new.listener)
+    (IsCutOff g.L.Listener.heard g.L.Listener.broke (IsRunBegun system steps requests) (IsRun system steps requests) c.args.listener.now c.log_run.new.listener)
     c.in_err-log_run.field-0.0 c.from_residual-in_err-log_run.ensures.1 all
 
 pub returns-clause-heard : goal.returns-clause-heard

@@ -1,7 +1,7 @@
 use Rattle.std.proofs.Common.{subst, sym}
 use Rattle.std.proofs.lemmas.Result.{on_err_weaker, on_ok_weaker}
 use Rattle.bus_trace.specs.EventRows.{HasItsFrames, rows_of_event}
-use Rattle.bus_trace.specs.Logged.{IsNear}
+use Rattle.bus_trace.specs.Logged.{IsEventNear}
 use Rattle.replay_run.proofs.Shared.{some-event}
 use Rattle.replay_run.proofs.logging.tell_last.Goals as goal
 
@@ -11,7 +11,7 @@ last-requires g c = record { some = some-event c.args.master.now.history c.requi
 pub hear-requires-clause-near : goal.hear-requires-clause-near
 hear-requires-clause-near g c =
     let last = c.requires.last in
-    subst IsNear (sym (c.last.ensures.last last.ends.before last.event last.ends.is)) last.near
+    subst IsEventNear (sym (c.last.ensures.last last.ends.before last.event last.ends.is)) last.near
 
 pub hear-requires-clause-frames : goal.hear-requires-clause-frames
 hear-requires-clause-frames g c =

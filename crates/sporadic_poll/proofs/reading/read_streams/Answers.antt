@@ -5,8 +5,8 @@ use Rattle.text_fields.specs.RecordReading.{fields_in}
 use Rattle.text_fields.specs.CsvRows.{rows_of, trimmed}
 use Rattle.text_fields.specs.RowByRow.{IsFirstFault}
 use Rattle.text_fields.proofs.Shared.{more_items, no_items, trimmed-more, trimmed-split}
-use Rattle.sporadic_poll.specs.StreamRow.{IsStream, meaning}
-use Rattle.sporadic_poll.specs.StreamsFile.{AreStreams, streams_of}
+use Rattle.sporadic_poll.specs.StreamRow.{IsLegalStream, meaning}
+use Rattle.sporadic_poll.specs.StreamsFile.{AreStreamsOfRows, streams_of}
 use Rattle.sporadic_poll.proofs.StreamsMean.{fault_computed, streams_computed}
 use Rattle.sporadic_poll.proofs.StreamsTogether.{more_legal, none_legal}
 use Rattle.sporadic_poll.proofs.reading.read_streams.Goals as goal
@@ -58,7 +58,7 @@ returns-clause-ok c =
 pub returns-clause-value : goal.returns-clause-value
 unfolding streams_of
 returns-clause-value c =
-    let are : AreStreams c.args.slots (rows_of c.args.bytes.now) c.loop-streams.streams.items = returns-clause-ok c in
+    let are : AreStreamsOfRows c.args.slots (rows_of c.args.bytes.now) c.loop-streams.streams.items = returns-clause-ok c in
     streams_computed c.args.slots (rows_of c.args.bytes.now) c.loop-streams.streams.items are
 
 pub loop-streams-preserved : goal.loop-streams-preserved
@@ -72,13 +72,13 @@ loop-streams-preserved c =
     let is : meaning c.args.slots above (map trimmed fields) ≡ Ok stream = rw said (rw c.deref.ensures.value at c.in-Ok.ensures.value) in
     let good : is_ok c.push.result ≡ true = search rules in
     let items = rw good at c.push.ensures.items in
-    let legal : IsStream c.args.slots stream = rw said (record { early = c.in-Ok.ensures.early; known = c.in-Ok.ensures.known; short = c.in-Ok.ensures.short }) in
+    let legal : IsLegalStream c.args.slots stream = rw said (record { early = c.in-Ok.ensures.early; known = c.in-Ok.ensures.known; short = c.in-Ok.ensures.short }) in
     let after = rw c.deref.ensures.value at c.in-Ok.ensures.in_order in
     let few = rw c.deref.ensures.value at c.in-Ok.ensures.few in
     record {
       before = so_far.before ++ fields ∷ [];
       reads = read.reads;
-      means = rw items (subst (λ rows. AreStreams c.args.slots rows (above ++ stream ∷ [])) (sym (trimmed-more so_far.before fields))
+      means = rw items (subst (λ rows. AreStreamsOfRows c.args.slots rows (above ++ stream ∷ [])) (sym (trimmed-more so_far.before fields))
           (more_items (meaning c.args.slots) (map (map trimmed) so_far.before) above (map trimmed fields) stream so_far.means is));
       legal = rw items (more_legal c.args.slots above stream so_far.legal legal (rw said after) few);
     }

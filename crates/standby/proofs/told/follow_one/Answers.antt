@@ -2,7 +2,7 @@ use Rattle.std.proofs.Common.{◌∙◌, ◌∷◌, List, IfErr, OnOk, ap, subst
 use Rattle.std.proofs.lemmas.Result.{on_ok_weaker}
 use Rattle.can_frame.specs.DataFrame.{DataFrame}
 use Rattle.standby.specs.Handover.{IsBehind}
-use Rattle.standby.specs.Telling.{FollowsOne, IsFaultOf}
+use Rattle.standby.specs.Telling.{FollowsOne, IsFollowFault}
 use Rattle.standby.specs.declared.told.Told.{Told as ToldOf}
 use Rattle.standby.specs.declared.told.Told.TheVariants.{Trigger}
 use Rattle.standby.proofs.Behind.{due-change, due-trigger}
@@ -50,7 +50,7 @@ returns-in-Change-clause-followed c =
 
 pub returns-in-Change-clause-fault : goal.returns-in-Change-clause-fault
 returns-in-Change-clause-fault c =
-    subst (λ (t : ToldOf). IfErr c.change.result (IsFaultOf c.args.standby.now t)) (sym c.in-Change.is) c.change.ensures.fault
+    subst (λ (t : ToldOf). IfErr c.change.result (IsFollowFault c.args.standby.now t)) (sym c.in-Change.is) c.change.ensures.fault
 
 pub returns-in-Trigger-clause-followed : goal.returns-in-Trigger-clause-followed
 returns-in-Trigger-clause-followed c =
@@ -60,4 +60,4 @@ returns-in-Trigger-clause-followed c =
 pub returns-in-Trigger-clause-fault : goal.returns-in-Trigger-clause-fault
 returns-in-Trigger-clause-fault c =
     let thing = ap (λ (frames : List DataFrame). Trigger frames) c.as_slice.ensures.list ∙ sym c.in-Trigger.is in
-    subst (λ (t : ToldOf). IfErr c.trigger.result (IsFaultOf c.args.standby.now t)) thing c.trigger.ensures.fault
+    subst (λ (t : ToldOf). IfErr c.trigger.result (IsFollowFault c.args.standby.now t)) thing c.trigger.ensures.fault

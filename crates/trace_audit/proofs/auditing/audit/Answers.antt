@@ -1,7 +1,7 @@
 use Rattle.std.proofs.Common.{◌+◌, ◌≤◌, ◌++◌, drop, length, take, sym, ap, ◌∙◌, subst, arith}
 use Rattle.std.proofs.lemmas.List.{take-append-drop}
 use Rattle.trace_audit.specs.Audit.{IsAuditFault, IsAudited}
-use Rattle.trace_audit.specs.Auditing.{IsHeard}
+use Rattle.trace_audit.specs.Auditing.{AreRowsHeard}
 use Rattle.trace_audit.proofs.Whole.{first-break, item-at, no-memory, take-length, take-next, take-whole}
 use Rattle.trace_audit.proofs.auditing.audit.Goals as goal
 
@@ -34,7 +34,7 @@ loop-place-preserved c =
     let place = c.loop-place.place in
     let line = c.index-rows-place.result in
     let there = item-at rows place line c.loop-place-test.true c.index-rows-place.is in
-    subst (λ l. IsHeard c.args.system.now c.args.steps.now c.args.requests.now l c.take.new.self) (sym (take-next place rows line there))
+    subst (λ l. AreRowsHeard c.args.system.now c.args.steps.now c.args.requests.now l c.take.new.self) (sym (take-next place rows line there))
     (c.in_ok-take.ensures.hears.stand c.if-not-branch.false c.args.system.now c.args.requests.now (take place rows) c.loop-place.invariant)
 
 pub returns : goal.returns
@@ -44,7 +44,7 @@ returns c =
     let all : length rows ≤ place = omega (arith, c.loop-place-test.false) in
     record {
       answer = c.finish.ensures.answer c.args.system.now c.args.requests.now rows
-          (subst (λ l. IsHeard c.args.system.now c.args.steps.now c.args.requests.now l c.loop-place.audit) (take-whole place rows all)
+          (subst (λ l. AreRowsHeard c.args.system.now c.args.steps.now c.args.requests.now l c.loop-place.audit) (take-whole place rows all)
           c.loop-place.invariant);
     }
 

@@ -1,6 +1,6 @@
 use Rattle.std.proofs.Common.{◌≡◌, ◌++◌, ◌∷◌, [], length-append, subst, arith}
 use Rattle.trace_audit.specs.Audit.{IsAuditFault, IsAudited}
-use Rattle.trace_audit.specs.Auditing.{IsHeard}
+use Rattle.trace_audit.specs.Auditing.{AreRowsHeard}
 use Rattle.log_reader.proofs.Shared.{none-found}
 use Rattle.trace_audit.proofs.Whole.{first-break, no-memory}
 use Rattle.trace_audit.proofs.auditing.audit_read.Goals as goal
@@ -78,5 +78,5 @@ returns c =
       answer = λ rows are.
           let same : read ≡ rows = c.one_log.ensures.one text read rows (all text read behind) are in
           c.finish.ensures.answer c.args.system.now c.args.requests.now rows
-          (subst (λ l. IsHeard c.args.system.now c.args.steps.now c.args.requests.now l c.loop-reader.audit) same heard);
+          (subst (λ l. AreRowsHeard c.args.system.now c.args.steps.now c.args.requests.now l c.loop-reader.audit) same heard);
     }

@@ -5,7 +5,7 @@ use Rattle.std.proofs.lemmas.List.Elements.{All-weaker}
 use Rattle.async_window.specs.Mailbox.{Mail, left, mail_after}
 use Rattle.async_window.specs.Adding.{with_request}
 use Rattle.async_window.specs.Tournament.{TellFirsts}
-use Rattle.async_window.specs.Sorted.{AreKept, IsPlaceTable, mail_of, nowhere}
+use Rattle.async_window.specs.Sorted.{AreBoxesSorted, IsPlaceTable, mail_of, nowhere}
 use Rattle.async_window.proofs.Table.{few-rising}
 use Rattle.async_window.proofs.Steps.{HasPut, HasPut-none, HasPut-more, IsPlaceTable-put, rising-put}
 use Rattle.async_window.proofs.Kept.{AreKept-made, IsMade, greatest-made, known-put, mail_of-put}
@@ -88,7 +88,7 @@ pub invariant_of-result : goal.invariant_of-result
 invariant_of-result c =
     let made = is-made (goal.at.invariant_of-result c).In_ok-sorted in
     let copied : c.in_ok-to_vec.field-0.items ≡ c.args.ids.now = c.in_ok-to_vec.ensures.items_if_clones_equal (search rules) in
-    subst (λ ids. AreKept ids c.loop-request.boxes.items c.in_ok-places.places.items c.in_ok-firsts.firsts.arrivals
+    subst (λ ids. AreBoxesSorted ids c.loop-request.boxes.items c.in_ok-places.places.items c.in_ok-firsts.firsts.arrivals
     c.in_ok-firsts.firsts.lengths c.loop-request.remaining) (sym copied)
     (AreKept-made c.args.ids.now c.in_ok-sorted.sorted.items c.args.requests.now made c.loop-request.request-index c.loop-request.remaining
     c.loop-request.boxes.items c.in_ok-places.places.items c.in_ok-firsts.firsts.arrivals c.in_ok-firsts.firsts.lengths

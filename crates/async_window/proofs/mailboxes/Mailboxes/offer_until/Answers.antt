@@ -1,7 +1,7 @@
 use Rattle.std.proofs.Common.{◌≡◌, ℕ, ◌+◌, ◌-◌, ◌/◌, ◌<◌, ◌≤◌, Some, None, List, length, get_or, min, refl, sym, ap, ◌∙◌, subst}
 use Rattle.stuff_bound.specs.Stuffing.{worst}
 use Rattle.cycle_layout.specs.Layout.{sync_start}
-use Rattle.async_window.specs.Mailbox.{IsLeastWith, IsMail, Mail, Offers, StaysUntil, mail_offer}
+use Rattle.async_window.specs.Mailbox.{IsLeastWith, IsMail, Mail, OffersIdentifier, StaysUntil, mail_offer}
 use Rattle.async_window.specs.Tournament.{arrival_within, first_bytes}
 use Rattle.async_window.specs.Sorted.{mail_of}
 use Rattle.async_window.proofs.Soonest.{IsFound, found-offers, found-stays, is-offer, none-arrived, none-fits, none-waits}
@@ -32,7 +32,7 @@ returns-in-Some-first c =
       before = subst (λ (mail : List Mail). (k : ℕ) (d : Mail) → k < place → sooner ≤ arrival_within c.in-Some.bytes (get_or mail k d).unsent)
           slice c.in-Some-first.ensures.first.3;
     } in
-    let least : IsLeastWith (Offers layout c.args.l (mail_of c.self.inside.ids.items boxes) c.args.at) (Some (get_or boxes place box).identifier)
+    let least : IsLeastWith (OffersIdentifier layout c.args.l (mail_of c.self.inside.ids.items boxes) c.args.at) (Some (get_or boxes place box).identifier)
     = found-offers layout c.args.l c.self.inside.ids.items boxes c.self.inside.places.items c.self.inside.firsts.arrivals
     c.self.inside.firsts.lengths c.self.inside.remaining c.self.invariant c.args.at c.in-Some.bytes place sooner box found in
     let until : c.offer_of.result.until ≡ min (sooner - 1) (sync_start layout (c.args.at / layout.cycle) c.args.l - worst (first_bytes (get_or boxes place box).unsent))
@@ -46,8 +46,8 @@ returns-in-Some-first c =
     let identifier : (get_or boxes place box).identifier ≡ c.offer_of.result.id
     = sym (c.offer_of.ensures.id ∙ ap (λ (x : Mail). x.identifier) here) in
     record {
-      least = subst (λ n. IsLeastWith (Offers layout c.args.l c.args.self.now c.args.at) (Some n)) identifier
-          (subst (λ mail. IsLeastWith (Offers layout c.args.l mail c.args.at) (Some (get_or boxes place box).identifier)) c.self.view_is least);
+      least = subst (λ n. IsLeastWith (OffersIdentifier layout c.args.l c.args.self.now c.args.at) (Some n)) identifier
+          (subst (λ mail. IsLeastWith (OffersIdentifier layout c.args.l mail c.args.at) (Some (get_or boxes place box).identifier)) c.self.view_is least);
       value = ap (λ n. Some n) (sym identifier)
           ∙ is-offer layout c.args.l c.self.inside.ids.items boxes c.self.inside.places.items c.self.inside.firsts.arrivals
           c.self.inside.firsts.lengths c.self.inside.remaining c.self.invariant c.args.at (Some (get_or boxes place box).identifier) least
@@ -60,7 +60,7 @@ returns-in-Some-first c =
 -- no first request that would fit has arrived, so none is offered
 none-found : (c : goal.In-None-first)
     → IsLeastWith
-    (Offers c.args.layout.now c.args.l (mail_of c.self.inside.ids.items c.self.inside.boxes.items) c.args.at) None
+    (OffersIdentifier c.args.layout.now c.args.l (mail_of c.self.inside.ids.items c.self.inside.boxes.items) c.args.at) None
 none-found c =
     let fits : (bytes : ℕ) → bytes ≤ 8
     → c.args.at + worst bytes ≤ sync_start c.args.layout.now (c.args.at / c.args.layout.now.cycle) c.args.l
@@ -77,7 +77,7 @@ none-found c =
 
 pub returns-in-None-first-clause-least : goal.returns-in-None-first-clause-least
 returns-in-None-first-clause-least c =
-    subst (λ mail. IsLeastWith (Offers c.args.layout.now c.args.l mail c.args.at) None) c.self.view_is (none-found c)
+    subst (λ mail. IsLeastWith (OffersIdentifier c.args.layout.now c.args.l mail c.args.at) None) c.self.view_is (none-found c)
 
 pub returns-in-None-first-clause-value : goal.returns-in-None-first-clause-value
 returns-in-None-first-clause-value c =
@@ -98,7 +98,7 @@ returns-in-None-clause-value c =
 -- no first request has arrived, so none is offered
 none-here : (c : goal.Then-not-has_arrived)
     → IsLeastWith
-    (Offers c.args.layout.now c.args.l (mail_of c.self.inside.ids.items c.self.inside.boxes.items) c.args.at) None
+    (OffersIdentifier c.args.layout.now c.args.l (mail_of c.self.inside.ids.items c.self.inside.boxes.items) c.args.at) None
 none-here c =
     none-waits c.args.layout.now c.args.l c.self.inside.ids.items c.self.inside.boxes.items c.self.inside.places.items
     c.self.inside.firsts.arrivals c.self.inside.firsts.lengths c.self.inside.remaining c.self.invariant c.args.at
@@ -106,7 +106,7 @@ none-here c =
 
 pub returns-then-not-has_arrived-clause-least : goal.returns-then-not-has_arrived-clause-least
 returns-then-not-has_arrived-clause-least c =
-    subst (λ mail. IsLeastWith (Offers c.args.layout.now c.args.l mail c.args.at) None) c.self.view_is (none-here c)
+    subst (λ mail. IsLeastWith (OffersIdentifier c.args.layout.now c.args.l mail c.args.at) None) c.self.view_is (none-here c)
 
 pub returns-then-not-has_arrived-clause-value : goal.returns-then-not-has_arrived-clause-value
 returns-then-not-has_arrived-clause-value c =

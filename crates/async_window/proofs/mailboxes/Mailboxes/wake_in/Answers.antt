@@ -1,7 +1,7 @@
 use Rattle.std.proofs.Common.{ℕ, ◌+◌, ◌<◌, ◌≤◌, None, List, length, get_or, refl, subst, IsSome}
 use Rattle.stuff_bound.specs.Stuffing.{worst}
 use Rattle.async_window.specs.Mailbox.{IsNextInCycle, Mail, mail_offer}
-use Rattle.async_window.specs.Tournament.{IsSoonest, arrival_within}
+use Rattle.async_window.specs.Tournament.{IsSoonestStart, arrival_within}
 use Rattle.async_window.proofs.Soonest.{next-offer, none-behind, none-until}
 use Rattle.async_window.proofs.mailboxes.Mailboxes.wake_in.Goals as goal
 
@@ -14,7 +14,7 @@ returns c = record {
       c.self.inside.firsts.arrivals c.self.inside.firsts.lengths c.self.inside.remaining c.self.invariant c.window_in-window.ensures.known
       c.requires.time c.window_in-window.result.opened c.window_in-window.result.closed c.next.result c.window_in-window.ensures.opened
       c.window_in-window.ensures.closed
-      (subst (λ (mail : List Mail). IsSoonest mail c.window_in-window.result.opened c.window_in-window.result.closed c.args.at (length mail)
+      (subst (λ (mail : List Mail). IsSoonestStart mail c.window_in-window.result.opened c.window_in-window.result.closed c.args.at (length mail)
       c.next.result) c.as_slice-boxes.ensures.value c.next.ensures.next));
 }
 

@@ -2,7 +2,7 @@
 use Rattle.std.proofs.Common.{rules, ◌≡◌, ◌-◌, ◌/◌, length, take, sym, ap, ◌∙◌, subst, arith}
 use Rattle.std.specs.Int.{bytes_high_first}
 use Rattle.std.proofs.lemmas.Bool.{eqb-true}
-use Rattle.can_frame.specs.Begun.{Known}
+use Rattle.can_frame.specs.Begun.{FrontView}
 use Rattle.can_frame.specs.DataFrame.{DataFrame}
 use Rattle.can_frame.proofs.LowBytes.{same-high}
 use Rattle.can_frame.proofs.known_front.KnownFront.is_of.Goals as goal
@@ -12,7 +12,7 @@ returns-then-id-clause-same c = λ equal.
     let known = c.args.self.now.frame in
     let frame = c.args.frame.now in
     let n = length known.bytes in
-    let kept : c.self.inside.frame ≡ known = ap (λ (k : Known). k.frame) c.self.view_is in
+    let kept : c.self.inside.frame ≡ known = ap (λ (k : FrontView). k.frame) c.self.view_is in
     let length_is : length c.self.inside.frame.bytes ≡ length frame.bytes = search rules in
     let identifier_is : c.self.inside.frame.identifier ≡ frame.identifier = search rules in
     let same : n ≡ length frame.bytes = ap (λ (f : DataFrame). length f.bytes) (sym kept) ∙ length_is in

@@ -2,7 +2,7 @@ use Rattle.std.proofs.Common.{◌∷◌, ◌++◌, [], ◌∙◌, ap, subst}
 use Rattle.std.specs.Prelude.{◌&&◌}
 use Rattle.master_core.specs.Accepted.{refuses_nothing}
 use Rattle.replay_run.proofs.Shared.{some-event}
-use Rattle.handover_run.specs.Following.{Follows, IsRightBehind}
+use Rattle.handover_run.specs.Following.{IsRightBehind, IsStillFollowing}
 use Rattle.handover_run.proofs.Carried.{answered-on, right-told}
 use Rattle.handover_run.proofs.Told.{each-answer, if-followed}
 use Rattle.handover_run.proofs.handed.HandedRuns.answer_act.Goals as goal
@@ -52,5 +52,5 @@ returns-clause-on c =
       quiet = c.args.self.now.quiet && c.refuses_nothing.result;
     })
     [] is on c.args.caller c.args.act.now c.in_ok-answer.ensures.calls
-    (subst (λ event. Follows setting.rules (whole ++ event ∷ []) c.follow_answer.new.standby) last (follow setting.rules whole is.followed))
+    (subst (λ event. IsStillFollowing setting.rules (whole ++ event ∷ []) c.follow_answer.new.standby) last (follow setting.rules whole is.followed))
     (ap (λ b. c.args.self.now.quiet && b) (c.refuses_nothing.ensures.test ∙ ap refuses_nothing last)))

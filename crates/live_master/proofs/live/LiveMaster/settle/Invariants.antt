@@ -1,11 +1,11 @@
 use Rattle.std.proofs.Common.{◌≡◌}
-use Rattle.turn_lock.specs.Passes.{IsOf}
+use Rattle.turn_lock.specs.Passes.{IsOfLock}
 use Rattle.live_master.specs.Calls.{IsPlannedIn, Waited}
 use Rattle.live_master.proofs.live.LiveMaster.settle.Given as goal
 
 abbrev pub invariant-loop : goal.invariant-loop
 invariant-loop g l = record {
-  of : IsOf l.self l.pass;
+  of : IsOfLock l.self l.pass;
   waited : Waited l.initial.pass l.pass;
   same : l.plan ≡ l.initial.plan;
   planned : IsPlannedIn l.self.fixed l.pass.view.seen l.change l.plan;

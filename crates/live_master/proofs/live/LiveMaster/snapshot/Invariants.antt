@@ -1,9 +1,9 @@
-use Rattle.turn_lock.specs.Passes.{IsOf}
+use Rattle.turn_lock.specs.Passes.{IsOfLock}
 use Rattle.live_master.specs.Calls.{Waited}
 use Rattle.live_master.proofs.live.LiveMaster.snapshot.Given as goal
 
 abbrev pub invariant-loop : goal.invariant-loop
 invariant-loop g l = record {
-  of : IsOf l.self l.pass;
+  of : IsOfLock l.self l.pass;
   waited : Waited l.initial.pass l.pass;
 }

@@ -7,7 +7,7 @@ use Rattle.master_core.specs.declared.answered.Answered.{Answered}
 use Rattle.master_core.specs.declared.event.Event.{Event}
 use Rattle.master_core.specs.declared.event.Event.TheVariants.{Submit}
 use Rattle.master_core.specs.Answers.{IsAnswerTo, answer_at}
-use Rattle.master_core.specs.CorePlans.{CanSettleFrom, CorePlannedView, IsAnsweredFrom, IsDueAt, IsLedTo, IsSettled, IsSettledByPlan}
+use Rattle.master_core.specs.CorePlans.{CanSettleFrom, CorePlannedView, IsAnsweredFrom, IsLedTo, IsSettled, IsSettledByPlan, IsTakenFrom}
 use Rattle.master_core.specs.Cores.{CoreView, IsAnswered, IsCore, IsHeld, IsStateOf, answered_by, state_of}
 use Rattle.master_core.specs.History.{IsRightAnswer, placed_of}
 use Rattle.master_core.proofs.CorePlans.{answered-from, by-plan, right-then, settled, submit-same, told_of, view}
@@ -73,12 +73,12 @@ returns-then-not-branch-clause-settled c =
     let off = c.in_ok-is_led_to.ensures.apart c.if-not-branch.true in
     let by =
     pair-ok c.submit.result (IsAnswered c.args.self.now c.planned.inside.answer.change)
-    (λ answered. IsDueAt c.args.self.now (state_of c.args.self.now) c.planned.inside.answer.change answered.verdict) c.submit.ensures.answer
+    (λ answered. IsTakenFrom c.args.self.now (state_of c.args.self.now) c.planned.inside.answer.change answered.verdict) c.submit.ensures.answer
     c.submit.ensures.complete in
     subst (λ (p : CorePlannedView). IfOk c.submit.result (IsSettled c.args.self.now p)) c.planned.view_is
     (IfOk-weaker c.submit.result
     (λ answered. IsAnswered c.args.self.now c.planned.inside.answer.change answered
-    × IsDueAt c.args.self.now (state_of c.args.self.now) c.planned.inside.answer.change answered.verdict)
+    × IsTakenFrom c.args.self.now (state_of c.args.self.now) c.planned.inside.answer.change answered.verdict)
     (IsSettled c.args.self.now (view c.planned.inside.snapshot c.planned.inside.answer))
     (λ answered both. inr (record { apart = off; answer = both.0; due = both.1 })) by)
 

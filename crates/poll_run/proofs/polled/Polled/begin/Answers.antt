@@ -2,7 +2,7 @@ use Rattle.std.proofs.Common.{List, [], ◌<◌, true, refl, subst, arith}
 use Rattle.std.proofs.lemmas.List.Elements.{All-weaker}
 use Rattle.replay_run.specs.Run.{setting_of}
 use Rattle.sporadic_poll.specs.declared.stream.Stream.{Stream}
-use Rattle.sporadic_poll.specs.StreamRow.{IsStream}
+use Rattle.sporadic_poll.specs.StreamRow.{IsLegalStream}
 use Rattle.sporadic_poll.specs.Rides.{AreFates}
 use Rattle.poll_run.specs.PolledRun.{polled_setting}
 use Rattle.poll_run.proofs.Carrying.{begins-polled}
@@ -11,7 +11,7 @@ use Rattle.poll_run.proofs.polled.Polled.begin.Goals as goal
 pub new-requires-clause-known : goal.new-requires-clause-known
 new-requires-clause-known c =
     let slots = c.args.system.now.rules.slots in
-    All-weaker (IsStream slots) (λ stream. stream.slot < slots) (λ stream is. is.known) c.args.streams.items c.requires.streams.each
+    All-weaker (IsLegalStream slots) (λ stream. stream.slot < slots) (λ stream is. is.known) c.args.streams.items c.requires.streams.each
 
 pub returns-clause-begun : goal.returns-clause-begun
 returns-clause-begun c =

@@ -1,8 +1,8 @@
 use Rattle.std.proofs.Common.{◌≡◌, [], ◌∷◌, sym, subst, ap, ◌∙◌}
-use Rattle.kept_run.specs.Progress.{AreReady, IsUnderWay}
+use Rattle.kept_run.specs.Progress.{AreNodesReady, IsUnderWay}
 use Rattle.replay_run.specs.Run.{setting_of}
 use Rattle.replay_run.proofs.Shared.{owner-of}
-use Rattle.trace_audit.specs.Ahead.{IsAhead}
+use Rattle.trace_audit.specs.Ahead.{AreStepsAhead}
 use Rattle.trace_audit.specs.States.{KeepsStates, state_of}
 use Rattle.trace_audit.proofs.Bringing.{state-is}
 use Rattle.trace_audit.proofs.Settling.{keeps-first}
@@ -29,7 +29,7 @@ returns-clause-again c =
           asynchronous = asynchronous;
         };
         under_way = subst (λ h. IsUnderWay setting h []) (sym history) (c.beginning.ensures.under_way setting);
-        ready = subst (λ h. AreReady setting h [] c.in_ok-nodes.nodes) (sym history) c.in_ok-nodes.ensures.ready;
+        ready = subst (λ h. AreNodesReady setting h [] c.in_ok-nodes.nodes) (sym history) c.in_ok-nodes.ensures.ready;
       };
       states = subst (λ h. KeepsStates master.rules h c.in_ok-states.states) (sym history)
           (keeps-first master.rules c.in_ok-states.states
@@ -39,4 +39,4 @@ returns-clause-again c =
 
 pub returns-clause-ahead : goal.returns-clause-ahead
 returns-clause-ahead c =
-    subst (λ h. IsAhead c.args.steps.now h c.of-ahead.result) (sym c.in_ok-master.ensures.history) c.of-ahead.ensures.ahead
+    subst (λ h. AreStepsAhead c.args.steps.now h c.of-ahead.result) (sym c.in_ok-master.ensures.history) c.of-ahead.ensures.ahead

@@ -6,8 +6,8 @@ use Rattle.admission.specs.declared.verdict.Verdict.{Verdict}
 use Rattle.master_core.specs.History.{IsLegal}
 use Rattle.master_core.specs.declared.event.Event.TheVariants.{Submit}
 use Rattle.log_reader.specs.declared.row.LogRow.TheVariants as row
-use Rattle.trace_audit.specs.Again.{IsBroughtOn}
-use Rattle.trace_audit.specs.Ahead.{IsAhead, act_in}
+use Rattle.trace_audit.specs.Again.{IsRerunBroughtOn}
+use Rattle.trace_audit.specs.Ahead.{AreStepsAhead, act_in}
 use Rattle.trace_audit.specs.Reading.{IsNextAct}
 use Rattle.trace_audit.specs.States.{KeepsStates}
 use Rattle.trace_audit.proofs.Bringing.{called-on, ok-three}
@@ -29,7 +29,7 @@ returns-in-Some-Ask-clause-on c = λ system requests trace told again.
     (λ asked. asked ≡ true → (verdict : Verdict) × (trail : List ℕ)
     × (new.master.history ≡ history ++ Submit c.args.caller change c.args.from verdict trail ∷ []))
     (λ asked. asked ≡ true → KeepsStates new.master.rules new.master.history new.states)
-    (λ followed. followed ≡ true → IsBroughtOn system c.args.steps.now requests trace old (row.Submit c.args.caller c.args.from told) new)
+    (λ followed. followed ≡ true → IsRerunBroughtOn system c.args.steps.now requests trace old (row.Submit c.args.caller c.args.from told) new)
     (λ asked legal event states yes.
     let (verdict, trail, is) = event yes in
     let submit = Submit c.args.caller change c.args.from verdict trail in
@@ -42,7 +42,7 @@ returns-in-Some-Ask-clause-on c = λ system requests trace told again.
     called-on system c.args.steps.now requests trace old new (row.Submit c.args.caller c.args.from told) again
     (record { under_way = c.calls_between.ensures.under_way; ready = c.calls_between.ensures.ready })
     submit refl near (refl, refl, next) c.ask.ensures.rules c.ask.ensures.nodes is (legal yes) (states yes)
-    (subst (IsAhead c.args.steps.now (history ++ submit ∷ [])) (sym c.ask.ensures.ahead) ahead))
+    (subst (AreStepsAhead c.args.steps.now (history ++ submit ∷ [])) (sym c.ask.ensures.ahead) ahead))
     c.ask.result c.ask.ensures.legal c.ask.ensures.event c.ask.ensures.states
 
 pub returns-in-Some-Ask-clause-none : goal.returns-in-Some-Ask-clause-none

@@ -4,7 +4,7 @@ use Rattle.change_protocol.specs.declared.operations.Act.TheVariants as act
 use Rattle.master_core.specs.History.{next_of}
 use Rattle.master_core.specs.declared.event.Event.TheVariants.{Look}
 use Rattle.log_reader.specs.declared.row.LogRow.TheVariants as row
-use Rattle.trace_audit.specs.Ahead.{IsAhead, act_in}
+use Rattle.trace_audit.specs.Ahead.{AreStepsAhead, act_in}
 use Rattle.trace_audit.specs.Reading.{IsNextAct}
 use Rattle.trace_audit.proofs.Bringing.{called-on}
 use Rattle.trace_audit.proofs.Events.{no-look}
@@ -24,7 +24,7 @@ returns-in_ok-look-in-Some-Look-clause-on c = λ system requests trace next agai
     (record { under_way = c.calls_between.ensures.under_way; ready = c.calls_between.ensures.ready })
     event refl tt (refl, taken) c.look.ensures.rules c.look.ensures.nodes c.in_ok-look-in-Some-Look.ensures.event c.look.ensures.legal
     c.in_ok-look-in-Some-Look.ensures.states
-    (subst (IsAhead c.args.steps.now (old.master.history ++ event ∷ [])) (sym c.look.ensures.ahead) ahead)
+    (subst (AreStepsAhead c.args.steps.now (old.master.history ++ event ∷ [])) (sym c.look.ensures.ahead) ahead)
 
 pub returns-in-Some-Ask-clause-none : goal.returns-in-Some-Ask-clause-none
 returns-in-Some-Ask-clause-none c = λ is.

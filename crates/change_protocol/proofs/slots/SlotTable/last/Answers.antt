@@ -2,7 +2,7 @@ use Rattle.std.proofs.Common.{◌-◌, ◌<◌, arith, get_or, subst}
 use Rattle.bit_sets.specs.Sets.{most_slots}
 use Rattle.change_protocol.specs.Slots.{IsLastAt}
 use Rattle.change_protocol.proofs.Uses.{one-less}
-use Rattle.change_protocol.proofs.slots.Table.last.Goals as goal
+use Rattle.change_protocol.proofs.slots.SlotTable.last.Goals as goal
 
 pub returns-clause-last : goal.returns-clause-last
 returns-clause-last c =

@@ -1,9 +1,9 @@
 use Rattle.std.proofs.Common.{◌+◌, ◌++◌, ◌∷◌, [], drop, sym, slice_set, ap, subst, ◌∙◌, arith}
 use Rattle.std.specs.Prelude.{slice_index}
 use Rattle.live_steps.specs.Live.{acts_of}
-use Rattle.trace_audit.specs.Ahead.{IsAhead}
+use Rattle.trace_audit.specs.Ahead.{AreStepsAhead}
 use Rattle.trace_audit.proofs.Taking.{ahead-behind, next-act, nobody, some-within}
-use Rattle.trace_audit.proofs.ahead.Ahead.take.Goals as goal
+use Rattle.trace_audit.proofs.ahead.StepsAhead.take.Goals as goal
 
 pub returns-then-number-ge9-clause-act : goal.returns-then-number-ge9-clause-act
 returns-then-number-ge9-clause-act c = λ history is.
@@ -28,7 +28,7 @@ pub returns-then-place-steps-clause-ahead : goal.returns-then-place-steps-clause
 returns-then-place-steps-clause-ahead c = λ history event is some calls.
     let number = c.from-number.ensures in
     let few = c.if-number-ge9.false in
-    subst (λ n. IsAhead c.args.steps.now (history ++ event ∷ [])
+    subst (λ n. AreStepsAhead c.args.steps.now (history ++ event ∷ [])
     (record { cycles = c.args.self.now.cycles; places = slice_set c.args.self.now.places n (c.place_of_act-place.result + 1) })) (sym number)
     (ahead-behind c.args.steps.now history c.args.self.now is c.args.operator c.place_of_act-place.result (omega (arith, number, few))
     (c.place_of_act-place.ensures.acts

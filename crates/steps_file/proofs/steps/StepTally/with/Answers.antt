@@ -1,6 +1,6 @@
 use Rattle.std.proofs.lemmas.Result.{IfOk-weaker}
 use Rattle.steps_file.proofs.StepLines.{counts_change, counts_cycle, counts_look, counts_operation}
-use Rattle.steps_file.proofs.steps.Tally.with.Goals as goal
+use Rattle.steps_file.proofs.steps.StepTally.with.Goals as goal
 
 pub returns-in-Cycle-clause-counts : goal.returns-in-Cycle-clause-counts
 returns-in-Cycle-clause-counts c lines counts =

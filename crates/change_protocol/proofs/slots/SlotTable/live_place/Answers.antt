@@ -2,7 +2,7 @@ use Rattle.std.proofs.Common.{◌∙◌, ap, refl, sym}
 use Rattle.requirement_table.specs.Table.{IsWellPlaced}
 use Rattle.change_protocol.specs.declared.slots.SlotUse.{SlotUse}
 use Rattle.change_protocol.proofs.Ends.{finds-dead, finds-live, finds-none, none-not}
-use Rattle.change_protocol.proofs.slots.Table.live_place.Goals as goal
+use Rattle.change_protocol.proofs.slots.SlotTable.live_place.Goals as goal
 
 pub returns-then-is_some : goal.returns-then-is_some
 returns-then-is_some c = record {

@@ -1,7 +1,7 @@
 use Rattle.std.proofs.Common.{sym, ap, arith, slice_index}
 use Rattle.std.proofs.lemmas.Option.{slice_get-get_or}
 use Rattle.plan_report.proofs.OneOfSlot.{is-first, current-past, current-none, current-some}
-use Rattle.plan_report.proofs.current.Places.find.Goals as goal
+use Rattle.plan_report.proofs.current.SlotPlaces.find.Goals as goal
 
 pub returns-then-place-placed-clause-found : goal.returns-then-place-placed-clause-found
 returns-then-place-placed-clause-found c =

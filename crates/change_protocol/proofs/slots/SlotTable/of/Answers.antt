@@ -2,7 +2,7 @@ use Rattle.std.proofs.Common.{◌+◌, ap, arith, get_or, sym, take}
 use Rattle.std.proofs.lemmas.List.{length-take-le, take_more}
 use Rattle.requirement_table.specs.Table.{IsInRange}
 use Rattle.change_protocol.proofs.Uses.{all-before, last-more, last-none, no_entry}
-use Rattle.change_protocol.proofs.slots.Table.of.Goals as goal
+use Rattle.change_protocol.proofs.slots.SlotTable.of.Goals as goal
 
 pub loop-place-init : goal.loop-place-init
 loop-place-init c = last-none

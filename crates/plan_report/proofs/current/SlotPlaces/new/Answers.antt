@@ -1,7 +1,7 @@
 use Rattle.std.proofs.Common.{arith}
 use Rattle.bit_sets.specs.Sets.{most_slots}
 use Rattle.plan_report.proofs.OneOfSlot.{zeros-at}
-use Rattle.plan_report.proofs.current.Places.new.Goals as goal
+use Rattle.plan_report.proofs.current.SlotPlaces.new.Goals as goal
 
 pub returns : goal.returns
 returns c = record {
