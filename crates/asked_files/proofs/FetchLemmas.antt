@@ -11,7 +11,7 @@ use Rattle.command_words.specs.declared.words.NamedFile.{NamedFile}
 use Rattle.asked_files.specs.declared.inputs.Content.{Content}
 use Rattle.asked_files.specs.declared.inputs.Inputs.{Inputs}
 use Rattle.asked_files.specs.declared.stopping.Stop.{Stop}
-use Rattle.asked_files.specs.Inputs.{AreRead, IsHeld, MayBeRead, MayHold, nothing_read, with_content}
+use Rattle.asked_files.specs.Inputs.{AreFilesRead, IsFileHeld, MayBeRead, MayHold, nothing_read, with_content}
 use Rattle.asked_files.specs.Loads.{AreAllRead, IsBarred, IsHeldUp}
 use Rattle.asked_files.specs.Sources.{StopsAtFile, count_behind}
 use Rattle.asked_files.proofs.LoadLemmas.{barred-behind}
@@ -22,9 +22,9 @@ same-Ok a b same = cc
 
 -- behind some first files one more is read, or none
 reads-on : (files : NamedFiles) (front rest : List NamedSource) (before inputs : Inputs) (read : Result Inputs Stop)
-    → AreRead files front before (Ok inputs) → AreRead files rest inputs read → AreRead files (front ++ rest) before read
+    → AreFilesRead files front before (Ok inputs) → AreFilesRead files rest inputs read → AreFilesRead files (front ++ rest) before read
 reads-on files [] rest before inputs read same more =
-    subst (λ held. AreRead files rest held read) (same-Ok inputs before same) more
+    subst (λ held. AreFilesRead files rest held read) (same-Ok inputs before same) more
 reads-on files (file ∷ front) rest before inputs read (Ok held, is, more) next =
     (Ok held, is, reads-on files front rest (with_content before held) inputs read more next)
 reads-on files (file ∷ front) rest before inputs read (Err why, is, more) next = absurd (cc)
@@ -101,7 +101,7 @@ module _ (told : Option NamedFiles) (files : List NamedFile) (old now i : ℕ) (
 
   -- and read
   pub goes-on : (next : ℕ) (content : Content) (after : Inputs) → next ≡ next_count now
-      → MayHold file.source inputs content → ForSome told (λ all. IsHeld all file inputs (Ok content))
+      → MayHold file.source inputs content → ForSome told (λ all. IsFileHeld all file inputs (Ok content))
       → after ≡ with_content inputs content → IsGoing told (map named files) old next (map named (drop (i + 1) files)) after
   goes-on next content after once may held same = record {
     front = going.front ++ file ∷ [];
@@ -116,19 +116,19 @@ module _ (told : Option NamedFiles) (files : List NamedFile) (old now i : ℕ) (
   }
 
   -- or stops the call
-  read-stops : (all : NamedFiles) → told ≡ Some all → (why : Stop) → IsHeld all file inputs (Err why)
-      → AreRead all sources nothing_read (Err why)
+  read-stops : (all : NamedFiles) → told ≡ Some all → (why : Stop) → IsFileHeld all file inputs (Err why)
+      → AreFilesRead all sources nothing_read (Err why)
   read-stops all tells why held =
-      subst (λ some. AreRead all some nothing_read (Err why)) (sym going.parts)
+      subst (λ some. AreFilesRead all some nothing_read (Err why)) (sym going.parts)
       (reads-on all going.front (file ∷ rest) nothing_read inputs (Err why) (going.so_far.read all tells)
       (Err why, held, refl))
 
   pub held-up : (later rose : Type 0) (middle : Option NamedFiles) (next : ℕ) (why : Stop) → (later → rose) → middle ≡ told
-      → next ≡ next_count now → StopsAtFile middle later file why → IsBarred ⊥ later middle (λ all. IsHeld all file inputs) why
-      → IsHeldUp ⊥ rose told (λ all. AreRead all (map named files) nothing_read) (map named files) old next why
+      → next ≡ next_count now → StopsAtFile middle later file why → IsBarred ⊥ later middle (λ all. IsFileHeld all file inputs) why
+      → IsHeldUp ⊥ rose told (λ all. AreFilesRead all (map named files) nothing_read) (map named files) old next why
   held-up later rose middle next why more same once at barred = record {
-    barred = barred-behind ⊥ later rose middle told (λ all. IsHeld all file inputs)
-        (λ all. AreRead all sources nothing_read) more same read-stops why barred;
+    barred = barred-behind ⊥ later rose middle told (λ all. IsFileHeld all file inputs)
+        (λ all. AreFilesRead all sources nothing_read) more same read-stops why barred;
     fetched = stopped-at told rose going.front file rest sources old next why one-more (one-counted next once)
         (λ all tells. (inputs, going.so_far.read all tells)) (stops-behind told rose later middle file why more same at);
   }

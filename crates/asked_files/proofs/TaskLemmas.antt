@@ -22,8 +22,8 @@ use Rattle.asked_files.specs.declared.inputs.Inputs.{Inputs}
 use Rattle.asked_files.specs.declared.tasks.Job.{Job}
 use Rattle.asked_files.specs.declared.stopping.Stop.{Stop}
 use Rattle.asked_files.specs.declared.tasks.Task.{Task}
-use Rattle.asked_files.specs.Asked.{Asked, IsAskedFor, IsAskedOf, IsJob, IsLegal, IsNotAsked, IsTask, asked_by, asked_of, asked_with, audit_of, check_of, choice_of, is_live, job_in, live_log_of, log_of, plan_of, poll_of, summary_of}
-use Rattle.asked_files.specs.Inputs.{AreRead, MayBeRead, nothing_read, owners_in}
+use Rattle.asked_files.specs.Asked.{Asked, IsAskedFor, IsAskedOf, IsJob, IsLegalAsked, IsNotAsked, IsTask, asked_by, asked_of, asked_with, audit_of, check_of, choice_of, is_live, job_in, live_log_of, log_of, plan_of, poll_of, summary_of}
+use Rattle.asked_files.specs.Inputs.{AreFilesRead, MayBeRead, nothing_read, owners_in}
 use Rattle.asked_files.specs.Loads.{AreAllRead, IsHeldUp, stop_of_words}
 use Rattle.asked_files.specs.Sources.{sources_of}
 use Rattle.asked_files.proofs.LoadLemmas.{barred-behind}
@@ -32,7 +32,7 @@ use Rattle.asked_files.proofs.LoadLemmas.{barred-behind}
 record Gives (verb : Verb) (command : Command) (inputs : Inputs) : Type 0 where
   pub asked_for : Asked
   pub is : asked_by verb command (job_in inputs) inputs ≡ Some asked_for
-  pub legal : IsLegal asked_for
+  pub legal : IsLegalAsked asked_for
   pub live : is_live asked_for ≡ needs_threads verb
 
 -- after a system and steps were read
@@ -140,7 +140,7 @@ module _ (command : Command) (inputs : Inputs) (system : System) (steps : List S
 
 -- a command that asks for a run alone
 run-gives : (verb : Verb) (command : Command) (inputs : Inputs) (name : Option (List ℕ)) (ask : Job → Asked)
-    → ((job : Job) → asked_by verb command (Some job) inputs ≡ Some (ask job)) → ((job : Job) → IsJob job → IsLegal (ask job))
+    → ((job : Job) → asked_by verb command (Some job) inputs ≡ Some (ask job)) → ((job : Job) → IsJob job → IsLegalAsked (ask job))
     → ((job : Job) → is_live (ask job) ≡ needs_threads verb)
     → MayBeRead (file_of Source.System [] ∷ file_of Source.Steps [] ∷ file_if Source.Requests name) nothing_read inputs
     → Gives verb command inputs
@@ -207,7 +207,7 @@ module _ (command : Command) (told : Option NamedFiles) (before behind : ℕ) wh
       let given = gives command.verb command inputs row all.may in
       let same : asked_of task ≡ given.asked_for = same_Some (asked_of task) given.asked_for (is ∙ given.is) in
       record {
-        legal = subst IsLegal (sym same) given.legal;
+        legal = subst IsLegalAsked (sym same) given.legal;
         threads = ap is_live same ∙ given.live;
         asked = record {
           asks = λ files tells. record { inputs = Ok inputs; read = all.read files tells; is = ap (option_map Ok) (sym is) };
@@ -226,10 +226,10 @@ module _ (command : Command) (told : Option NamedFiles) (before behind : ℕ) wh
 
   -- one of them stopped it
   pub not-loaded : (rose : Type 0) (why : Stop)
-      → IsHeldUp ⊥ rose told (λ files. AreRead files command.files nothing_read) command.files before behind why
+      → IsHeldUp ⊥ rose told (λ files. AreFilesRead files command.files nothing_read) command.files before behind why
       → IsNotAsked (Some command) rose told before behind why
   not-loaded rose why is = record {
-    barred = barred-behind (Some command ≡ None) rose rose told told (λ files. AreRead files command.files nothing_read)
+    barred = barred-behind (Some command ≡ None) rose rose told told (λ files. AreFilesRead files command.files nothing_read)
         (λ files. IsAskedOf files command) (λ fault. fault) refl
         (λ files tells stopped read. record { inputs = Err stopped; read = read; is = refl }) why is.barred;
     fetched = is.fetched;

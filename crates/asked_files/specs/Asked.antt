@@ -22,7 +22,7 @@ use Rattle.asked_files.specs.declared.tasks.Task.{Task}
 use Rattle.asked_files.specs.declared.tasks.Task.TheVariants as task
 use Rattle.asked_files.specs.Loads.{IsHeldUp}
 use Rattle.asked_files.specs.Sources.{count_behind, sources_of}
-use Rattle.asked_files.specs.Inputs.{AreRead, IsLogText, IsThen, IsToCheck, IsToChoose, MayBeRead, nothing_read}
+use Rattle.asked_files.specs.Inputs.{AreFilesRead, IsLogText, IsThen, IsToCheck, IsToChoose, MayBeRead, nothing_read}
 
 -- what is asked for: the log of a run or so many of its last rows, and the report behind it or not; the plan of the
 -- table behind the steps; the check of a plan; the summary of the run of the input that a number makes; what is chosen
@@ -83,7 +83,7 @@ asked_of (task.Poll job streams) = poll_of job streams
 -- these files, read one after the other, give what a command asks for: the first that stops decides
 pub record IsAskedOf (files : NamedFiles) (command : Command) (asked_for : Result Asked Stop) : Type 0 where
   pub inputs : Result Inputs Stop
-  pub read : AreRead files command.files nothing_read inputs
+  pub read : AreFilesRead files command.files nothing_read inputs
   pub is : IsThen inputs (λ held result. option_map Ok (asked_with command held) ≡ Some result) asked_for
 
 -- *Input meaning*: what is asked of the files by words that ask for a command, or for none
@@ -134,16 +134,16 @@ is_live (live_log_of job report) = true
 is_live _ = false
 
 -- what holds of all that is asked for
-abbrev pub IsLegal : Asked → Type 0
-IsLegal (log_of job tail report) = IsJob job
-IsLegal (summary_of number) = ⊤
-IsLegal (plan_of job) = IsJob job
-IsLegal (check_of job certificate) = IsJob job × IsToCheck certificate
-IsLegal (choice_of job wish) = IsJob job × IsToChoose wish
-IsLegal (live_log_of job report) = IsJob job
-IsLegal (audit_of job text) = IsJob job × IsLogText text
-IsLegal (poll_of job streams) = IsJob job × AreLegalStreams job.system.rules.slots streams
+abbrev pub IsLegalAsked : Asked → Type 0
+IsLegalAsked (log_of job tail report) = IsJob job
+IsLegalAsked (summary_of number) = ⊤
+IsLegalAsked (plan_of job) = IsJob job
+IsLegalAsked (check_of job certificate) = IsJob job × IsToCheck certificate
+IsLegalAsked (choice_of job wish) = IsJob job × IsToChoose wish
+IsLegalAsked (live_log_of job report) = IsJob job
+IsLegalAsked (audit_of job text) = IsJob job × IsLogText text
+IsLegalAsked (poll_of job streams) = IsJob job × AreLegalStreams job.system.rules.slots streams
 
 -- what holds of each task
 abbrev pub IsTask : Task → Type 0
-IsTask task = IsLegal (asked_of task)
+IsTask task = IsLegalAsked (asked_of task)

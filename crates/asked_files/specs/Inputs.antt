@@ -137,15 +137,15 @@ IsThen (Ok value) Next result = Next value result
 IsThen (Err why) Next result = result ≡ Err why
 
 -- what the file means, behind what was read before it
-abbrev pub IsHeld : NamedFiles → NamedSource → Inputs → Result Content Stop → Type 0
-IsHeld files file before content =
+abbrev pub IsFileHeld : NamedFiles → NamedSource → Inputs → Result Content Stop → Type 0
+IsFileHeld files file before content =
     IsThen (within_limit file.source (files file.name)) (IsMeant file.source before) content
 
 -- what is read of these files, one after the other
-abbrev pub AreRead : NamedFiles → List NamedSource → Inputs → Result Inputs Stop → Type 0
-AreRead files [] before read = read ≡ Ok before
-AreRead files (file ∷ rest) before read = (content : Result Content Stop) × IsHeld files file before content
-    × IsThen content (λ held. AreRead files rest (with_content before held)) read
+abbrev pub AreFilesRead : NamedFiles → List NamedSource → Inputs → Result Inputs Stop → Type 0
+AreFilesRead files [] before read = read ≡ Ok before
+AreFilesRead files (file ∷ rest) before read = (content : Result Content Stop) × IsFileHeld files file before content
+    × IsThen content (λ held. AreFilesRead files rest (with_content before held)) read
 
 -- this may be read of such files, whatever their bytes are
 abbrev pub MayBeRead : List NamedSource → Inputs → Inputs → Type 0

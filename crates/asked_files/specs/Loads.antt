@@ -11,7 +11,7 @@ use Rattle.asked_files.specs.declared.inputs.Content.{Content}
 use Rattle.asked_files.specs.declared.inputs.Inputs.{Inputs}
 use Rattle.asked_files.specs.declared.stopping.Stop.{Stop}
 use Rattle.asked_files.specs.declared.stopping.Stop.TheVariants.{Words, Input, Read, Write, Memory}
-use Rattle.asked_files.specs.Inputs.{AreRead, IsMeant, MayBeRead, MayHold, nothing_read}
+use Rattle.asked_files.specs.Inputs.{AreFilesRead, IsMeant, MayBeRead, MayHold, nothing_read}
 use Rattle.asked_files.specs.Sources.{IsStoppedAt, count_behind, source_of}
 
 -- what loading did to a shelf, by what it shows before and after: its files stay, so many fetches were made at most,
@@ -57,16 +57,16 @@ pub record AreAllRead (told : Option NamedFiles) (sources : List NamedSource) (b
     : Type 0 where
   pub counted : behind ≡ count_behind before sources
   pub may : MayBeRead sources nothing_read inputs
-  pub read : ForSome told (λ files. AreRead files sources nothing_read (Ok inputs))
+  pub read : ForSome told (λ files. AreFilesRead files sources nothing_read (Ok inputs))
 
 -- what a reader of such files answers to bytes, behind what was read before them: what they mean, or that memory ran
 -- out
-abbrev pub Reads : Source → Inputs → List ℕ → Result Content Stop → Type 0
-Reads source before bytes (Ok content) = MayHold source before content × IsMeant source before bytes (Ok content)
-Reads source before bytes (Err (Input refusal)) =
+abbrev pub ReadsSource : Source → Inputs → List ℕ → Result Content Stop → Type 0
+ReadsSource source before bytes (Ok content) = MayHold source before content × IsMeant source before bytes (Ok content)
+ReadsSource source before bytes (Err (Input refusal)) =
     (source_of refusal ≡ source) × IsMeant source before bytes (Err (Input refusal))
-Reads source before bytes (Err Memory) = ⊤
-Reads source before bytes (Err _) = ⊥
+ReadsSource source before bytes (Err Memory) = ⊤
+ReadsSource source before bytes (Err _) = ⊥
 
 -- why a call stops whose words were not taken
 abbrev pub stop_of_words : WordsFault → Stop

@@ -10,7 +10,7 @@ use Rattle.asked_files.specs.declared.inputs.Inputs.{Inputs}
 use Rattle.asked_files.specs.declared.stopping.Refusal.{Refusal}
 use Rattle.asked_files.specs.declared.stopping.Stop.{Stop}
 use Rattle.asked_files.specs.declared.stopping.Stop.TheVariants.{Words, Input, Read, Write, Memory}
-use Rattle.asked_files.specs.Inputs.{AreRead, nothing_read}
+use Rattle.asked_files.specs.Inputs.{AreFilesRead, nothing_read}
 
 -- the files that the words of a command name
 abbrev pub sources_of : Option Command → List NamedSource
@@ -35,7 +35,7 @@ source_of (Refusal.Streams fault) = Source.Streams
 
 -- where the files are told, each of these was there with a text of its format, read one after the other
 abbrev pub WereRead : Option NamedFiles → List NamedSource → Type 0
-WereRead told fetched = ForSome told (λ files. (inputs : Inputs) × AreRead files fetched nothing_read (Ok inputs))
+WereRead told fetched = ForSome told (λ files. (inputs : Inputs) × AreFilesRead files fetched nothing_read (Ok inputs))
 
 -- A call may stop for this reason at this file, where `told` are the files, where they are told, and `rose` says that
 -- the shelf's count of faults rose. The file is refused; or it could not be read, and then the shelf failed or has no

@@ -3,7 +3,7 @@
 ghost use Rattle.std.specs.Prelude.{◌≡◌, IfOk, IfErr, Ok, map, length};
 ghost use Rattle.std.specs.Option.{ForSome};
 ghost use Rattle.ftt_io.specs.Counts.{Rose, next_count};
-ghost use Rattle.asked_files.specs.Inputs.{AreRead, IsHeld, MayHold, nothing_read, within_limit};
+ghost use Rattle.asked_files.specs.Inputs.{AreFilesRead, IsFileHeld, MayHold, nothing_read, within_limit};
 ghost use Rattle.asked_files.specs.Loads.{AreAllRead, Bars, Fetches, IsHeldUp};
 ghost use Rattle.command_words.specs.Words.{file_of};
 ghost use Rattle.command_words.specs.WordsRead.{named};
@@ -54,9 +54,9 @@ fn fetch_content<S: Shelf>(
         (file_of source name.now)) }
     ensures may { IfOk result (MayHold source before.now) }
     ensures ok { IfOk result (λ content. ForSome (S.told_files shelf.old)
-        (λ files. IsHeld files (file_of source name.now) before.now (Ok content))) }
+        (λ files. IsFileHeld files (file_of source name.now) before.now (Ok content))) }
     ensures stop { IfErr result (Bars S.told_files S.faults shelf.old shelf.new
-        (λ files. IsHeld files (file_of source name.now) before.now)) }
+        (λ files. IsFileHeld files (file_of source name.now) before.now)) }
 {
     let bytes = fetch_file(alloc, shelf, source, name)?;
     read_content(alloc, source, before, bytes)
@@ -76,7 +76,7 @@ pub fn fetch_all<S: Shelf>(
     ensures read { IfOk result (AreAllRead (S.told_files shelf.old) (map named files.now)
         (S.fetches shelf.old) (S.fetches shelf.new)) }
     ensures stop { IfErr result (IsHeldUp ⊥ (Rose (S.faults shelf.old) (S.faults shelf.new))
-        (S.told_files shelf.old) (λ told. AreRead told (map named files.now) nothing_read)
+        (S.told_files shelf.old) (λ told. AreFilesRead told (map named files.now) nothing_read)
         (map named files.now) (S.fetches shelf.old) (S.fetches shelf.new)) }
 {
     let mut inputs = Inputs::new();

@@ -1,6 +1,6 @@
 //! What the bytes of a file mean.
 
-ghost use Rattle.asked_files.specs.Loads.{Reads};
+ghost use Rattle.asked_files.specs.Loads.{ReadsSource};
 ghost use Rattle.asked_files.specs.declared.inputs.Inputs.{Inputs};
 ghost use Rattle.command_words.specs.declared.table.Source.{Source};
 
@@ -19,7 +19,7 @@ use system_file::{SystemFault, read_system};
 
 /// The system of a text.
 fn system_of(alloc: Global, bytes: &[u8]) -> Result<Content, Stop>
-    ensures reads { (before : Inputs) → Reads Source.System before bytes.now result }
+    ensures reads { (before : Inputs) → ReadsSource Source.System before bytes.now result }
 {
     match read_system(alloc, bytes) {
         Ok(system) => Ok(Content::System(system)),
@@ -30,7 +30,7 @@ fn system_of(alloc: Global, bytes: &[u8]) -> Result<Content, Stop>
 
 /// The steps of a text.
 fn steps_of(alloc: Global, bytes: &[u8]) -> Result<Content, Stop>
-    ensures reads { (before : Inputs) → Reads Source.Steps before bytes.now result }
+    ensures reads { (before : Inputs) → ReadsSource Source.Steps before bytes.now result }
 {
     match read_steps(alloc, bytes) {
         Ok(steps) => Ok(Content::Steps(StepList::of(steps))),
@@ -41,7 +41,7 @@ fn steps_of(alloc: Global, bytes: &[u8]) -> Result<Content, Stop>
 
 /// The requests of a text, for the owners of the system.
 fn requests_of(alloc: Global, before: &Inputs, bytes: &[u8]) -> Result<Content, Stop>
-    ensures reads { Reads Source.Requests before.now bytes.now result }
+    ensures reads { ReadsSource Source.Requests before.now bytes.now result }
 {
     match read_requests(alloc, bytes, before.owners()) {
         Ok(requests) => Ok(Content::Requests(RequestList::of(requests))),
@@ -52,7 +52,7 @@ fn requests_of(alloc: Global, before: &Inputs, bytes: &[u8]) -> Result<Content, 
 
 /// The certificate of a plan's text.
 fn plan_of(alloc: Global, bytes: &[u8]) -> Result<Content, Stop>
-    ensures reads { (before : Inputs) → Reads Source.Plan before bytes.now result }
+    ensures reads { (before : Inputs) → ReadsSource Source.Plan before bytes.now result }
 {
     let certificate = match read_plan(alloc, bytes) {
         Ok(certificate) => certificate,
@@ -67,7 +67,7 @@ fn plan_of(alloc: Global, bytes: &[u8]) -> Result<Content, Stop>
 
 /// The wish of a text.
 fn wish_of(alloc: Global, bytes: &[u8]) -> Result<Content, Stop>
-    ensures reads { (before : Inputs) → Reads Source.Wishes before bytes.now result }
+    ensures reads { (before : Inputs) → ReadsSource Source.Wishes before bytes.now result }
 {
     match read_wish(alloc, bytes) {
         Ok(wish) => Ok(Content::Wish(wish)),
@@ -78,7 +78,7 @@ fn wish_of(alloc: Global, bytes: &[u8]) -> Result<Content, Stop>
 
 /// The bytes, where their records are those of rows of a log.
 fn log_of(alloc: Global, bytes: Vec<u8>) -> Result<Content, Stop>
-    ensures reads { (before : Inputs) → Reads Source.Log before bytes.items result }
+    ensures reads { (before : Inputs) → ReadsSource Source.Log before bytes.items result }
 {
     match check_log(alloc, bytes.as_slice()) {
         Ok(()) => Ok(Content::Log(LogText::of(bytes))),
@@ -89,7 +89,7 @@ fn log_of(alloc: Global, bytes: Vec<u8>) -> Result<Content, Stop>
 
 /// The streams of a text, for the slots of the system.
 fn streams_of(alloc: Global, before: &Inputs, bytes: &[u8]) -> Result<Content, Stop>
-    ensures reads { Reads Source.Streams before.now bytes.now result }
+    ensures reads { ReadsSource Source.Streams before.now bytes.now result }
 {
     match read_streams(alloc, bytes, before.slots()) {
         Ok(streams) => Ok(Content::Streams(StreamList::of(streams))),
@@ -109,7 +109,7 @@ pub fn read_content(
     before: &Inputs,
     bytes: Vec<u8>,
 ) -> Result<Content, Stop>
-    ensures reads { Reads source before.now bytes.items result }
+    ensures reads { ReadsSource source before.now bytes.items result }
 {
     match source {
         Source::System => system_of(alloc, bytes.as_slice()),

@@ -4,7 +4,7 @@ use Rattle.std.specs.Prelude.{nat_le}
 use Rattle.std.proofs.lemmas.Bool.{cases_lt, le-leb, leb-true}
 use Rattle.std.proofs.lemmas.List.Elements.{All-cons, All-contains, All-contains_itself, All-filter, All-nil, Contains-get_or, filter_passes}
 use Rattle.stuff_bound.specs.Stuffing.{worst}
-use Rattle.async_bound.specs.declared.stream.Stream.{Stream}
+use Rattle.async_bound.specs.declared.stream.BurstStream.{BurstStream}
 use Rattle.async_bound.specs.Bound.{IsLongestUpTo, lengths_up_to, longest_up_to}
 use Rattle.async_bound.proofs.Lists.{Contains-any, Contains-cases, Contains-filter, Contains-here, Contains-later, Contains-map, Contains-nil}
 
@@ -38,13 +38,13 @@ map-of f (x ∷ xs) n has = elim (Contains-cases (f x) (map f xs) n has) [
   | inr later ↦ let it = map-of f xs n later in (it.0, Contains-later x xs it.0 it.1, it.2)
 ]
 
-abbrev up_to : ℕ → Stream → Bool
+abbrev up_to : ℕ → BurstStream → Bool
 up_to id stream = nat_le stream.id id
 
-abbrev length_of : Stream → ℕ
+abbrev length_of : BurstStream → ℕ
 length_of stream = worst stream.bytes
 
-module _ (streams : List Stream) (id : ℕ) where
+module _ (streams : List BurstStream) (id : ℕ) where
   pub longest-most : All (λ stream. stream.id ≤ id → worst stream.bytes ≤ longest_up_to streams id) streams
   longest-most k d within below =
       let s = get_or streams k d in

@@ -7,7 +7,7 @@ use Rattle.std.proofs.lemmas.List.Elements.{All-contains}
 use Rattle.profile.specs.Limits.{greatest_identifier}
 use Rattle.stuff_bound.specs.Stuffing.{worst}
 use Rattle.cycle_layout.specs.Layout.{CycleLayout, IsLayout}
-use Rattle.async_bound.specs.declared.stream.Stream.{Stream}
+use Rattle.async_bound.specs.declared.stream.BurstStream.{BurstStream}
 use Rattle.async_bound.specs.Room.{count_below, is_usable, room_in}
 use Rattle.async_bound.specs.Streams.{AreStreams, IsStream, arrivals}
 use Rattle.async_bound.specs.Bound.{IsBound, IsLeastFitting, blocking, demand, longest_up_to}
@@ -68,7 +68,7 @@ module _ (period all : ℕ) (some : 0 < period) (few : all ≤ period) where
       omega (arith, split, less, few)
 
 -- what is needed grows with the time
-arrivals-more : (stream : Stream) (span longer : ℕ) → 0 < stream.gap → span ≤ longer → arrivals stream span ≤ arrivals stream longer
+arrivals-more : (stream : BurstStream) (span longer : ℕ) → 0 < stream.gap → span ≤ longer → arrivals stream span ≤ arrivals stream longer
 arrivals-more stream span longer some order =
     let whole = div-add-mod' (span + stream.gap - 1) stream.gap in
     mul-le-mul_right stream.burst (le-div ((span + stream.gap - 1) / stream.gap) (longer + stream.gap - 1) stream.gap some (omega (arith, whole, order)))
@@ -77,7 +77,7 @@ need-if : (b : Bool) (few many width : ℕ) → few ≤ many → cond b (few * w
 need-if true few many width less = mul-le-mul_right width less
 need-if false few many width less = omega arith
 
-pub demand-more : (streams : List Stream) (id span longer : ℕ) → AreStreams streams → span ≤ longer
+pub demand-more : (streams : List BurstStream) (id span longer : ℕ) → AreStreams streams → span ≤ longer
     → demand streams id span ≤ demand streams id longer
 demand-more streams id span longer are order =
     sum-le (λ s. cond (nat_lt s.id id) (arrivals s span * worst s.bytes) 0) (λ s. cond (nat_lt s.id id) (arrivals s longer * worst s.bytes) 0) streams
@@ -85,7 +85,7 @@ demand-more streams id span longer are order =
     (arrivals-more s span longer (All-contains IsStream streams s are has).distinct order))
 
 -- what fits is a bound
-module _ (layout : CycleLayout) (known : IsLayout layout) (streams : List Stream) (are : AreStreams streams) (stream : Stream) (has : Contains streams stream) (span : ℕ) where
+module _ (layout : CycleLayout) (known : IsLayout layout) (streams : List BurstStream) (are : AreStreams streams) (stream : BurstStream) (has : Contains streams stream) (span : ℕ) where
   pub bound-fits : IsLeastFitting layout streams stream span → IsBound layout streams stream (longest_up_to streams stream.id) (blocking streams) span
   bound-fits fitting =
       let fits = fitting.fits in

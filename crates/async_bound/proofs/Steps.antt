@@ -2,7 +2,7 @@
 use Rattle.std.proofs.Common.{◌≡◌, ◌≢◌, ℕ, ◌+◌, ◌-◌, ◌*◌, ◌/◌, ◌%◌, ◌<◌, ◌≤◌, List, inl, inr, subst, arith}
 use Rattle.std.proofs.lemmas.Bool.{cases_lt}
 use Rattle.cycle_layout.specs.Layout.{CycleLayout, IsLayout}
-use Rattle.async_bound.specs.declared.stream.Stream.{Stream}
+use Rattle.async_bound.specs.declared.stream.BurstStream.{BurstStream}
 use Rattle.async_bound.specs.Streams.{AreStreams}
 use Rattle.async_bound.specs.Room.{room_of_cycle}
 use Rattle.async_bound.specs.Bound.{Fits, blocking, demand, longest_up_to, own_before}
@@ -14,7 +14,7 @@ room-below layout longest known = let least = known.window_range.above in omega 
 some_time : (layout : CycleLayout) → IsLayout layout → 0 < layout.cycle
 some_time layout known = let range = known.cycle_range.above in omega (arith, range)
 
-module _ (layout : CycleLayout) (streams : List Stream) (stream : Stream) (own span blocked room need row : ℕ)
+module _ (layout : CycleLayout) (streams : List BurstStream) (stream : BurstStream) (own span blocked room need row : ℕ)
     (known : IsLayout layout) (are : AreStreams streams) (own_is : own ≡ own_before stream (longest_up_to streams stream.id)) (blocked_is : blocked ≡ blocking streams)
     (room_is : room ≡ room_of_cycle layout (longest_up_to streams stream.id)) (some : room ≢ 0)
     (need_is : need ≡ demand streams stream.id span + own + 1)
@@ -44,7 +44,7 @@ module _ (layout : CycleLayout) (streams : List Stream) (stream : Stream) (own s
         absurd (omega (arith, short, more, fits, need_is, own_is))
   ]
 
-module _ (layout : CycleLayout) (streams : List Stream) (stream : Stream) (own span need : ℕ)
+module _ (layout : CycleLayout) (streams : List BurstStream) (stream : BurstStream) (own span need : ℕ)
     (known : IsLayout layout) (are : AreStreams streams) (own_is : own ≡ own_before stream (longest_up_to streams stream.id)) (need_is : need ≡ demand streams stream.id span + own + 1) where
   -- no number of bit times holds more
   pub step-none : (gap other : ℕ) → gap < need → Fits layout streams stream other → span ≤ other → other ≤ gap → ⊥

@@ -8,13 +8,13 @@ ghost use Rattle.async_bound.specs.Streams.{AreStreams, IsStream, arrivals};
 ghost use Rattle.async_bound.specs.Room.{room_of_cycle};
 ghost use Rattle.async_bound.specs.Bound.{Fits, IsLeastFitting, blocking, demand, longest_up_to, own_before};
 
-use crate::stream::Stream;
+use crate::stream::BurstStream;
 use cycle_layout::Layout;
 use profile::GREATEST_IDENTIFIER;
 use stuff_bound::bound;
 
 /// The longer one of a length and of the longest frame of a stream, where that is a stream up to an identifier.
-fn longer(longest: u64, stream: &Stream, id: u16) -> u64
+fn longer(longest: u64, stream: &BurstStream, id: u16) -> u64
     requires known { IsStream stream.now }
     requires so_far { longest ≤ 135 }
     ensures value { result ≡ (if nat_le stream.now.id id then max longest (worst stream.now.bytes) else longest) }
@@ -29,7 +29,7 @@ fn longer(longest: u64, stream: &Stream, id: u16) -> u64
 }
 
 /// The longest frame of the streams up to an identifier; 0 where there is none.
-fn longest_up_to(streams: &[Stream], id: u16) -> u64
+fn longest_up_to(streams: &[BurstStream], id: u16) -> u64
     requires known { AreStreams streams.now }
     ensures value { result ≡ longest_up_to streams.now id }
     ensures short { result ≤ 135 }
@@ -42,7 +42,7 @@ fn longest_up_to(streams: &[Stream], id: u16) -> u64
 }
 
 /// What a frame under way of any stream still needs at most.
-fn blocking(streams: &[Stream]) -> u64
+fn blocking(streams: &[BurstStream]) -> u64
     requires known { AreStreams streams.now }
     ensures value { result ≡ blocking streams.now }
     ensures short { result ≤ 134 }
@@ -52,7 +52,7 @@ fn blocking(streams: &[Stream]) -> u64
 }
 
 /// How many bit times the requests of a stream may need that arrive within so many, where its identifier is below one.
-fn need_of(stream: &Stream, id: u16, span: u64) -> u64
+fn need_of(stream: &BurstStream, id: u16, span: u64) -> u64
     requires known { IsStream stream.now }
     requires span { span ≤ 2 ^ 32 }
     ensures value { result ≡ (if nat_lt stream.now.id id then arrivals stream.now span * worst stream.now.bytes else 0) }
@@ -67,7 +67,7 @@ fn need_of(stream: &Stream, id: u16, span: u64) -> u64
 }
 
 /// How many bit times the requests of lower identifiers may need that arrive within so many.
-fn demand(streams: &[Stream], id: u16, span: u64) -> u64
+fn demand(streams: &[BurstStream], id: u16, span: u64) -> u64
     requires known { AreStreams streams.now }
     requires few { length streams.now ≤ 2 ^ 11 }
     requires span { span ≤ 2 ^ 32 }
@@ -82,7 +82,7 @@ fn demand(streams: &[Stream], id: u16, span: u64) -> u64
 }
 
 /// What the requests of a burst before one of it may need.
-fn own_before(stream: &Stream, longest: u64) -> u64
+fn own_before(stream: &BurstStream, longest: u64) -> u64
     requires known { IsStream stream.now }
     requires short { longest ≤ 135 }
     ensures value { result ≡ own_before stream.now longest }
@@ -118,7 +118,7 @@ fn least_row(cycle: u64, room: u64, need: u64) -> u64
 
 /// Within how many bit times of its arrival each request of the stream starts at the latest: the least number that fits,
 /// where one up to the stream's least distance does.
-pub fn start_bound(layout: &Layout, streams: &[Stream], stream: &Stream) -> Option<u64>
+pub fn start_bound(layout: &Layout, streams: &[BurstStream], stream: &BurstStream) -> Option<u64>
     requires known { AreStreams streams.now }
     requires few { length streams.now ≤ 2 ^ 11 }
     requires own { IsStream stream.now }

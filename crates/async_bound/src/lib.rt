@@ -9,4 +9,4 @@ pub mod laws;
 mod stream;
 
 pub use bound::start_bound;
-pub use stream::{Stream, are_streams};
+pub use stream::{BurstStream, are_streams};

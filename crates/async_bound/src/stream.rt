@@ -15,7 +15,7 @@ const MOST_OF_BURST: u32 = 1024;
 /// within how many bit times.
 #[repr(C)]
 #[derive(Clone, Copy, PartialEq, Eq, Debug)]
-pub struct Stream {
+pub struct BurstStream {
     /// The least distance, in bit times, 1 to 2^32 - 1: between the arrivals of a request and of the one that stands
     /// `burst` places behind it.
     pub gap: u64,
@@ -28,7 +28,7 @@ pub struct Stream {
 }
 
 /// Whether a stream's numbers are in their ranges.
-fn is_stream(stream: &Stream) -> bool
+fn is_stream(stream: &BurstStream) -> bool
     ensures known { result ≡ true → IsStream stream.now }
     ensures unknown { result ≡ false → IsStream stream.now → ⊥ }
 {
@@ -42,7 +42,7 @@ fn is_stream(stream: &Stream) -> bool
 }
 
 /// Whether the numbers of all streams are in their ranges.
-pub fn are_streams(streams: &[Stream]) -> bool
+pub fn are_streams(streams: &[BurstStream]) -> bool
     ensures known { result ≡ true → AreStreams streams.now }
     ensures unknown { result ≡ false → AreStreams streams.now → ⊥ }
 {

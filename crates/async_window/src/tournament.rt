@@ -43,7 +43,7 @@ pub struct First {
 
 /// A step on the way from the top of the tree to a leaf.
 #[derive(Clone, Copy)]
-struct Step {
+struct TreeStep {
     /// The node that is reached.
     node: usize,
     /// The least number of the nodes that were left aside before it.
@@ -170,7 +170,7 @@ fn descend(nodes: &[u64], levels: u32, bound: u64) -> First
     ensures before { (other : ℕ) → other < result.place
         → result.sooner ≤ slice_index_or nodes.now (2 ^ levels + other) 0 }
 {
-    let mut step = Step {
+    let mut step = TreeStep {
         node: 1,
         sooner: NEVER,
     };
@@ -185,7 +185,7 @@ fn descend(nodes: &[u64], levels: u32, bound: u64) -> First
 
 /// The first of the two nodes below one whose number is at most a bound, where one of them is.
 #[inline(always)]
-fn below(nodes: &[u64], step: Step, bound: u64) -> Step
+fn below(nodes: &[u64], step: TreeStep, bound: u64) -> TreeStep
     requires below { 2 * step.node + 1 < length nodes.now }
     requires few { length nodes.now ≤ 4096 }
     ensures left { slice_index_or nodes.now (2 * step.node) 0 ≤ bound
@@ -197,12 +197,12 @@ fn below(nodes: &[u64], step: Step, bound: u64) -> Step
     let left = 2 * step.node;
     let number = nodes[left];
     if number <= bound {
-        Step {
+        TreeStep {
             node: left,
             sooner: step.sooner,
         }
     } else {
-        Step {
+        TreeStep {
             node: left + 1,
             sooner: step.sooner.min(number),
         }

@@ -6,7 +6,7 @@ use Rattle.std.proofs.lemmas.Nat.{div-add-mod'}
 use Rattle.std.proofs.lemmas.List.Sums.{sum_by-cons}
 use Rattle.std.proofs.lemmas.List.Elements.{All-contains, All-drop, All-head, All-tail, All-weaker}
 use Rattle.async_window.specs.declared.request.Request.{Request}
-use Rattle.async_bound.specs.declared.stream.Stream.{Stream}
+use Rattle.async_bound.specs.declared.stream.BurstStream.{BurstStream}
 use Rattle.async_bound.specs.Streams.{AreStreams, IsStream, arrivals}
 use Rattle.async_window.specs.Waiting.{requests_of}
 use Rattle.bounded_runs.specs.Requests.{AreOfStreams, IsApart, arrive_within}
@@ -130,7 +130,7 @@ earlier (suc before) (suc place) (x ∷ xs) r rise is order =
 
 -- Requests that are apart
 
-module _ (stream : Stream) (rs : List Request) (rise : Rise rs) (apart : IsApart stream rs) where
+module _ (stream : BurstStream) (rs : List Request) (rise : Rise rs) (apart : IsApart stream rs) where
   -- so many bursts behind a request
   bursts : (n place : ℕ) (one other : Request) → slice_get rs place ≡ Some one → slice_get rs (place + n * stream.burst) ≡ Some other
       → one.at + n * stream.gap ≤ other.at
@@ -195,7 +195,7 @@ within-arrived low high (r ∷ rs) order =
       within-arrived low high rs order,
     )
 
-pub few-within : (streams : List Stream) (requests : List Request) (stream : Stream) (low span : ℕ) → AreStreams streams → AreOfStreams streams requests
+pub few-within : (streams : List BurstStream) (requests : List Request) (stream : BurstStream) (low span : ℕ) → AreStreams streams → AreOfStreams streams requests
     → Contains streams stream → arrive_within low (low + span) (requests_of requests stream.id) ≤ arrivals stream span
 few-within streams requests stream low span are of has =
     let rs = requests_of requests stream.id in

@@ -9,7 +9,7 @@ use Rattle.std.proofs.lemmas.List.Quantifiers.{all_pairs_push}
 use Rattle.std.proofs.lemmas.Option.{get_or_from_slice_get, slice_get-get_or, slice_get-map, slice_get_within}
 use Rattle.async_window.specs.declared.request.Request.{Request}
 use Rattle.async_window.specs.Waiting.{requests_of}
-use Rattle.async_bound.specs.declared.stream.Stream.{Stream}
+use Rattle.async_bound.specs.declared.stream.BurstStream.{BurstStream}
 use Rattle.async_bound.specs.Streams.{AreStreams, IsStream}
 use Rattle.bounded_runs.specs.Requests.{AreOfStreams, IsApart, IsOfStream}
 use Rattle.bounded_runs.specs.Strays.{Allows, FollowsStreams, IsCloseTo, Strays, arrivals_of, streams_of}
@@ -35,7 +35,7 @@ arrival-within rs i d within = at-arrival rs i 0 (get_or rs i d) (slice_get-get_
 
 -- a request is put behind those that are apart
 
-module _ (stream : Stream) (known : IsStream stream) (rs : List Request) (r : Request) where
+module _ (stream : BurstStream) (known : IsStream stream) (rs : List Request) (r : Request) where
   pub apart-push : IsApart stream rs → (IsCloseTo (map at_of rs) r.at stream → ⊥) → IsApart stream (rs ++ r ∷ [])
   apart-push apart far place one other is also =
       let some = known.some in
@@ -94,14 +94,14 @@ module _ (past : List Request) (r : Request) (id : ℕ) where
 
 -- Streams of an identifier
 
-module _ (streams : List Stream) (id : ℕ) where
-  pub own-among : (s : Stream) → Contains (streams_of streams id) s → Contains streams s
+module _ (streams : List BurstStream) (id : ℕ) where
+  pub own-among : (s : BurstStream) → Contains (streams_of streams id) s → Contains streams s
   own-among s has = kept-of (λ stream. nat_eq stream.id id) streams s has
 
-  pub own-id : (s : Stream) → Contains (streams_of streams id) s → s.id ≡ id
+  pub own-id : (s : BurstStream) → Contains (streams_of streams id) s → s.id ≡ id
   own-id s has = eqb-true s.id id (kept-passes (λ stream. nat_eq stream.id id) streams s has)
 
-  pub is-own : (s : Stream) → Contains streams s → s.id ≡ id → Contains (streams_of streams id) s
+  pub is-own : (s : BurstStream) → Contains streams s → s.id ≡ id → Contains (streams_of streams id) s
   is-own s has same = Contains-filter (λ stream. nat_eq stream.id id) streams s has (eq-eqb s.id id same)
 
 -- The arrivals of each identifier do not fall
@@ -109,7 +109,7 @@ module _ (streams : List Stream) (id : ℕ) where
 nothing : Request
 nothing = record { at = 0; frame = record { identifier = 0; bytes = [] } }
 
-pub arrivals-rise : (streams : List Stream) (past : List Request) (id : ℕ) → AreOfStreams streams past
+pub arrivals-rise : (streams : List BurstStream) (past : List Request) (id : ℕ) → AreOfStreams streams past
     → AllPairs (λ one other. one ≤ other) (arrivals_of past id)
 arrivals-rise streams past id are i j d before within =
     let rs = requests_of past id in
@@ -137,7 +137,7 @@ arrivals-more past r id =
 
 -- One more request
 
-module _ (streams : List Stream) (known : AreStreams streams) (past : List Request) (r : Request) where
+module _ (streams : List BurstStream) (known : AreStreams streams) (past : List Request) (r : Request) where
   allowed : Allows (streams_of streams r.frame.identifier) (length r.frame.bytes) → IsOfStream streams r
   allowed some =
       let it = Contains-any (λ s. length r.frame.bytes ≤ s.bytes) (streams_of streams r.frame.identifier) some in
@@ -222,7 +222,7 @@ module _ (streams : List Stream) (known : AreStreams streams) (past : List Reque
 
 -- Fewer requests
 
-module _ (streams : List Stream) (front rest : List Request) where
+module _ (streams : List BurstStream) (front rest : List Request) where
   of-front : (id : ℕ) → requests_of (front ++ rest) id ≡ requests_of front id ++ requests_of rest id
   of-front id = filter-append (λ request. nat_eq request.frame.identifier id) front rest
 
@@ -240,7 +240,7 @@ module _ (streams : List Stream) (front rest : List Request) where
 
 -- No request
 
-pub belongs-nil : (streams : List Stream) → AreOfStreams streams []
+pub belongs-nil : (streams : List BurstStream) → AreOfStreams streams []
 belongs-nil streams = record {
   known = All-nil (IsOfStream streams);
   in_order = λ k d within i j e before inside. absurd (omega arith);

@@ -4,25 +4,25 @@ use Rattle.std.proofs.lemmas.Bool.{cases_lt}
 use Rattle.can_frame.specs.declared.data_frame.TimedFrame.{TimedFrame}
 use Rattle.async_window.specs.declared.request.Request.{Request}
 use Rattle.async_window.specs.Waiting.{requests_of}
-use Rattle.async_bound.specs.declared.stream.Stream.{Stream}
+use Rattle.async_bound.specs.declared.stream.BurstStream.{BurstStream}
 use Rattle.async_bound.proofs.Shared.{Contains-here, Contains-later, Contains-cases, Contains-nil}
 use Rattle.bounded_runs.proofs.Begun.{begun}
 use Rattle.bounded_runs.proofs.Arrivals.{arrived, arrived-zero}
 
 module _ (requests : List Request) (trace : List TimedFrame) (level at : ℕ) where
   -- of each stream below the level, what has arrived before the time has started before it
-  abbrev pub IsClearOf : List Stream → Type 0
-  IsClearOf streams = (stream : Stream) → Contains streams stream → stream.id < level
+  abbrev pub IsClearOf : List BurstStream → Type 0
+  IsClearOf streams = (stream : BurstStream) → Contains streams stream → stream.id < level
       → arrived at (requests_of requests stream.id) ≤ begun stream.id at trace
 
   -- of one of them something has arrived and not started
-  pub record IsBehind (streams : List Stream) : Type 0 where
-    pub stream : Stream
+  pub record IsBehind (streams : List BurstStream) : Type 0 where
+    pub stream : BurstStream
     pub among : Contains streams stream
     pub below : stream.id < level
     pub more : begun stream.id at trace < arrived at (requests_of requests stream.id)
 
-  pub clear-or-behind : (streams : List Stream) → IsClearOf streams ⊎ IsBehind streams
+  pub clear-or-behind : (streams : List BurstStream) → IsClearOf streams ⊎ IsBehind streams
   clear-or-behind [] = inl (λ stream has. absurd (Contains-nil stream has))
   clear-or-behind (s ∷ ss) = elim (clear-or-behind ss) [
     | inr is ↦ inr (record { stream = is.stream; among = Contains-later s ss is.stream is.among; below = is.below; more = is.more })
@@ -41,7 +41,7 @@ module _ (requests : List Request) (trace : List TimedFrame) (level at : ℕ) wh
     ]
   ]
 
-module _ (requests : List Request) (trace : List TimedFrame) (level : ℕ) (streams : List Stream) where
+module _ (requests : List Request) (trace : List TimedFrame) (level : ℕ) (streams : List BurstStream) where
   pub record LastClear (until : ℕ) : Type 0 where
     pub at : ℕ
     pub before : at ≤ until

@@ -14,7 +14,7 @@ use Rattle.requirement_table.specs.Opening.{Opening}
 use Rattle.async_window.specs.declared.request.Request.{Request}
 use Rattle.async_window.specs.Waiting.{IsRequestWaiting, requests_of, unsent_after}
 use Rattle.bus_line.specs.Trace.{started_before}
-use Rattle.async_bound.specs.declared.stream.Stream.{Stream}
+use Rattle.async_bound.specs.declared.stream.BurstStream.{BurstStream}
 use Rattle.bounded_runs.specs.Runs.{EndSoon, IsBoundedRun, is_ahead, is_inside}
 use Rattle.async_bound.specs.Bound.{IsBound, own_before}
 use Rattle.async_bound.specs.Streams.{AreStreams, IsStream}
@@ -39,7 +39,7 @@ either false false len = omega arith
 module _ (sends : Instance → List ℕ) (layout : CycleLayout) (known : IsLayout layout) (requests : List Request) (openings : List Opening)
     (count : ℕ) (trace : List TimedFrame) (run : IsBoundedRun sends layout requests openings count trace)
     (at_most : (frame : DataFrame) → wire_length frame ≤ worst (length frame.bytes)) (positive : (frame : DataFrame) → 0 < wire_length frame)
-    (streams : List Stream) (are : AreStreams streams) (of : AreOfStreams streams requests) where
+    (streams : List BurstStream) (are : AreStreams streams) (of : AreOfStreams streams requests) where
   -- the request at a place of an identifier's
   abbrev IsAt : ℕ → ℕ → Request → Type 0
   IsAt id place r = slice_get (drop place (requests_of requests id)) 0 ≡ Some r
@@ -55,22 +55,22 @@ module _ (sends : Instance → List ℕ) (layout : CycleLayout) (known : IsLayou
       (All-drop (λ x. (x.frame.identifier == id) ≡ true) place (requests_of requests id) (filter_passes (λ x. x.frame.identifier == id) requests)) is in
       eqb-true r.frame.identifier id passes
 
-  apart-of : (stream : Stream) → Contains streams stream → IsApart stream (requests_of requests stream.id)
+  apart-of : (stream : BurstStream) → Contains streams stream → IsApart stream (requests_of requests stream.id)
   apart-of stream has = All-contains (λ s. IsApart s (requests_of requests s.id)) streams stream of.apart has
 
-  rise-of : (stream : Stream) → Contains streams stream → Rise (requests_of requests stream.id)
+  rise-of : (stream : BurstStream) → Contains streams stream → Rise (requests_of requests stream.id)
   rise-of stream has = All-contains (λ s. Rise (requests_of requests s.id)) streams stream of.in_order has
 
-  async-of : (stream : Stream) → Contains streams stream → least_asynchronous ≤ stream.id
+  async-of : (stream : BurstStream) → Contains streams stream → least_asynchronous ≤ stream.id
   async-of stream has = (All-contains IsStream streams stream are has).asynchronous
 
-  started-arrived : (stream : Stream) → Contains streams stream → (at : ℕ) → begun stream.id at trace ≤ arrived at (requests_of requests stream.id)
+  started-arrived : (stream : BurstStream) → Contains streams stream → (at : ℕ) → begun stream.id at trace ≤ arrived at (requests_of requests stream.id)
   started-arrived stream has at = begun-arrived sends layout requests openings count trace run positive stream.id (async-of stream has)
       (rise-of stream has) at
 
   -- the stream of a request's frame
   record IsFrameOf (sent : TimedFrame) : Type 0 where
-    stream : Stream
+    stream : BurstStream
     among : Contains streams stream
     same : sent.frame.identifier ≡ stream.id
     short : sent.len ≤ worst stream.bytes
@@ -88,7 +88,7 @@ module _ (sends : Instance → List ℕ) (layout : CycleLayout) (known : IsLayou
         short = omega (arith, whole, few, at_most sent.frame);
       }
 
-  module _ (stream : Stream) (longest blocked span : ℕ) (bound : IsBound layout streams stream longest blocked span) where
+  module _ (stream : BurstStream) (longest blocked span : ℕ) (bound : IsBound layout streams stream longest blocked span) where
     ends-soon : (at : ℕ) → EndSoon blocked at trace
     ends-soon at k d within high early =
         let sent = get_or trace k d in

@@ -7,7 +7,7 @@ use Rattle.std.proofs.lemmas.List.Elements.{All-head, All-tail}
 use Rattle.profile.specs.Limits.{least_asynchronous}
 use Rattle.stuff_bound.specs.Stuffing.{worst}
 use Rattle.can_frame.specs.declared.data_frame.TimedFrame.{TimedFrame}
-use Rattle.async_bound.specs.declared.stream.Stream.{Stream}
+use Rattle.async_bound.specs.declared.stream.BurstStream.{BurstStream}
 use Rattle.async_bound.specs.Bound.{demand}
 use Rattle.async_bound.specs.Streams.{arrivals}
 use Rattle.bounded_runs.specs.Runs.{is_ahead, is_inside, time_of}
@@ -67,13 +67,13 @@ module _ (low high : ℕ) (order : low ≤ high) where
       = ap (λ n. n * longest) (sum_by-cons (inside_one id) x xs) ∙ add-mul (inside_one id x) (inside id xs) longest in
       omega (arith, one, rest, product, sum_by-cons (λ s. cond (is_own id s) s.len 0) x xs)
 
-  module _ (streams : List Stream) (level : ℕ) where
-    abbrev used : List TimedFrame → Stream → ℕ
+  module _ (streams : List BurstStream) (level : ℕ) where
+    abbrev used : List TimedFrame → BurstStream → ℕ
     used xs stream = cond (nat_lt stream.id level) (inside stream.id xs * worst stream.bytes) 0
 
     -- the frame is that of a stream, and no longer than that allows
     pub record IsServed (sent : TimedFrame) : Type 0 where
-      pub stream : Stream
+      pub stream : BurstStream
       pub among : Contains streams stream
       pub same : sent.frame.identifier ≡ stream.id
       pub short : sent.len ≤ worst stream.bytes
@@ -82,12 +82,12 @@ module _ (low high : ℕ) (order : low ≤ high) where
     used-if true few many width less = mul-le-mul_right width less
     used-if false few many width less = omega arith
 
-    used-more : (x : TimedFrame) (xs : List TimedFrame) (stream : Stream) → used xs stream ≤ used (x ∷ xs) stream
+    used-more : (x : TimedFrame) (xs : List TimedFrame) (stream : BurstStream) → used xs stream ≤ used (x ∷ xs) stream
     used-more x xs stream =
         used-if (nat_lt stream.id level) (inside stream.id xs) (inside stream.id (x ∷ xs)) (worst stream.bytes)
         (omega (arith, sum_by-cons (inside_one stream.id) x xs))
 
-    used-one : (x : TimedFrame) (xs : List TimedFrame) (stream : Stream) → is_ahead level low high x ≡ true → x.frame.identifier ≡ stream.id
+    used-one : (x : TimedFrame) (xs : List TimedFrame) (stream : BurstStream) → is_ahead level low high x ≡ true → x.frame.identifier ≡ stream.id
         → used xs stream + worst stream.bytes ≤ used (x ∷ xs) stream
     used-one x xs stream ahead same =
         let parts = and_parts (is_inside low high x) (nat_le least_asynchronous x.frame.identifier && nat_lt x.frame.identifier level) ahead in
@@ -124,7 +124,7 @@ module _ (low high : ℕ) (order : low ≤ high) where
         at-head x xs served (time-within xs (All-tail (λ s. is_ahead level low high s ≡ true → IsServed s) x xs served)) (is_ahead level low high x) refl
 
     pub time-demand : (span : ℕ) (xs : List TimedFrame) → All (λ s. is_ahead level low high s ≡ true → IsServed s) xs
-        → ((stream : Stream) → Contains streams stream → stream.id < level → inside stream.id xs ≤ arrivals stream span)
+        → ((stream : BurstStream) → Contains streams stream → stream.id < level → inside stream.id xs ≤ arrivals stream span)
         → time_of (is_ahead level low high) xs ≤ demand streams level span
     time-demand span xs served few =
         let all = sum-le (used xs) (λ stream. cond (nat_lt stream.id level) (arrivals stream span * worst stream.bytes) 0) streams

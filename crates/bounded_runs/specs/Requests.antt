@@ -2,22 +2,22 @@
 use Rattle.std.specs.Prelude.{◌≡◌, ℕ, ◌+◌, ◌≤◌, ◌&&◌, nat_le, nat_lt, List, All, AllPairs, Contains, count_by, length, slice_get, Some}
 use Rattle.async_window.specs.declared.request.Request.{Request}
 use Rattle.async_window.specs.Waiting.{requests_of}
-use Rattle.async_bound.specs.declared.stream.Stream.{Stream}
+use Rattle.async_bound.specs.declared.stream.BurstStream.{BurstStream}
 
 -- the request has the identifier of a stream, and no more bytes than that allows
-pub record IsOfStream (streams : List Stream) (request : Request) : Type 0 where
-  pub stream : Stream
+pub record IsOfStream (streams : List BurstStream) (request : Request) : Type 0 where
+  pub stream : BurstStream
   pub among : Contains streams stream
   pub same : request.frame.identifier ≡ stream.id
   pub short : length request.frame.bytes ≤ stream.bytes
 
 -- a request and the one that stands a burst behind it are at least the least distance apart
-abbrev pub IsApart : Stream → List Request → Type 0
+abbrev pub IsApart : BurstStream → List Request → Type 0
 IsApart stream rs = (place : ℕ) (one other : Request) → slice_get rs place ≡ Some one → slice_get rs (place + stream.burst) ≡ Some other
     → one.at + stream.gap ≤ other.at
 
 -- each request belongs to a stream, and the requests of each stream arrive in their order, and apart
-pub record AreOfStreams (streams : List Stream) (requests : List Request) : Type 0 where
+pub record AreOfStreams (streams : List BurstStream) (requests : List Request) : Type 0 where
   pub known : All (IsOfStream streams) requests
   pub in_order : All (λ stream. AllPairs (λ one other. one.at ≤ other.at) (requests_of requests stream.id)) streams
   pub apart : All (λ stream. IsApart stream (requests_of requests stream.id)) streams

@@ -15,7 +15,7 @@ ghost use Rattle.cycle_engine.specs.Offered.{SendsWhole};
 ghost use Rattle.kept_run.specs.Kept.{Kept};
 ghost use Rattle.kept_run.specs.Progress.{IsUnderWay};
 ghost use Rattle.kept_run.specs.Setting.{IsSetting, Setting};
-ghost use Rattle.async_bound.specs.declared.stream.Stream.{Stream};
+ghost use Rattle.async_bound.specs.declared.stream.BurstStream.{BurstStream};
 ghost use Rattle.async_bound.specs.Streams.{AreStreams, arrivals};
 ghost use Rattle.async_bound.specs.Room.{count_below, is_usable};
 ghost use Rattle.async_bound.specs.Bound.{IsBound, IsLeastFitting};
@@ -31,7 +31,7 @@ use master_core::laws::opened_cycles;
 
 /// Of the requests of one stream no more than `arrivals` says arrive within `span` bit times, whenever these begin.
 pub fn few_arrive()
-    ensures few { (streams : List Stream) (requests : List Request) (stream : Stream) (low span : ℕ)
+    ensures few { (streams : List BurstStream) (requests : List Request) (stream : BurstStream) (low span : ℕ)
         → AreStreams streams → AreOfStreams streams requests → Contains streams stream
         → arrive_within low (low + span) (requests_of requests stream.id) ≤ arrivals stream span }
 {}
@@ -56,7 +56,7 @@ pub fn waiting_fills_the_bus()
 /// times behind its arrival, if so many bit times are run.
 pub fn requests_start_in_time()
     ensures starts { (sends : Instance → List ℕ) (layout : CycleLayout) (requests : List Request)
-        → (openings : List Opening) (count : ℕ) (trace : List TimedFrame) (streams : List Stream) (stream : Stream)
+        → (openings : List Opening) (count : ℕ) (trace : List TimedFrame) (streams : List BurstStream) (stream : BurstStream)
         → (longest blocked span place : ℕ) (request : Request)
         → IsLayout layout → IsBoundedRun sends layout requests openings count trace
         → AreStreams streams → AreOfStreams streams requests → IsBound layout streams stream longest blocked span
@@ -70,7 +70,7 @@ pub fn requests_start_in_time()
 /// times behind its arrival, if so many bit times are run.
 pub fn bounds_hold()
     ensures starts { (sends : Instance → List ℕ) (layout : CycleLayout) (requests : List Request)
-        → (openings : List Opening) (count : ℕ) (trace : List TimedFrame) (streams : List Stream) (stream : Stream)
+        → (openings : List Opening) (count : ℕ) (trace : List TimedFrame) (streams : List BurstStream) (stream : BurstStream)
         → (span place : ℕ) (request : Request)
         → IsLayout layout → IsBoundedRun sends layout requests openings count trace
         → AreStreams streams → AreOfStreams streams requests → Contains streams stream
@@ -89,7 +89,7 @@ pub fn runs_keep_bounds()
         → IsSetting setting → IsUnderWay setting history trace
         → IsBoundedRun setting.sends setting.layout setting.requests (openings_of history) (next_of history) trace }
     ensures starts { (setting : Setting) (history : List Event) (trace : List TimedFrame)
-        → (streams : List Stream) (stream : Stream) (span place : ℕ) (request : Request)
+        → (streams : List BurstStream) (stream : BurstStream) (span place : ℕ) (request : Request)
         → IsSetting setting → IsUnderWay setting history trace
         → AreStreams streams → AreOfStreams streams setting.requests → Contains streams stream
         → IsLeastFitting setting.layout streams stream span
@@ -122,7 +122,7 @@ pub fn kept_is_under_way()
 /// many as its entry's length.
 pub fn kept_runs_are_in_time()
     ensures starts { (setting : Setting) (history : List Event) (trace : List TimedFrame)
-        → (streams : List Stream) (stream : Stream) (span place : ℕ) (request : Request)
+        → (streams : List BurstStream) (stream : BurstStream) (span place : ℕ) (request : Request)
         → IsSetting setting → SendsWhole setting.sends → Kept setting history trace
         → AreStreams streams → AreOfStreams streams setting.requests → Contains streams stream
         → IsLeastFitting setting.layout streams stream span

@@ -8,7 +8,7 @@ ghost use Rattle.bounded_runs.specs.declared.of_streams.Traffic.{Traffic};
 ghost use Rattle.bounded_runs.specs.Requests.{AreOfStreams};
 ghost use Rattle.bounded_runs.specs.Strays.{Allows, FollowsStreams, IsCloseTo, IsFirstClose, IsStrayFault, Strays, arrivals_of, streams_of};
 
-use async_bound::Stream;
+use async_bound::BurstStream;
 use async_window::Request;
 use std::alloc::{AllocError, AllocFailed, Global};
 
@@ -21,12 +21,12 @@ pub enum StrayWhy {
     /// No stream has its identifier.
     Unknown,
     /// Its frame has more bytes than any stream of its identifier allows. The first of these streams is told.
-    Long(Stream),
+    Long(BurstStream),
     /// A request before it, of its identifier, arrives later. The first stream of the identifier is told.
-    Early(Stream),
+    Early(BurstStream),
     /// It arrives less than `gap` behind the request of its identifier that stands `burst` places before it. The first
     /// stream is told for which it does.
-    Close(Stream),
+    Close(BurstStream),
 }
 
 /// Why requests are not known to belong to streams.
@@ -57,7 +57,7 @@ impl From<AllocError> for StrayFault {
 /// What is known of an identifier: its streams, and when its requests so far arrived.
 #[derive(Drop)]
 struct Traffic {
-    streams: Vec<Stream>,
+    streams: Vec<BurstStream>,
     arrived: Vec<u64>,
 }
 
@@ -78,7 +78,7 @@ fn no_traffic(alloc: Global, count: usize) -> Result<Vec<Traffic>, AllocError>
 }
 
 /// Puts a stream behind those of its identifier.
-fn add_stream(all: &mut [Traffic], stream: &Stream) -> Result<(), AllocError>
+fn add_stream(all: &mut [Traffic], stream: &BurstStream) -> Result<(), AllocError>
     requires whole { length all.old ≡ 2048 }
     requires known { IsStream stream.now }
     ensures count { OnOk result (length all.new ≡ 2048) }
@@ -93,7 +93,7 @@ fn add_stream(all: &mut [Traffic], stream: &Stream) -> Result<(), AllocError>
 }
 
 /// The streams of each identifier, and no arrivals yet.
-fn by_identifier(alloc: Global, streams: &[Stream]) -> Result<Vec<Traffic>, AllocError>
+fn by_identifier(alloc: Global, streams: &[BurstStream]) -> Result<Vec<Traffic>, AllocError>
     requires known { AreStreams streams.now }
     ensures count { IfOk result (λ all. length all.items ≡ 2048) }
     ensures streams { IfOk result (λ all. (id : ℕ) (d : Traffic) → id < 2048
@@ -109,7 +109,7 @@ fn by_identifier(alloc: Global, streams: &[Stream]) -> Result<Vec<Traffic>, Allo
 }
 
 /// Whether some stream allows frames of so many bytes.
-fn is_allowed(streams: &[Stream], bytes: usize) -> bool
+fn is_allowed(streams: &[BurstStream], bytes: usize) -> bool
     ensures yes { result ≡ true → Allows streams.now bytes }
     ensures no { result ≡ false → All (λ stream. stream.bytes < bytes) streams.now }
 {
@@ -134,7 +134,7 @@ fn is_passed(arrived: &[u64], at: u64) -> bool
 }
 
 /// Whether what arrives then, behind these, is too close for a stream.
-fn is_close(stream: &Stream, arrived: &[u64], at: u64) -> bool
+fn is_close(stream: &BurstStream, arrived: &[u64], at: u64) -> bool
     requires known { IsStream stream.now }
     requires behind { All (λ before. before ≤ at) arrived.now }
     ensures yes { result ≡ true → IsCloseTo arrived.now at stream.now }
@@ -145,7 +145,7 @@ fn is_close(stream: &Stream, arrived: &[u64], at: u64) -> bool
 }
 
 /// The first stream for which what arrives then, behind these, is too close.
-fn first_close(streams: &[Stream], arrived: &[u64], at: u64) -> Option<Stream>
+fn first_close(streams: &[BurstStream], arrived: &[u64], at: u64) -> Option<BurstStream>
     requires known { AreStreams streams.now }
     requires behind { All (λ before. before ≤ at) arrived.now }
     ensures some { IfSome result (IsFirstClose streams.now arrived.now at) }
@@ -211,7 +211,7 @@ fn add_arrival(all: &mut [Traffic], request: &Request) -> Result<(), AllocError>
 /// `Stray` with the first request that does not belong to the streams and why, and `Memory` where memory ran out.
 pub fn are_of_streams(
     alloc: Global,
-    streams: &[Stream],
+    streams: &[BurstStream],
     requests: &[Request],
 ) -> Result<(), StrayFault>
     requires known { AreStreams streams.now }

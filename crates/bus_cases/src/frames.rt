@@ -2,15 +2,15 @@
 
 use crate::bits::{bits, text_of_bits};
 use can_frame::{Frame, crc, read_wire, wire, wire_len};
-use cases::{Fault, Table, bytes, cut, hexadecimal, text_of_frame};
+use cases::{CaseTable, Fault, bytes, cut, hexadecimal, text_of_frame};
 use std::alloc::Global;
 
 /// Frames of an identifier and data bytes. The answer is the CRC sequence, the wire length and, where `wire` asks for it,
 /// the wire.
 #[derive(Drop)]
-pub struct Frames;
+pub struct WireFrames;
 
-impl Table for Frames {
+impl CaseTable for WireFrames {
     ghost use Rattle.std.specs.Prelude.{⊤};
 
     ghost IsReady = { λ _. ⊤ };
@@ -59,7 +59,7 @@ fn read_back(alloc: Global, frame: &Frame) -> Result<String, Fault> {
 #[derive(Drop)]
 pub struct Wires;
 
-impl Table for Wires {
+impl CaseTable for Wires {
     ghost use Rattle.std.specs.Prelude.{⊤};
 
     ghost IsReady = { λ _. ⊤ };

@@ -5,24 +5,24 @@ use crate::recordings::read;
 use crate::scripted::{Scripted, Station};
 use bus_line::run_until;
 use can_frame::TimedFrame;
-use cases::{Fault, Table, cut, hexadecimal, push_behind, text_of_trace, time};
+use cases::{CaseTable, Fault, cut, hexadecimal, push_behind, text_of_trace, time};
 use profile::SHORTEST_FRAME;
 use std::alloc::Global;
 
 /// A bus with three scripted stations, from one line that gives them to the next.
 #[derive(Drop)]
-pub struct Line {
+pub struct ScriptedLine {
     stations: Option<Scripted>,
 }
 
-impl Line {
+impl ScriptedLine {
     /// No stations.
-    pub fn new() -> Line {
-        Line { stations: None }
+    pub fn new() -> ScriptedLine {
+        ScriptedLine { stations: None }
     }
 }
 
-impl Table for Line {
+impl CaseTable for ScriptedLine {
     ghost use Rattle.std.specs.Prelude.{⊤};
 
     ghost IsReady = { λ _. ⊤ };

@@ -16,8 +16,8 @@ mod senders;
 mod stuffing;
 
 use cases::show;
-use frames::{Frames, Wires};
-use line::Line;
+use frames::{WireFrames, Wires};
+use line::ScriptedLine;
 use nested::Nested;
 use senders::Senders;
 use std::io;
@@ -26,9 +26,9 @@ use stuffing::Stuffing;
 fn main(rt: HostRuntime) -> io::Result<()> {
     show(&rt, "tables", Nested)?;
     show(&rt, "stuffing", Stuffing)?;
-    show(&rt, "frames", Frames)?;
+    show(&rt, "frames", WireFrames)?;
     show(&rt, "wires", Wires)?;
     show(&rt, "senders", Senders::new())?;
-    show(&rt, "line", Line::new())?;
+    show(&rt, "line", ScriptedLine::new())?;
     Ok(())
 }

@@ -1,13 +1,13 @@
 //! Tables in a table: what the loop that compares says of them.
 
-use cases::{Fault, Table, compared};
+use cases::{CaseTable, Fault, compared};
 use std::alloc::Global;
 
 /// Tables as text, in which `\n` stands for a line feed.
 #[derive(Drop)]
 pub struct Nested;
 
-impl Table for Nested {
+impl CaseTable for Nested {
     ghost use Rattle.std.specs.Prelude.{⊤};
 
     ghost IsReady = { λ _. ⊤ };
@@ -23,7 +23,7 @@ impl Table for Nested {
 #[derive(Drop)]
 struct Echo;
 
-impl Table for Echo {
+impl CaseTable for Echo {
     ghost use Rattle.std.specs.Prelude.{⊤};
 
     ghost IsReady = { λ _. ⊤ };

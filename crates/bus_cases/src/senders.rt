@@ -3,7 +3,7 @@
 ghost use Rattle.std.specs.Prelude.{◌<◌, All};
 
 use arbitration::{Contenders, arbitrate};
-use cases::{Fault, Table, cut, hexadecimal};
+use cases::{CaseTable, Fault, cut, hexadecimal};
 use std::alloc::Global;
 
 /// Senders that begin together. They are the same list for all lines, which is cleared for each.
@@ -21,7 +21,7 @@ impl Senders {
     }
 }
 
-impl Table for Senders {
+impl CaseTable for Senders {
     ghost use Rattle.std.specs.Prelude.{⊤};
 
     ghost IsReady = { λ _. ⊤ };

@@ -3,7 +3,7 @@
 ghost use Rattle.std.specs.Prelude.{◌+◌, ◌≤◌, IfOk};
 
 use crate::bits::{bits, text_of_bits};
-use cases::{Fault, Table, bytes, cut, length, small};
+use cases::{CaseTable, Fault, bytes, cut, length, small};
 use std::alloc::Global;
 use stuff_bound::{BitRun, Sender, bound, stuff, stuffed_len, stuffed_len_bytes, unstuff};
 
@@ -11,7 +11,7 @@ use stuff_bound::{BitRun, Sender, bound, stuff, stuffed_len, stuffed_len_bytes, 
 #[derive(Drop)]
 pub struct Stuffing;
 
-impl Table for Stuffing {
+impl CaseTable for Stuffing {
     ghost use Rattle.std.specs.Prelude.{⊤};
 
     ghost IsReady = { λ _. ⊤ };

@@ -4,13 +4,13 @@ ghost use Rattle.std.specs.Prelude.{ℕ, IfOk, IsSome};
 ghost use Rattle.cases.specs.Remarks.{IsNoCase};
 
 use crate::fields::Fault;
-use crate::reading::{Case, Read, Reader};
+use crate::reading::{Case, CaseReader, Read};
 use std::alloc::{AllocError, Global};
 use std::rt::Files;
 use std::{fs, io};
 
 /// What answers the cases of a table, one after the other.
-pub trait Table {
+pub trait CaseTable {
     /// What holds between two cases.
     ghost IsReady: { Self → Type 0 };
 
@@ -22,7 +22,7 @@ pub trait Table {
 
 /// Prints the line of the table in the file `NAME.txt`: `ok NAME:` and the number of its cases, or `FAILED NAME:` and the
 /// first that fails. Tells whether all have passed.
-pub fn show<R: Files + AllocGlobal + Print, T: Table + Drop>(
+pub fn show<R: Files + AllocGlobal + Print, T: CaseTable + Drop>(
     rt: &R,
     name: &str,
     mut table: T,
@@ -51,7 +51,7 @@ fn tell<R: Print>(rt: &R, line: String) -> io::Result<bool> {
 /// A case is a line of what is given, ` = ` and what is wanted. A case of several lines has a line `---`, what is given, a
 /// line `=>` and what is wanted, up to the next line `---` or the end of the table; where one stands, no case of one line
 /// follows. Outside of these an empty line and one that begins with `#` are remarks. What is none of this fails.
-pub fn compared<T: Table>(
+pub fn compared<T: CaseTable>(
     alloc: Global,
     name: &str,
     text: &str,
@@ -60,7 +60,7 @@ pub fn compared<T: Table>(
     requires ready { T.IsReady table.old }
     ensures ready { T.IsReady table.new }
 {
-    let mut reader = Reader::new();
+    let mut reader = CaseReader::new();
     let mut cases = 0u64;
     match first_failure(alloc, text, &mut reader, &mut cases, table)? {
         Some(failure) => Ok(format!(in alloc; "FAILED {name}: {failure}")?),
@@ -69,10 +69,10 @@ pub fn compared<T: Table>(
 }
 
 /// Why the first case fails that does, where one does. The cases before it are counted, and so is it.
-fn first_failure<T: Table>(
+fn first_failure<T: CaseTable>(
     alloc: Global,
     text: &str,
-    reader: &mut Reader,
+    reader: &mut CaseReader,
     cases: &mut u64,
     table: &mut T,
 ) -> io::Result<Option<String>>
@@ -89,10 +89,10 @@ fn first_failure<T: Table>(
 }
 
 /// Why what the next line ends fails, where it does.
-fn next_failure<T: Table>(
+fn next_failure<T: CaseTable>(
     alloc: Global,
     line: &str,
-    reader: &mut Reader,
+    reader: &mut CaseReader,
     cases: &mut u64,
     table: &mut T,
 ) -> io::Result<Option<String>>
@@ -104,7 +104,7 @@ fn next_failure<T: Table>(
 }
 
 /// Why what was read fails, where it does: what is no case always does. A case that passes is counted.
-fn failure<T: Table>(
+fn failure<T: CaseTable>(
     alloc: Global,
     read: &Read,
     cases: &mut u64,

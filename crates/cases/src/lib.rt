@@ -9,7 +9,7 @@ mod fields;
 mod reading;
 
 pub use asked::words;
-pub use comparing::{Table, compared, show};
+pub use comparing::{CaseTable, compared, show};
 pub use fields::{
     Fault, bytes, cut, hexadecimal, length, push_behind, small, text_of_frame, text_of_trace, time,
 };

@@ -36,7 +36,7 @@ pub enum Read {
 
 /// The lines so far of a case of several lines.
 #[derive(Drop)]
-struct Block {
+struct CaseLines {
     line: u64,
     given: String,
     /// What is wanted, once the arrow was read.
@@ -45,15 +45,15 @@ struct Block {
 
 /// What was read of a table.
 #[derive(Drop)]
-pub struct Reader {
+pub struct CaseReader {
     lines: u64,
-    block: Option<Block>,
+    block: Option<CaseLines>,
 }
 
-impl Reader {
+impl CaseReader {
     /// No line was read.
-    pub fn new() -> Reader {
-        Reader {
+    pub fn new() -> CaseReader {
+        CaseReader {
             lines: 0,
             block: None,
         }
@@ -66,7 +66,7 @@ impl Reader {
         self.lines = self.lines.saturating_add(1);
         if line == FENCE {
             let read = self.end();
-            self.block = Some(Block {
+            self.block = Some(CaseLines {
                 line: self.lines,
                 given: String::new(alloc),
                 wanted: None,
@@ -84,7 +84,7 @@ impl Reader {
         ensures passed { IsNothing result → self.old.block ≡ None }
     {
         let Some(
-            Block {
+            CaseLines {
                 line,
                 given,
                 wanted,
@@ -106,7 +106,7 @@ impl Reader {
     }
 }
 
-impl Block {
+impl CaseLines {
     /// Puts a line behind the others.
     fn put(&mut self, alloc: Global, line: &str) -> Result<Read, AllocError> {
         match &mut self.wanted {

@@ -6,7 +6,7 @@ use std::alloc::{AllocError, Global};
 
 /// What a call answers, or is to answer.
 #[derive(Drop)]
-pub struct Answer {
+pub struct CaseAnswer {
     /// The exit status.
     pub status: u64,
     /// The bytes that the output sink took.
@@ -27,7 +27,7 @@ pub enum Part {
 }
 
 /// The first part in which the two answers differ.
-pub fn difference(wanted: &Answer, given: &Answer) -> Option<Part>
+pub fn difference(wanted: &CaseAnswer, given: &CaseAnswer) -> Option<Part>
     ensures status { IfNone result (wanted.now.status ≡ given.now.status) }
     ensures output { IfNone result (wanted.now.output.items ≡ given.now.output.items) }
     ensures errors { IfNone result (wanted.now.errors.items ≡ given.now.errors.items) }
@@ -52,8 +52,8 @@ pub fn difference(wanted: &Answer, given: &Answer) -> Option<Part>
 pub fn described(
     alloc: Global,
     part: Part,
-    wanted: &Answer,
-    given: &Answer,
+    wanted: &CaseAnswer,
+    given: &CaseAnswer,
 ) -> Result<String, AllocError> {
     match part {
         Part::Status => status_text(alloc, wanted, given),
@@ -69,7 +69,11 @@ pub fn described(
 }
 
 /// Two statuses that differ, with what was said of the given one.
-fn status_text(alloc: Global, wanted: &Answer, given: &Answer) -> Result<String, AllocError> {
+fn status_text(
+    alloc: Global,
+    wanted: &CaseAnswer,
+    given: &CaseAnswer,
+) -> Result<String, AllocError> {
     let said = text(&given.errors);
     format!(in alloc;
         "status: wanted {}, given {} {said:?}",

@@ -10,7 +10,7 @@ const TABLES_FOLDER: &str = "tables";
 
 /// What is run: the folder of a call, or the file of a table.
 #[derive(Clone, Copy)]
-pub enum Kind {
+pub enum RunKind {
     Call,
     Cases(Topic),
 }
@@ -27,16 +27,16 @@ pub fn asked_cases(rt: &HostRuntime) -> io::Result<Vec<String>> {
 }
 
 /// What is run for a path.
-pub fn kind_of(path: &str) -> Kind {
+pub fn kind_of(path: &str) -> RunKind {
     let Some((folder, last)) = path.split_once('/') else {
-        return Kind::Call;
+        return RunKind::Call;
     };
     for (name, topic) in TABLES {
         if folder == TABLES_FOLDER && last == name {
-            return Kind::Cases(topic);
+            return RunKind::Cases(topic);
         }
     }
-    Kind::Call
+    RunKind::Call
 }
 
 /// All calls two levels below this folder, in the order of their names, and all tables.

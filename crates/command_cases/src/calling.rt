@@ -1,6 +1,6 @@
 //! The calls of a case.
 
-use crate::answer::{Answer, described, difference};
+use crate::answer::{CaseAnswer, described, difference};
 use crate::fault::CaseFault;
 use crate::folder::Folder;
 use ftt_io::{MemShelf, MemSink};
@@ -29,7 +29,7 @@ fn first_difference(folder: &Folder<'_>) -> Result<Option<String>, CaseFault> {
 /// The first difference of calls with these words from what is wanted, in words.
 fn first_of(
     folder: &Folder<'_>,
-    wanted: &Answer,
+    wanted: &CaseAnswer,
     calls: &[Vec<String>],
 ) -> Result<Option<String>, CaseFault> {
     if calls.is_empty() {
@@ -47,7 +47,7 @@ fn first_of(
 /// How what a call with these words answers differs from what is wanted, in words.
 fn difference_of(
     folder: &Folder<'_>,
-    wanted: &Answer,
+    wanted: &CaseAnswer,
     words: &[String],
 ) -> Result<Option<String>, CaseFault> {
     let given = answer(folder, words)?;
@@ -58,7 +58,7 @@ fn difference_of(
 }
 
 /// What a call with these words answers.
-fn answer(folder: &Folder<'_>, words: &[String]) -> Result<Answer, CaseFault> {
+fn answer(folder: &Folder<'_>, words: &[String]) -> Result<CaseAnswer, CaseFault> {
     let alloc = folder.rt.alloc();
     let mut shelf = shelf(folder, words)?;
     let mut out = sink(folder, "failing-puts", folder.number("room", ROOM)?)?;
@@ -86,8 +86,8 @@ fn answered(
     shelf: &MemShelf,
     out: &MemSink,
     err: &MemSink,
-) -> Result<Answer, AllocError> {
-    Ok(Answer {
+) -> Result<CaseAnswer, AllocError> {
+    Ok(CaseAnswer {
         status,
         output: out.bytes().to_vec(alloc)?,
         errors: err.bytes().to_vec(alloc)?,

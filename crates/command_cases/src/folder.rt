@@ -1,6 +1,6 @@
 //! The files of a case.
 
-use crate::answer::Answer;
+use crate::answer::CaseAnswer;
 use crate::fault::CaseFault;
 use std::alloc::{AllocError, Global};
 use std::fs;
@@ -65,8 +65,8 @@ impl Folder<'_> {
     }
 
     /// The answer that is wanted.
-    pub fn wanted(&self) -> Result<Answer, CaseFault> {
-        Ok(Answer {
+    pub fn wanted(&self) -> Result<CaseAnswer, CaseFault> {
+        Ok(CaseAnswer {
             status: self.number("status", 0)?,
             output: self.bytes_or_none("expected.log")?,
             errors: self.bytes_or_none("expected.err")?,

@@ -10,7 +10,7 @@ const TURNS: u64 = 200_000_000;
 
 /// At which points a gate holds threads.
 #[derive(Clone, Copy)]
-pub enum Held {
+pub enum HeldPoints {
     /// The first answer until cycle 3 was opened, and that cycle before it is run until the second answer.
     Cycle,
     /// Cycle 0 before it is run until the first plan is begun, and that plan until cycle 1 was opened.
@@ -20,7 +20,7 @@ pub enum Held {
 /// A gate that holds threads at two points.
 #[derive(Drop)]
 pub struct HoldingGate {
-    held: Held,
+    held: HeldPoints,
     /// Not 0 once the cycle was opened for which a thread waits.
     opened: AtomicU64,
     /// Not 0 once the first answer was given, or the first plan begun.
@@ -32,7 +32,7 @@ pub struct HoldingGate {
 
 impl HoldingGate {
     /// A gate that nobody passed yet.
-    pub fn new(held: Held) -> HoldingGate {
+    pub fn new(held: HeldPoints) -> HoldingGate {
         HoldingGate {
             held,
             opened: AtomicU64::new(0),
@@ -93,8 +93,8 @@ impl HoldingGate {
 impl Gate for HoldingGate {
     fn pass(&self, point: Point) {
         match self.held {
-            Held::Cycle => self.pass_held_cycle(point),
-            Held::Plan => self.pass_held_plan(point),
+            HeldPoints::Cycle => self.pass_held_cycle(point),
+            HeldPoints::Plan => self.pass_held_plan(point),
         }
     }
 }

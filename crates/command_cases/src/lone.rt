@@ -4,7 +4,7 @@ ghost use Rattle.std.specs.Prelude.{◌≡◌, ◌≤◌, ◌<◌, length};
 ghost use Rattle.profile.specs.Limits.{first_slots, openings_end};
 ghost use Rattle.admission.specs.Verdict.{IsRules};
 
-use crate::gates::{Held, HoldingGate};
+use crate::gates::{HeldPoints, HoldingGate};
 use admission_rules::Rules;
 use change_protocol::{Act, Change, Op, Ops};
 use cycle_engine::Nodes;
@@ -78,9 +78,9 @@ fn run<T: Threads + Wait + Sync, G: Gate>(
 
 /// The script of an operator that asks for a change which starts in cycle 100. Where a cycle is to be held for it, the
 /// operator looks first.
-fn script(alloc: Global, held: Held) -> Result<Script, AllocError> {
+fn script(alloc: Global, held: HeldPoints) -> Result<Script, AllocError> {
     let mut acts = Vec::new(alloc);
-    if let Held::Cycle = held {
+    if let HeldPoints::Cycle = held {
         acts.push(Act::Look)?;
     }
     acts.push(Act::Ask {
@@ -111,12 +111,12 @@ fn put_last_change(told: &mut String, master: &Master) -> Result<(), AllocError>
 fn held_run<T: Threads + Wait + Sync>(
     alloc: Global,
     threads: &T,
-    held: Held,
+    held: HeldPoints,
     told: &mut String,
 ) -> Result<(), AllocError> {
     let cycles = match held {
-        Held::Cycle => 4,
-        Held::Plan => 2,
+        HeldPoints::Cycle => 4,
+        HeldPoints::Plan => 2,
     };
     let gate = HoldingGate::new(held);
     let master = run(threads, alloc, cycles, script(alloc, held)?, &gate)?;
@@ -134,8 +134,8 @@ pub fn tell<T: Threads + Wait + Sync>(
     told: &mut String,
 ) -> Result<(), AllocError> {
     match given.trim_end() {
-        "held" => held_run(alloc, threads, Held::Cycle, told),
-        "planned" => held_run(alloc, threads, Held::Plan, told),
+        "held" => held_run(alloc, threads, HeldPoints::Cycle, told),
+        "planned" => held_run(alloc, threads, HeldPoints::Plan, told),
         _ => Ok(()),
     }
 }

@@ -23,13 +23,13 @@ mod replays;
 mod runs;
 mod tables;
 
-use asked::{Kind, asked_cases, kind_of};
+use asked::{RunKind, asked_cases, kind_of};
 use cases::show;
 use std::io;
 use std::process::ExitCode;
 use std::sync::Wait;
 use std::thread::Threads;
-use tables::Asked;
+use tables::TopicTable;
 
 fn main(rt: HostRuntime) -> ExitCode {
     match run_cases(&rt, &rt) {
@@ -42,8 +42,8 @@ fn main(rt: HostRuntime) -> ExitCode {
 /// Prints the line of a path, and tells whether its cases have passed.
 fn shown<T: Threads + Wait + Sync>(rt: &HostRuntime, threads: &T, path: &str) -> io::Result<bool> {
     match kind_of(path) {
-        Kind::Call => tell(rt, path, calling::failure(rt, path)?),
-        Kind::Cases(topic) => show(rt, path, Asked { rt, threads, topic }),
+        RunKind::Call => tell(rt, path, calling::failure(rt, path)?),
+        RunKind::Cases(topic) => show(rt, path, TopicTable { rt, threads, topic }),
     }
 }
 

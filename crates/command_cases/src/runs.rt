@@ -1,7 +1,7 @@
 //! Whole calls by threads.
 
 use crate::folder;
-use crate::gates::{Held, HoldingGate};
+use crate::gates::{HeldPoints, HoldingGate};
 use ftt_io::{FileShelf, MemSink};
 use fttcan_top::{Gate, OpenGate, Status, live};
 use std::alloc::{AllocError, Global};
@@ -13,7 +13,7 @@ const ROOM: usize = 262_144;
 
 /// What a call answered, and what it wrote.
 #[derive(Drop)]
-struct Answer {
+struct RunAnswer {
     status: Status,
     out: MemSink,
     err: MemSink,
@@ -25,7 +25,7 @@ fn call<T: Threads + Wait + Sync, G: Gate>(
     threads: &T,
     words: &str,
     gate: &G,
-) -> Result<Answer, AllocError> {
+) -> Result<RunAnswer, AllocError> {
     let alloc = rt.alloc();
     let list = folder::words(alloc, words)?;
     let mut shelf = FileShelf::new(rt);
@@ -33,7 +33,7 @@ fn call<T: Threads + Wait + Sync, G: Gate>(
     let mut err = MemSink::new(alloc, ROOM, Vec::new(alloc))?;
     let words = list.as_slice();
     let status = live(threads, alloc, words, &mut shelf, &mut out, &mut err, gate);
-    Ok(Answer { status, out, err })
+    Ok(RunAnswer { status, out, err })
 }
 
 /// What follows in a row of a change of operator 1 that was planned from cycle 0 or from cycle 1.
@@ -70,7 +70,7 @@ fn count_of(bytes: &[u8], word: &str) -> usize {
 }
 
 /// Tells of an answer: how the call ended, its messages, and its output.
-fn put_answer(told: &mut String, answer: &Answer) -> Result<(), AllocError> {
+fn put_answer(told: &mut String, answer: &RunAnswer) -> Result<(), AllocError> {
     writeln!(told, "{:?}", answer.status)?;
     told.push_str(str::from_utf8(answer.err.bytes()).unwrap_or("no text\n"))?;
     put_without_looks(told, answer.out.bytes())
@@ -93,7 +93,7 @@ fn held_call<T: Threads + Wait + Sync>(
     rt: &HostRuntime,
     threads: &T,
     words: &str,
-    held: Held,
+    held: HeldPoints,
     told: &mut String,
 ) -> Result<(), AllocError> {
     let gate = HoldingGate::new(held);
@@ -131,8 +131,8 @@ pub fn tell<T: Threads + Wait + Sync>(
     let line = given.strip_suffix('\n').unwrap_or(given);
     let (made, words) = line.split_once(' ').unwrap_or((line, ""));
     match made {
-        "held" => held_call(rt, threads, words, Held::Cycle, told),
-        "planned" => held_call(rt, threads, words, Held::Plan, told),
+        "held" => held_call(rt, threads, words, HeldPoints::Cycle, told),
+        "planned" => held_call(rt, threads, words, HeldPoints::Plan, told),
         "counted" => counted_call(rt, threads, words, told),
         _ => open_call(rt, threads, words, told),
     }

@@ -1,7 +1,7 @@
 //! The tables of whole calls that no folder shows, and what each of them asks.
 
 use crate::{audits, lone, prefixes, replays, runs};
-use cases::{Fault, Table};
+use cases::{CaseTable, Fault};
 use std::alloc::Global;
 use std::io;
 use std::sync::Wait;
@@ -50,13 +50,13 @@ fn tell<T: Threads + Wait + Sync>(
 
 /// What answers the cases of a table.
 #[derive(Drop)]
-pub struct Asked<'a, T> {
+pub struct TopicTable<'a, T> {
     pub rt: &'a HostRuntime,
     pub threads: &'a T,
     pub topic: Topic,
 }
 
-impl<T: Threads + Wait + Sync> Table for Asked<'_, T> {
+impl<T: Threads + Wait + Sync> CaseTable for TopicTable<'_, T> {
     ghost use Rattle.std.specs.Thread.{IsSync};
 
     ghost IsReady = { λ _. IsSync T.row };

@@ -3,7 +3,7 @@
 ghost use Rattle.std.specs.Prelude.{◌≡◌, IfOk};
 ghost use Rattle.trigger_kind.specs.Kind.{IsSlots};
 
-use cases::{Fault, Table, cut, length, small, time};
+use cases::{CaseTable, Fault, cut, length, small, time};
 use cycle_layout::Layout;
 use std::alloc::{AllocError, Global};
 
@@ -12,7 +12,7 @@ use std::alloc::{AllocError, Global};
 #[derive(Drop)]
 pub struct Layouts;
 
-impl Table for Layouts {
+impl CaseTable for Layouts {
     ghost use Rattle.std.specs.Prelude.{⊤};
 
     ghost IsReady = { λ _. ⊤ };

@@ -6,7 +6,7 @@ use crate::layouts::{after_layout, layout};
 use crate::requests::{are_in_order, requests};
 use crate::values::{text_of_offer, text_of_stay};
 use async_window::Mailboxes;
-use cases::{Fault, Table, cut, hexadecimal, length, text_of_frame, time};
+use cases::{CaseTable, Fault, cut, hexadecimal, length, text_of_frame, time};
 use cycle_layout::Layout;
 use std::alloc::Global;
 
@@ -19,18 +19,18 @@ struct Waiting {
 
 /// Requests that wait in mailboxes, from one line that gives them to the next.
 #[derive(Drop)]
-pub struct Mail {
+pub struct WaitingMail {
     waiting: Option<Waiting>,
 }
 
-impl Mail {
+impl WaitingMail {
     /// No mailboxes.
-    pub fn new() -> Mail {
-        Mail { waiting: None }
+    pub fn new() -> WaitingMail {
+        WaitingMail { waiting: None }
     }
 }
 
-impl Table for Mail {
+impl CaseTable for WaitingMail {
     ghost use Rattle.std.specs.Prelude.{⊤};
 
     ghost IsReady = { λ _. ⊤ };
@@ -51,7 +51,7 @@ impl Table for Mail {
     }
 }
 
-impl Mail {
+impl WaitingMail {
     /// Requests that wait in a layout with so many slots. The answer is how many there are.
     fn renew(&mut self, alloc: Global, fields: &str, slots: u8) -> Result<String, Fault>
         requires slots { IsSlots slots }

@@ -13,17 +13,17 @@ mod values;
 
 use cases::show;
 use layouts::Layouts;
-use mailboxes::Mail;
+use mailboxes::WaitingMail;
 use one_node::OneNode;
-use polled::Polled;
+use polled::PolledCases;
 use std::io;
-use triggers::Triggers;
+use triggers::TriggerCases;
 
 fn main(rt: HostRuntime) -> io::Result<()> {
     show(&rt, "layouts", Layouts)?;
-    show(&rt, "triggers", Triggers)?;
-    show(&rt, "mailboxes", Mail::new())?;
+    show(&rt, "triggers", TriggerCases)?;
+    show(&rt, "mailboxes", WaitingMail::new())?;
     show(&rt, "one_node", OneNode::new())?;
-    show(&rt, "polled", Polled)?;
+    show(&rt, "polled", PolledCases)?;
     Ok(())
 }

@@ -11,7 +11,7 @@ use crate::triggers::{second_trigger, trigger};
 use crate::values::{frame, text_of_mask, text_of_offer, text_of_time};
 use async_window::Owner;
 use can_frame::{Frame, TimedFrame, wire_len};
-use cases::{Fault, Table, cut, small, text_of_frame, time};
+use cases::{CaseTable, Fault, cut, small, text_of_frame, time};
 use cycle_layout::Layout;
 use node_model::Node;
 use requirement_table::{MOST_SLOTS, Mask, Placed, well_placed};
@@ -19,7 +19,7 @@ use std::alloc::Global;
 
 /// A node, the identifier of the frames that open cycles for it, and how many of them it heard.
 #[derive(Drop)]
-pub struct Opened {
+pub struct HeardOpenings {
     node: Node,
     opening: u16,
     cycles: u64,
@@ -28,7 +28,7 @@ pub struct Opened {
 /// Node 1, which owns 0x205 and 0x210, from one line that makes it to the next.
 #[derive(Drop)]
 pub struct OneNode {
-    opened: Option<Opened>,
+    opened: Option<HeardOpenings>,
 }
 
 impl OneNode {
@@ -40,7 +40,7 @@ impl OneNode {
     }
 }
 
-impl Table for OneNode {
+impl CaseTable for OneNode {
     ghost use Rattle.std.specs.Prelude.{IfSome};
     ghost use Rattle.cycle_cases.specs.Ready.{CountsCycles};
 
@@ -80,7 +80,7 @@ impl OneNode {
         let layout = layout(fields, slots)?;
         let node = node(alloc, layout, after_layout(fields))?;
         let left = node.left();
-        self.opened = Some(Opened {
+        self.opened = Some(HeardOpenings {
             node,
             opening,
             cycles: 0,
@@ -106,7 +106,7 @@ fn node(alloc: Global, layout: Layout, fields: &str) -> Result<Node, Fault>
     Ok(Node::new(alloc, 1, layout, &owners, requests.as_slice())?)
 }
 
-impl Opened {
+impl HeardOpenings {
     /// What a call answers.
     fn answer(&mut self, alloc: Global, word: &str, fields: &str) -> Result<String, Fault>
         requires cycles { CountsCycles self.old }

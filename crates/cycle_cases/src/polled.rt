@@ -6,7 +6,7 @@ ghost use Rattle.requirement_table.specs.Table.{IsWellPlaced};
 ghost use Rattle.sporadic_poll.specs.PolledNodes.{AreNext};
 
 use can_frame::TimedFrame;
-use cases::{Fault, Table, cut, small};
+use cases::{CaseTable, Fault, cut, small};
 use cycle_layout::Layout;
 use profile::{FIRST_IDENTIFIER, FIRST_SLOTS};
 use requirement_table::{Entry, Mask, Order, Placed, PlacedList, released_in, well_placed};
@@ -27,9 +27,9 @@ const LONGEST_RUN: u8 = 10;
 
 /// Runs of a table of one entry, each with the rows of a streams file, which a `;` separates.
 #[derive(Drop)]
-pub struct Polled;
+pub struct PolledCases;
 
-impl Table for Polled {
+impl CaseTable for PolledCases {
     ghost use Rattle.std.specs.Prelude.{⊤};
 
     ghost IsReady = { λ _. ⊤ };

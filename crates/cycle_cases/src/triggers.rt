@@ -2,16 +2,16 @@
 
 use crate::values::{frame, mask, text_of_mask};
 use can_frame::Frame;
-use cases::{Fault, Table, cut, length, text_of_frame, time};
+use cases::{CaseTable, Fault, cut, length, text_of_frame, time};
 use profile::LONGEST_WINDOW;
 use std::alloc::Global;
 use trigger_codec::{decode, decode_second, encode, encode_second, flags_of_both};
 
 /// Trigger frames, in both directions.
 #[derive(Drop)]
-pub struct Triggers;
+pub struct TriggerCases;
 
-impl Table for Triggers {
+impl CaseTable for TriggerCases {
     ghost use Rattle.std.specs.Prelude.{⊤};
 
     ghost IsReady = { λ _. ⊤ };

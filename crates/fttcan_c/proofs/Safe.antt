@@ -11,8 +11,8 @@ use Rattle.fttcan_c.specs.declared.plain.FttPlaced.{FttPlaced}
 use Rattle.fttcan_c.specs.declared.plain.FttPlan.{FttPlan}
 use Rattle.fttcan_c.specs.declared.plain.FttRules.{FttRules}
 use Rattle.fttcan_c.specs.declared.plain.FttState.{FttState}
-use Rattle.fttcan_c.specs.declared.refusal.Refusal.{Refusal}
-use Rattle.fttcan_c.specs.declared.refusal.Refusal.TheVariants.{Memory, Argument, Table, State, Room, Miss, Closed, Open, Text, No}
+use Rattle.fttcan_c.specs.declared.refusal.ExportRefusal.{ExportRefusal}
+use Rattle.fttcan_c.specs.declared.refusal.ExportRefusal.TheVariants.{Memory, Argument, Table, State, Room, Miss, Closed, Open, Text, No}
 use Rattle.fttcan_c.specs.Admit.{IsStateOpened, RefusesOpening, plan_at}
 use Rattle.fttcan_c.specs.Plain.{mask_of, rules_of, table_of}
 use Rattle.fttcan_c.specs.Refused.{status_of}
@@ -58,7 +58,7 @@ no_miss rules placed state slot release safe miss =
     absurd (true≢false (sym miss.missed ∙ none))
 
 -- so a refusal of its opening has not the status of a miss
-pub not_missed : (rules : FttRules) (placed : List FttPlaced) (state : FttState) (refusal : Refusal) (status : ℕ) → status ≡ status_of refusal
+pub not_missed : (rules : FttRules) (placed : List FttPlaced) (state : FttState) (refusal : ExportRefusal) (status : ℕ) → status ≡ status_of refusal
     → RefusesOpening rules placed state refusal → IsSafe (rules_of rules) (table_of placed) state.cycle (mask_of state.pending) → status ≡ 6 → ⊥
 not_missed rules placed state Memory status is why safe six = omega arith
 not_missed rules placed state Argument status is why safe six = omega arith

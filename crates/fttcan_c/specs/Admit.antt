@@ -17,8 +17,8 @@ use Rattle.fttcan_c.specs.declared.plain.FttPlan.{FttPlan}
 use Rattle.fttcan_c.specs.declared.plain.FttRules.{FttRules}
 use Rattle.fttcan_c.specs.declared.plain.FttState.{FttState}
 use Rattle.fttcan_c.specs.declared.plain.FttVerdict.{FttVerdict}
-use Rattle.fttcan_c.specs.declared.refusal.Refusal.{Refusal}
-use Rattle.fttcan_c.specs.declared.refusal.Refusal.TheVariants.{Memory, Argument, Table, State, Room, Miss, Closed, Open, Text, No}
+use Rattle.fttcan_c.specs.declared.refusal.ExportRefusal.{ExportRefusal}
+use Rattle.fttcan_c.specs.declared.refusal.ExportRefusal.TheVariants.{Memory, Argument, Table, State, Room, Miss, Closed, Open, Text, No}
 use Rattle.fttcan_c.specs.Plain.{AreRules, IsMask, IsOp, change_of, mask_of, rules_of, state_of, table_of}
 use Rattle.fttcan_c.specs.Told.{table_told, told}
 
@@ -32,7 +32,7 @@ abbrev pub IsFttState : List FttPlaced → FttState → Type 0
 IsFttState placed state = IsPlanState (table_of placed) state
 
 -- why a table and a state are refused; want of memory says nothing of them
-abbrev pub RefusesStanding : List FttPlaced → FttState → Refusal → Type 0
+abbrev pub RefusesStanding : List FttPlaced → FttState → ExportRefusal → Type 0
 RefusesStanding placed state Memory = Unit {0}
 RefusesStanding placed state Argument = ⊥
 RefusesStanding placed state Table = IsWellPlaced (table_of placed) → ⊥
@@ -74,7 +74,7 @@ pub record IsDecided (rules : FttRules) (placed : List FttPlaced) (state : FttSt
 
 -- why a change is not decided: a rule or an operation is out of range; or none is, and the table or the state is refused,
 -- or there is no memory
-abbrev pub RefusesChange : FttRules → List FttPlaced → FttState → List FttOp → Refusal → Type 0
+abbrev pub RefusesChange : FttRules → List FttPlaced → FttState → List FttOp → ExportRefusal → Type 0
 RefusesChange rules placed state ops Memory = AreAsked rules ops
 RefusesChange rules placed state ops Argument = AreAsked rules ops → ⊥
 RefusesChange rules placed state ops Table = AreAsked rules ops × (IsWellPlaced (table_of placed) → ⊥)
@@ -110,7 +110,7 @@ pub record IsStateOpened (rules : FttRules) (placed : List FttPlaced) (old new :
 
 -- why a cycle is not planned: a rule is out of range; or none is, and the table or the state is refused, there is no
 -- memory, or at a miss an instance would miss its deadline in it
-abbrev pub RefusesOpening : FttRules → List FttPlaced → FttState → Refusal → Type 0
+abbrev pub RefusesOpening : FttRules → List FttPlaced → FttState → ExportRefusal → Type 0
 RefusesOpening rules placed state Memory = AreRules rules
 RefusesOpening rules placed state Argument = AreRules rules → ⊥
 RefusesOpening rules placed state Table = AreRules rules × (IsWellPlaced (table_of placed) → ⊥)

@@ -8,25 +8,25 @@ use Rattle.master_core.specs.declared.event.Event.TheVariants.{Submit}
 use Rattle.master_core.specs.CorePlans.{CanSettleFrom, CorePlannedView, IsAnsweredFrom, IsCorePlan, snapshot_of_core}
 use Rattle.master_core.specs.CorePlans.{IsSettled as IsSettledByCore}
 use Rattle.master_core.specs.Cores.{CoreView, IsCore, IsStateOf, answered_by}
-use Rattle.master_handle.specs.declared.held.Held.{Held}
-use Rattle.master_handle.specs.declared.held.Held.TheVariants.{Master, Snapshot, Planned}
+use Rattle.master_handle.specs.declared.held.HandleContent.{HandleContent}
+use Rattle.master_handle.specs.declared.held.HandleContent.TheVariants.{Master, Snapshot, Planned}
 use Rattle.fttcan_c.specs.declared.plain.FttOp.{FttOp}
 use Rattle.fttcan_c.specs.declared.plain.FttVerdict.{FttVerdict}
-use Rattle.fttcan_c.specs.declared.refusal.Refusal.{Refusal}
-use Rattle.fttcan_c.specs.declared.refusal.Refusal.TheVariants as refused
+use Rattle.fttcan_c.specs.declared.refusal.ExportRefusal.{ExportRefusal}
+use Rattle.fttcan_c.specs.declared.refusal.ExportRefusal.TheVariants as refused
 use Rattle.fttcan_c.specs.Mastering.{HoldsMaster, IsCaller}
 use Rattle.fttcan_c.specs.Plain.{IsOp}
 use Rattle.fttcan_c.specs.Told.{told}
 
 -- a snapshot of a master is held
-pub record IsSnapshotOf (master made : Held) : Type 0 where
+pub record IsSnapshotOf (master made : HandleContent) : Type 0 where
   pub core : CoreView
   pub trail : List ℕ
   pub of : master ≡ Master core trail
   pub is : made ≡ Snapshot (snapshot_of_core core)
 
 -- a change was planned from a snapshot
-pub record IsPlannedApart (change : Change) (old new : Held) : Type 0 where
+pub record IsPlannedApart (change : Change) (old new : HandleContent) : Type 0 where
   pub snapshot : SnapshotOf
   pub planned : CorePlannedView
   pub from : old ≡ Snapshot snapshot
@@ -34,16 +34,16 @@ pub record IsPlannedApart (change : Change) (old new : Held) : Type 0 where
   pub plan : IsCorePlan snapshot change planned
 
 -- a snapshot is held, or a planned change
-pub record IsSnapshot (held : Held) : Type 0 where
+pub record IsSnapshot (held : HandleContent) : Type 0 where
   pub snapshot : SnapshotOf
   pub is : held ≡ Snapshot snapshot
 
-pub record HoldsPlanned (held : Held) : Type 0 where
+pub record HoldsPlanned (held : HandleContent) : Type 0 where
   pub planned : CorePlannedView
   pub is : held ≡ Planned planned
 
 -- why nothing is planned: no snapshot is held, or there is no memory
-abbrev pub RefusesPlanning : Held → Refusal → Type 0
+abbrev pub RefusesPlanning : HandleContent → ExportRefusal → Type 0
 RefusesPlanning held refused.Memory = IsSnapshot held
 RefusesPlanning held refused.Argument = ⊥
 RefusesPlanning held refused.Table = ⊥
@@ -57,7 +57,7 @@ RefusesPlanning held refused.No = ⊥
 
 -- why a change is not planned apart: no snapshot is held; one is, and an operation is out of range; or neither, and there
 -- is no memory
-abbrev pub RefusesApart : List FttOp → Held → Refusal → Type 0
+abbrev pub RefusesApart : List FttOp → HandleContent → ExportRefusal → Type 0
 RefusesApart ops held refused.Memory = IsSnapshot held × All IsOp ops
 RefusesApart ops held refused.Argument = IsSnapshot held × (All IsOp ops → ⊥)
 RefusesApart ops held refused.Table = ⊥
@@ -70,7 +70,7 @@ RefusesApart ops held refused.Text = ⊥
 RefusesApart ops held refused.No = ⊥
 
 -- C is told what was decided of a planned change
-pub record IsPlannedTold (verdict : FttVerdict) (held : Held) : Type 0 where
+pub record IsPlannedTold (verdict : FttVerdict) (held : HandleContent) : Type 0 where
   pub planned : CorePlannedView
   pub is : held ≡ Planned planned
   pub verdict_is : verdict ≡ told planned.decision.verdict
@@ -87,7 +87,7 @@ pub record IsCoreSettled (caller : ℕ) (planned : CorePlannedView) (old new : C
       → IsStateOf (history ++ Submit caller planned.change answered.from answered.verdict answered.trail ∷ []) new
 
 -- a master settled what another handle held, C is told the verdict, and the trail is kept
-pub record IsHeldSettled (caller : ℕ) (verdict : FttVerdict) (from old new : Held) : Type 0 where
+pub record IsHeldSettled (caller : ℕ) (verdict : FttVerdict) (from old new : HandleContent) : Type 0 where
   pub planned : CorePlannedView
   pub core : CoreView
   pub trail : List ℕ
@@ -100,13 +100,13 @@ pub record IsHeldSettled (caller : ℕ) (verdict : FttVerdict) (from old new : H
   pub verdict_is : verdict ≡ told answered.verdict
 
 -- a master can settle what another handle holds
-pub record CanSettleHeld (master from : Held) : Type 0 where
+pub record CanSettleHeld (master from : HandleContent) : Type 0 where
   pub master_is : HoldsMaster master
   pub planned_is : HoldsPlanned from
 
 -- why nothing is settled: one of the handles holds something else; they do not, and the operator is out of range; or
 -- neither, and there is no memory
-abbrev pub RefusesSettle : ℕ → Held → Held → Refusal → Type 0
+abbrev pub RefusesSettle : ℕ → HandleContent → HandleContent → ExportRefusal → Type 0
 RefusesSettle caller held from refused.Memory = CanSettleHeld held from × IsCaller caller
 RefusesSettle caller held from refused.Argument = CanSettleHeld held from × (IsCaller caller → ⊥)
 RefusesSettle caller held from refused.Table = ⊥

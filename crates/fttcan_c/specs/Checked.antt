@@ -13,8 +13,8 @@ use Rattle.fttcan_c.specs.declared.checked.Finding.{Finding}
 use Rattle.fttcan_c.specs.declared.checked.Finding.TheVariants.{Kept, Broken, Unread}
 use Rattle.fttcan_c.specs.declared.plain.FttBreach.{FttBreach}
 use Rattle.fttcan_c.specs.declared.plain.FttPlaced.{FttPlaced}
-use Rattle.fttcan_c.specs.declared.refusal.Refusal.{Refusal}
-use Rattle.fttcan_c.specs.declared.refusal.Refusal.TheVariants.{Memory, Argument, Table, State, Room, Miss, Closed, Open, Text, No}
+use Rattle.fttcan_c.specs.declared.refusal.ExportRefusal.{ExportRefusal}
+use Rattle.fttcan_c.specs.declared.refusal.ExportRefusal.TheVariants.{Memory, Argument, Table, State, Room, Miss, Closed, Open, Text, No}
 use Rattle.fttcan_c.specs.Plain.{table_of}
 use Rattle.fttcan_c.specs.Told.{breach_told}
 
@@ -53,7 +53,7 @@ pub record IsPlanAstray (placed : List Placed) (text : List ℕ) : Type 0 where
   pub astray : BeginsRight placed certificate → ⊥
 
 -- why nothing is found; want of memory says nothing
-abbrev pub RefusesPlanOf : List Placed → List ℕ → Refusal → Type 0
+abbrev pub RefusesPlanOf : List Placed → List ℕ → ExportRefusal → Type 0
 RefusesPlanOf placed text Memory = Unit {0}
 RefusesPlanOf placed text Argument = ⊥
 RefusesPlanOf placed text Table = IsWellPlaced placed → ⊥
@@ -65,5 +65,5 @@ RefusesPlanOf placed text Open = ⊥
 RefusesPlanOf placed text Text = ⊥
 RefusesPlanOf placed text No = ⊥
 
-abbrev pub RefusesPlan : List FttPlaced → List ℕ → Refusal → Type 0
+abbrev pub RefusesPlan : List FttPlaced → List ℕ → ExportRefusal → Type 0
 RefusesPlan placed text refusal = RefusesPlanOf (table_of placed) text refusal

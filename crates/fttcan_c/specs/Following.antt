@@ -18,33 +18,33 @@ use Rattle.master_core.specs.History.{IsLegal, IsRightAnswer}
 use Rattle.trigger_codec.specs.Bytes.{triggers_with}
 use Rattle.standby.specs.Core.{core_of}
 use Rattle.trigger_codec.specs.Heard.{heard_of}
-use Rattle.master_handle.specs.declared.held.Held.{Held}
-use Rattle.master_handle.specs.declared.held.Held.TheVariants.{Master, Standby}
+use Rattle.master_handle.specs.declared.held.HandleContent.{HandleContent}
+use Rattle.master_handle.specs.declared.held.HandleContent.TheVariants.{Master, Standby}
 use Rattle.fttcan_c.specs.declared.hearing.Astray.{Astray}
 use Rattle.fttcan_c.specs.declared.hearing.Astray.TheVariants.{Silent, Flags, Window}
 use Rattle.fttcan_c.specs.declared.plain.FttFollow.{FttFollow}
 use Rattle.fttcan_c.specs.declared.plain.FttFrame.{FttFrame}
 use Rattle.fttcan_c.specs.declared.plain.FttOp.{FttOp}
 use Rattle.fttcan_c.specs.declared.plain.FttVerdict.{FttVerdict}
-use Rattle.fttcan_c.specs.declared.refusal.Refusal.{Refusal}
-use Rattle.fttcan_c.specs.declared.refusal.Refusal.TheVariants as refused
+use Rattle.fttcan_c.specs.declared.refusal.ExportRefusal.{ExportRefusal}
+use Rattle.fttcan_c.specs.declared.refusal.ExportRefusal.TheVariants as refused
 use Rattle.fttcan_c.specs.Mastering.{IsCoreSubmitted, MayAsk}
 use Rattle.fttcan_c.specs.Plain.{IsFrameIn, change_of, frames_of}
 use Rattle.fttcan_c.specs.Told.{mask_told, told}
 
 -- a standby is held
-pub record HoldsStandby (held : Held) : Type 0 where
+pub record HoldsStandby (held : HandleContent) : Type 0 where
   pub core : CoreView
   pub is : held ≡ Standby core
 
 -- the cycle is the next one of a standby
-pub record IsExpected (cycle : ℕ) (held : Held) : Type 0 where
+pub record IsExpected (cycle : ℕ) (held : HandleContent) : Type 0 where
   pub core : CoreView
   pub is : held ≡ Standby core
   pub cycle_is : cycle ≡ core.cycle
 
 -- a master goes on with the core of a standby; no change was answered by it yet
-pub record IsStandbyTakenOver (standby master : Held) : Type 0 where
+pub record IsStandbyTakenOver (standby master : HandleContent) : Type 0 where
   pub core : CoreView
   pub of : standby ≡ Standby core
   pub is : master ≡ Master core []
@@ -53,7 +53,7 @@ pub record IsStandbyTakenOver (standby master : Held) : Type 0 where
 
 -- a standby was told a change: its core answers it as that of a master does, and C is told the verdict. It is accepted
 -- or not
-pub record IsChangeTold (accepted : Bool) (caller start : ℕ) (ops : List FttOp) (verdict : FttVerdict) (old new : Held) : Type 0 where
+pub record IsChangeTold (accepted : Bool) (caller start : ℕ) (ops : List FttOp) (verdict : FttVerdict) (old new : HandleContent) : Type 0 where
   pub core : CoreView
   pub next : CoreView
   pub answered : Answered
@@ -70,7 +70,7 @@ pub record IsInEffect (change : TableChange) (core : CoreView) : Type 0 where
   pub ahead : core.cycle ≤ change.start
   pub changed : IsChangedAt change.start core.placed (applied core.placed change)
 
-pub record TakesEffect (change : TableChange) (held : Held) : Type 0 where
+pub record TakesEffect (change : TableChange) (held : HandleContent) : Type 0 where
   pub core : CoreView
   pub is : held ≡ Standby core
   pub effect : IsInEffect change core
@@ -89,14 +89,14 @@ pub record IsDue (change : TableChange) (core : CoreView) : Type 0 where
   pub right : IsRightAnswer core.rules whole change from verdict trail
   pub accepted : is_accepted verdict ≡ true
 
-pub record IsDueChange (change : TableChange) (held : Held) : Type 0 where
+pub record IsDueChange (change : TableChange) (held : HandleContent) : Type 0 where
   pub core : CoreView
   pub is : held ≡ Standby core
   pub due : IsDue change core
 
 -- why a standby does not judge a change: none is held; one is, and what is asked for is out of range; or neither, and
 -- there is no memory
-abbrev pub RefusesChangeTold : ℕ → List FttOp → Held → Refusal → Type 0
+abbrev pub RefusesChangeTold : ℕ → List FttOp → HandleContent → ExportRefusal → Type 0
 RefusesChangeTold caller ops held refused.Memory = HoldsStandby held × MayAsk caller ops
 RefusesChangeTold caller ops held refused.Argument = HoldsStandby held × (MayAsk caller ops → ⊥)
 RefusesChangeTold caller ops held refused.Table = ⊥
@@ -157,7 +157,7 @@ fault_told (Window l sum) =
     record { heard = mask_told 0; planned = mask_told 0; first = l; second = sum; kind = 2 }
 
 -- a standby whose next cycle may be opened heard trigger frames
-pub record IsTriggerHeard (frames : List DataFrame) (astray : Option Astray) (old new : Held) : Type 0 where
+pub record IsTriggerHeard (frames : List DataFrame) (astray : Option Astray) (old new : HandleContent) : Type 0 where
   pub core : CoreView
   pub next : CoreView
   pub before : old ≡ Standby core
@@ -166,7 +166,7 @@ pub record IsTriggerHeard (frames : List DataFrame) (astray : Option Astray) (ol
   pub heard : IsHeardBy frames core next astray
 
 -- a standby followed them
-pub record IsFollowed (frames : List DataFrame) (old new : Held) : Type 0 where
+pub record IsFollowed (frames : List DataFrame) (old new : HandleContent) : Type 0 where
   pub core : CoreView
   pub next : CoreView
   pub before : old ≡ Standby core
@@ -175,7 +175,7 @@ pub record IsFollowed (frames : List DataFrame) (old new : Held) : Type 0 where
   pub followed : IsCoreFollowed frames core next
 
 -- a standby does not follow them, and C is told why
-pub record IsNotFollowed (frames : List DataFrame) (fault : FttFollow) (held : Held) : Type 0 where
+pub record IsNotFollowed (frames : List DataFrame) (fault : FttFollow) (held : HandleContent) : Type 0 where
   pub core : CoreView
   pub is : held ≡ Standby core
   pub near : core.cycle < openings_end
@@ -184,7 +184,7 @@ pub record IsNotFollowed (frames : List DataFrame) (fault : FttFollow) (held : H
   pub fault_is : fault ≡ fault_told astray
 
 -- the frames are the trigger of the next cycle of a standby
-pub record AreDueFrames (frames : List DataFrame) (held : Held) : Type 0 where
+pub record AreDueFrames (frames : List DataFrame) (held : HandleContent) : Type 0 where
   pub core : CoreView
   pub is : held ≡ Standby core
   pub due : frames ≡ due_frames core
@@ -193,13 +193,13 @@ pub record AreDueFrames (frames : List DataFrame) (held : Held) : Type 0 where
 abbrev pub CanFollow : CoreView → Type 0
 CanFollow core = core.cycle < openings_end
 
-pub record CanFollowMore (held : Held) : Type 0 where
+pub record CanFollowMore (held : HandleContent) : Type 0 where
   pub core : CoreView
   pub is : held ≡ Standby core
   pub next : CanFollow core
 
 -- why a core does not judge trigger frames: one of them is out of range; or none is, and no cycle may be opened any more
-abbrev pub RefusesFrames : List FttFrame → CoreView → Refusal → Type 0
+abbrev pub RefusesFrames : List FttFrame → CoreView → ExportRefusal → Type 0
 RefusesFrames frames core refused.Memory = ⊥
 RefusesFrames frames core refused.Argument = All IsFrameIn frames → ⊥
 RefusesFrames frames core refused.Table = ⊥
@@ -212,7 +212,7 @@ RefusesFrames frames core refused.Text = ⊥
 RefusesFrames frames core refused.No = ⊥
 
 -- why a standby does not judge them: none is held; or one is, and its core does not
-abbrev pub RefusesHearing : List FttFrame → Held → Refusal → Type 0
+abbrev pub RefusesHearing : List FttFrame → HandleContent → ExportRefusal → Type 0
 RefusesHearing frames held refused.Memory = ⊥
 RefusesHearing frames held refused.Argument = HoldsStandby held × (All IsFrameIn frames → ⊥)
 RefusesHearing frames held refused.Table = ⊥

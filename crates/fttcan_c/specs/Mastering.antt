@@ -12,26 +12,26 @@ use Rattle.master_core.specs.declared.answered.Answered.{Answered}
 use Rattle.master_core.specs.declared.event.Event.{Event}
 use Rattle.master_core.specs.declared.event.Event.TheVariants.{Submit, Look, Open}
 use Rattle.master_core.specs.Cores.{CoreView, IsAnswered, IsCore, IsStateOf, answered_by, new_core, onward, opened}
-use Rattle.master_handle.specs.declared.held.Held.{Held}
-use Rattle.master_handle.specs.declared.held.Held.TheVariants.{Master}
+use Rattle.master_handle.specs.declared.held.HandleContent.{HandleContent}
+use Rattle.master_handle.specs.declared.held.HandleContent.TheVariants.{Master}
 use Rattle.fttcan_c.specs.declared.plain.FttOp.{FttOp}
 use Rattle.fttcan_c.specs.declared.plain.FttOrder.{FttOrder}
 use Rattle.fttcan_c.specs.declared.plain.FttRules.{FttRules}
 use Rattle.fttcan_c.specs.declared.plain.FttVerdict.{FttVerdict}
-use Rattle.fttcan_c.specs.declared.refusal.Refusal.{Refusal}
-use Rattle.fttcan_c.specs.declared.refusal.Refusal.TheVariants as refused
+use Rattle.fttcan_c.specs.declared.refusal.ExportRefusal.{ExportRefusal}
+use Rattle.fttcan_c.specs.declared.refusal.ExportRefusal.TheVariants as refused
 use Rattle.fttcan_c.specs.Plain.{AreRules, IsOp, change_of, mask_of, rules_of}
 use Rattle.fttcan_c.specs.Told.{told}
 
 -- a master is held
-pub record HoldsMaster (held : Held) : Type 0 where
+pub record HoldsMaster (held : HandleContent) : Type 0 where
   pub core : CoreView
   pub trail : List ℕ
   pub is : held ≡ Master core trail
 
 -- something is held, and of it this holds
-pub record Holds (value : Option Held) (property : Held → Type 0) : Type 0 where
-  pub held : Held
+pub record Holds (value : Option HandleContent) (property : HandleContent → Type 0) : Type 0 where
+  pub held : HandleContent
   pub is : value ≡ Some held
   pub known : property held
 
@@ -47,7 +47,7 @@ pub record IsCoreSubmitted (caller : ℕ) (change : Change) (old new : CoreView)
       → IsStateOf (history ++ Submit caller change answered.from answered.verdict answered.trail ∷ []) new
 
 -- a master answered it, C is told the verdict, and the trail is kept
-pub record IsSubmitted (caller start : ℕ) (ops : List FttOp) (verdict : FttVerdict) (old new : Held) : Type 0 where
+pub record IsSubmitted (caller start : ℕ) (ops : List FttOp) (verdict : FttVerdict) (old new : HandleContent) : Type 0 where
   pub core : CoreView
   pub trail : List ℕ
   pub next : CoreView
@@ -68,7 +68,7 @@ pub record MayAsk (caller : ℕ) (ops : List FttOp) : Type 0 where
   pub kinds : All IsOp ops
 
 -- why a core does not answer a change: what is asked for is out of range; or it is not, and there is no memory
-abbrev pub RefusesAsked : ℕ → List FttOp → Refusal → Type 0
+abbrev pub RefusesAsked : ℕ → List FttOp → ExportRefusal → Type 0
 RefusesAsked caller ops refused.Memory = MayAsk caller ops
 RefusesAsked caller ops refused.Argument = MayAsk caller ops → ⊥
 RefusesAsked caller ops refused.Table = ⊥
@@ -82,7 +82,7 @@ RefusesAsked caller ops refused.No = ⊥
 
 -- why a master does not answer it: none is held; one is, and what is asked for is out of range; or neither, and there is
 -- no memory
-abbrev pub RefusesSubmit : ℕ → List FttOp → Held → Refusal → Type 0
+abbrev pub RefusesSubmit : ℕ → List FttOp → HandleContent → ExportRefusal → Type 0
 RefusesSubmit caller ops held refused.Memory = HoldsMaster held × MayAsk caller ops
 RefusesSubmit caller ops held refused.Argument = HoldsMaster held × (MayAsk caller ops → ⊥)
 RefusesSubmit caller ops held refused.Table = ⊥
@@ -108,7 +108,7 @@ pub record IsCoreOpened (order : FttOrder) (old new : CoreView) : Type 0 where
   pub history : (history : List Event) → IsStateOf history old
       → IsStateOf (history ++ Open order.cycle (mask_of order.flags) ∷ []) new
 
-pub record IsMasterOpened (order : FttOrder) (old new : Held) : Type 0 where
+pub record IsMasterOpened (order : FttOrder) (old new : HandleContent) : Type 0 where
   pub core : CoreView
   pub trail : List ℕ
   pub next : CoreView
@@ -117,14 +117,14 @@ pub record IsMasterOpened (order : FttOrder) (old new : Held) : Type 0 where
   pub order_is : IsCoreOpened order core next
 
 -- the next cycle of a master may be opened
-pub record CanOpenMaster (held : Held) : Type 0 where
+pub record CanOpenMaster (held : HandleContent) : Type 0 where
   pub core : CoreView
   pub trail : List ℕ
   pub is : held ≡ Master core trail
   pub next : core.cycle < openings_end
 
 -- why no cycle is opened: no master is held; or one is, and its next cycle may not be opened
-abbrev pub RefusesOpen : Held → Refusal → Type 0
+abbrev pub RefusesOpen : HandleContent → ExportRefusal → Type 0
 RefusesOpen held refused.Memory = ⊥
 RefusesOpen held refused.Argument = ⊥
 RefusesOpen held refused.Table = ⊥
@@ -137,7 +137,7 @@ RefusesOpen held refused.Text = ⊥
 RefusesOpen held refused.No = ⊥
 
 -- why no master is made where nothing is held: the rules are out of range; or they are not, and there is no memory
-abbrev pub RefusesNew : FttRules → Refusal → Type 0
+abbrev pub RefusesNew : FttRules → ExportRefusal → Type 0
 RefusesNew rules refused.Memory = AreRules rules
 RefusesNew rules refused.Argument = AreRules rules → ⊥
 RefusesNew rules refused.Table = ⊥

@@ -9,27 +9,27 @@ use Rattle.admission.specs.Certified.{IsCertificateFrom}
 use Rattle.master_core.specs.declared.event.Event.{Event}
 use Rattle.master_core.specs.declared.event.Event.TheVariants.{Look}
 use Rattle.master_core.specs.Cores.{CoreView, IsCore, IsStateOf, onward, state_of}
-use Rattle.master_handle.specs.declared.held.Held.{Held}
-use Rattle.master_handle.specs.declared.held.Held.TheVariants.{Master}
+use Rattle.master_handle.specs.declared.held.HandleContent.{HandleContent}
+use Rattle.master_handle.specs.declared.held.HandleContent.TheVariants.{Master}
 use Rattle.fttcan_c.specs.declared.plain.FttMask.{FttMask}
 use Rattle.fttcan_c.specs.declared.plain.FttPlaced.{FttPlaced}
 use Rattle.fttcan_c.specs.declared.plain.FttRules.{FttRules}
-use Rattle.fttcan_c.specs.declared.refusal.Refusal.{Refusal}
-use Rattle.fttcan_c.specs.declared.refusal.Refusal.TheVariants as refused
+use Rattle.fttcan_c.specs.declared.refusal.ExportRefusal.{ExportRefusal}
+use Rattle.fttcan_c.specs.declared.refusal.ExportRefusal.TheVariants as refused
 use Rattle.fttcan_c.specs.Checked.{IsPlanTaken}
 use Rattle.fttcan_c.specs.Mastering.{HoldsMaster, IsCaller}
 use Rattle.fttcan_c.specs.Plain.{mask_of}
 use Rattle.fttcan_c.specs.Told.{mask_told, put_of, rules_told}
 
 -- the cycle is the next one of a master
-pub record IsNextOf (cycle : ℕ) (held : Held) : Type 0 where
+pub record IsNextOf (cycle : ℕ) (held : HandleContent) : Type 0 where
   pub core : CoreView
   pub trail : List ℕ
   pub is : held ≡ Master core trail
   pub cycle_is : cycle ≡ core.cycle
 
 -- an operator looked at it; whoever has the history of the master in mind has it with this look behind it
-pub record IsLookedAt (caller cycle : ℕ) (held : Held) : Type 0 where
+pub record IsLookedAt (caller cycle : ℕ) (held : HandleContent) : Type 0 where
   pub core : CoreView
   pub trail : List ℕ
   pub is : held ≡ Master core trail
@@ -37,21 +37,21 @@ pub record IsLookedAt (caller cycle : ℕ) (held : Held) : Type 0 where
   pub history : (history : List Event) → IsStateOf history core → IsStateOf (history ++ Look caller cycle ∷ []) core
 
 -- the slots that would be flagged now, in a cycle that may be opened
-pub record IsPlannedOf (flags : FttMask) (held : Held) : Type 0 where
+pub record IsPlannedOf (flags : FttMask) (held : HandleContent) : Type 0 where
   pub core : CoreView
   pub trail : List ℕ
   pub is : held ≡ Master core trail
   pub near : core.cycle < openings_end
   pub flags_are : mask_of flags ≡ mask_at (onward core) 0
 
-pub record IsRulesOf (rules : FttRules) (held : Held) : Type 0 where
+pub record IsRulesOf (rules : FttRules) (held : HandleContent) : Type 0 where
   pub core : CoreView
   pub trail : List ℕ
   pub is : held ≡ Master core trail
   pub rules_are : rules ≡ rules_told core.rules
 
 -- the placed entries that are kept, of a core that misses no deadline at any later cycle
-pub record HasTable (list : List FttPlaced) (held : Held) : Type 0 where
+pub record HasTable (list : List FttPlaced) (held : HandleContent) : Type 0 where
   pub core : CoreView
   pub trail : List ℕ
   pub is : held ≡ Master core trail
@@ -59,7 +59,7 @@ pub record HasTable (list : List FttPlaced) (held : Held) : Type 0 where
   pub safe : IsCore core
 
 -- the trail of the last answer
-pub record HasTrail (masks : List FttMask) (held : Held) : Type 0 where
+pub record HasTrail (masks : List FttMask) (held : HandleContent) : Type 0 where
   pub core : CoreView
   pub trail : List ℕ
   pub is : held ≡ Master core trail
@@ -78,14 +78,14 @@ pub record IsPlanTextOf (text : List ℕ) (core : CoreView) : Type 0 where
   pub checked : IsPlanTaken core.placed core.rules.window text
 
 -- so it is of a master
-pub record HasPlanText (text : List ℕ) (held : Held) : Type 0 where
+pub record HasPlanText (text : List ℕ) (held : HandleContent) : Type 0 where
   pub core : CoreView
   pub trail : List ℕ
   pub is : held ≡ Master core trail
   pub of : IsPlanTextOf text core
 
 -- why a master is not read: none is held; or one is, and there is no memory
-abbrev pub RefusesRead : Held → Refusal → Type 0
+abbrev pub RefusesRead : HandleContent → ExportRefusal → Type 0
 RefusesRead held refused.Memory = HoldsMaster held
 RefusesRead held refused.Argument = ⊥
 RefusesRead held refused.Table = ⊥
@@ -98,7 +98,7 @@ RefusesRead held refused.Text = ⊥
 RefusesRead held refused.No = ⊥
 
 -- why an operator does not look at a master: none is held; or one is, and the operator is out of range
-abbrev pub RefusesLook : ℕ → Held → Refusal → Type 0
+abbrev pub RefusesLook : ℕ → HandleContent → ExportRefusal → Type 0
 RefusesLook caller held refused.Memory = ⊥
 RefusesLook caller held refused.Argument = HoldsMaster held × (IsCaller caller → ⊥)
 RefusesLook caller held refused.Table = ⊥

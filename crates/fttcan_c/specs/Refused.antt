@@ -5,12 +5,12 @@ use Rattle.fttcan_c.specs.declared.plain.FttFrame.{FttFrame}
 use Rattle.fttcan_c.specs.declared.plain.FttOp.{FttOp}
 use Rattle.fttcan_c.specs.declared.plain.FttPlaced.{FttPlaced}
 use Rattle.fttcan_c.specs.declared.plain.FttRules.{FttRules}
-use Rattle.fttcan_c.specs.declared.refusal.Refusal.{Refusal}
-use Rattle.fttcan_c.specs.declared.refusal.Refusal.TheVariants.{Memory, Argument, Table, State, Room, Miss, Closed, Open, Text, No}
+use Rattle.fttcan_c.specs.declared.refusal.ExportRefusal.{ExportRefusal}
+use Rattle.fttcan_c.specs.declared.refusal.ExportRefusal.TheVariants.{Memory, Argument, Table, State, Room, Miss, Closed, Open, Text, No}
 use Rattle.fttcan_c.specs.Plain.{AreRules, IsFrameIn, IsOp, table_of}
 
 -- the status of a refusal; 0 is that of a call that did what was asked for
-abbrev pub status_of : Refusal → ℕ
+abbrev pub status_of : ExportRefusal → ℕ
 status_of Memory = 1
 status_of Argument = 2
 status_of Table = 3
@@ -24,15 +24,15 @@ status_of No = 10
 
 -- When a part of what C hands in is refused, and with which of the refusals
 
-abbrev pub RefusesFrame : FttFrame → Refusal → Type 0
+abbrev pub RefusesFrame : FttFrame → ExportRefusal → Type 0
 RefusesFrame frame refusal = (refusal ≡ Argument) × (IsFrameIn frame → ⊥)
 
-abbrev pub RefusesRules : FttRules → Refusal → Type 0
+abbrev pub RefusesRules : FttRules → ExportRefusal → Type 0
 RefusesRules rules refusal = (refusal ≡ Argument) × (AreRules rules → ⊥)
 
 -- want of memory says nothing of a table, and it comes only where the operations are in range
 
-abbrev pub RefusesTable : List FttPlaced → Refusal → Type 0
+abbrev pub RefusesTable : List FttPlaced → ExportRefusal → Type 0
 RefusesTable placed Memory = Unit {0}
 RefusesTable placed Argument = ⊥
 RefusesTable placed Table = IsWellPlaced (table_of placed) → ⊥
@@ -44,7 +44,7 @@ RefusesTable placed Open = ⊥
 RefusesTable placed Text = ⊥
 RefusesTable placed No = ⊥
 
-abbrev pub RefusesOps : List FttOp → Refusal → Type 0
+abbrev pub RefusesOps : List FttOp → ExportRefusal → Type 0
 RefusesOps ops Memory = All IsOp ops
 RefusesOps ops Argument = All IsOp ops → ⊥
 RefusesOps ops Table = ⊥

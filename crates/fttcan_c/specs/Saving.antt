@@ -3,10 +3,10 @@ use Rattle.std.specs.Prelude.{◌≡◌, ℕ, ◌+◌, ◌*◌, [], List, length
 use Rattle.trigger_kind.specs.Kind.{IsSlots}
 use Rattle.master_core.specs.Cores.{CoreView, IsCore, saved_of}
 use Rattle.saved_state.specs.Bytes.{AreBytesOf}
-use Rattle.master_handle.specs.declared.held.Held.{Held}
-use Rattle.master_handle.specs.declared.held.Held.TheVariants.{Master}
-use Rattle.fttcan_c.specs.declared.refusal.Refusal.{Refusal}
-use Rattle.fttcan_c.specs.declared.refusal.Refusal.TheVariants as refused
+use Rattle.master_handle.specs.declared.held.HandleContent.{HandleContent}
+use Rattle.master_handle.specs.declared.held.HandleContent.TheVariants.{Master}
+use Rattle.fttcan_c.specs.declared.refusal.ExportRefusal.{ExportRefusal}
+use Rattle.fttcan_c.specs.declared.refusal.ExportRefusal.TheVariants as refused
 
 -- the bytes are those of what is saved of this core, which misses no deadline at any later cycle, and of no other one
 pub record AreBytesOfCore (bytes : List ℕ) (core : CoreView) : Type 0 where
@@ -16,7 +16,7 @@ pub record AreBytesOfCore (bytes : List ℕ) (core : CoreView) : Type 0 where
   pub only : (other : CoreView) → IsCore other → AreBytesOf (saved_of other) bytes → other ≡ core
 
 -- so they are those of a master
-pub record HasMasterBytes (bytes : List ℕ) (held : Held) : Type 0 where
+pub record HasMasterBytes (bytes : List ℕ) (held : HandleContent) : Type 0 where
   pub core : CoreView
   pub trail : List ℕ
   pub is : held ≡ Master core trail
@@ -41,13 +41,13 @@ pub record IsCoreOfBytes (bytes : List ℕ) (core : CoreView) : Type 0 where
   pub only : (other : CoreView) → IsCore other → AreBytesOf (saved_of other) bytes → other ≡ core
 
 -- a master was made of them, which was asked for nothing yet
-pub record IsRestored (bytes : List ℕ) (held : Held) : Type 0 where
+pub record IsRestored (bytes : List ℕ) (held : HandleContent) : Type 0 where
   pub core : CoreView
   pub is : held ≡ Master core []
   pub of : IsCoreOfBytes bytes core
 
 -- why no master is made of bytes: no core has them; want of memory says nothing
-abbrev pub RefusesRestore : List ℕ → Refusal → Type 0
+abbrev pub RefusesRestore : List ℕ → ExportRefusal → Type 0
 RefusesRestore bytes refused.Memory = Unit {0}
 RefusesRestore bytes refused.Argument = ⊥
 RefusesRestore bytes refused.Table = ⊥

@@ -7,8 +7,8 @@ use Rattle.trigger_codec.specs.Bytes.{triggers_with}
 use Rattle.trigger_codec.specs.Heard.{heard_of}
 use Rattle.fttcan_c.specs.declared.plain.FttFrame.{FttFrame}
 use Rattle.fttcan_c.specs.declared.plain.FttTrigger.{FttTrigger}
-use Rattle.fttcan_c.specs.declared.refusal.Refusal.{Refusal}
-use Rattle.fttcan_c.specs.declared.refusal.Refusal.TheVariants.{Memory, Argument, Table, State, Room, Miss, Closed, Open, Text, No}
+use Rattle.fttcan_c.specs.declared.refusal.ExportRefusal.{ExportRefusal}
+use Rattle.fttcan_c.specs.declared.refusal.ExportRefusal.TheVariants.{Memory, Argument, Table, State, Room, Miss, Closed, Open, Text, No}
 use Rattle.fttcan_c.specs.Plain.{IsFrameIn, frame_of, frames_of, mask_of}
 
 -- the frames that tell a trigger
@@ -27,7 +27,7 @@ IsNoTrigger slots frames = (cycle : ℕ) → heard_of slots cycle frames ≡ Non
 
 -- why frames are not read as a trigger: there is no such number of slots, or one of them is out of range; or all this is
 -- in range, and they are no trigger
-abbrev pub RefusesTrigger : ℕ → List FttFrame → Refusal → Type 0
+abbrev pub RefusesTrigger : ℕ → List FttFrame → ExportRefusal → Type 0
 RefusesTrigger slots frames Memory = ⊥
 RefusesTrigger slots frames Argument = IsSlots slots × (All IsFrameIn frames) → ⊥
 RefusesTrigger slots frames Table = ⊥
@@ -41,8 +41,8 @@ RefusesTrigger slots frames No = ⊥
 
 -- the same of one frame, with as many slots as it flags, and of two
 
-abbrev pub RefusesOne : FttFrame → Refusal → Type 0
+abbrev pub RefusesOne : FttFrame → ExportRefusal → Type 0
 RefusesOne only refusal = RefusesTrigger first_slots (only ∷ []) refusal
 
-abbrev pub RefusesTwo : FttFrame → FttFrame → Refusal → Type 0
+abbrev pub RefusesTwo : FttFrame → FttFrame → ExportRefusal → Type 0
 RefusesTwo first second refusal = RefusesTrigger most_slots (first ∷ second ∷ []) refusal

@@ -7,8 +7,8 @@ ghost use Rattle.requirement_table.specs.Table.{IsWellPlaced};
 ghost use Rattle.admission.specs.Verdict.{IsRules, IsSafe, ranking_by};
 ghost use Rattle.fttcan_c.specs.declared.plain.FttPlaced.{FttPlaced as FttPlacedOf};
 ghost use Rattle.fttcan_c.specs.declared.plain.FttVerdict.{FttVerdict as FttVerdictOf};
-ghost use Rattle.fttcan_c.specs.declared.refusal.Refusal.{Refusal as RefusalOf};
-ghost use Rattle.fttcan_c.specs.declared.refusal.Refusal.TheVariants.{State};
+ghost use Rattle.fttcan_c.specs.declared.refusal.ExportRefusal.{ExportRefusal as RefusalOf};
+ghost use Rattle.fttcan_c.specs.declared.refusal.ExportRefusal.TheVariants.{State};
 ghost use Rattle.fttcan_c.specs.Admit.{AreAsked, IsDecided, IsDecidedOn, IsPlanState, IsStateOpened, RefusesChange, RefusesOpening, RefusesStanding};
 ghost use Rattle.fttcan_c.specs.Plain.{AreRules, mask_of, rules_of, state_of, table_of};
 ghost use Rattle.fttcan_c.specs.Refused.{status_of};
@@ -18,7 +18,7 @@ ghost use Rattle.fttcan_c.specs.Told.{table_told};
 use crate::plain::{FttOp, FttPlaced, FttPlan, FttRules, FttState, FttVerdict};
 use crate::plain_in::{change_in, is_mask, mask_in, rules_in, table_in};
 use crate::plain_out::{mask_out, table_out, verdict_out};
-use crate::refusal::{OK, Refusal};
+use crate::refusal::{ExportRefusal, OK};
 use crate::room::put;
 use admission::{Decision, Rules, decide};
 use change_protocol::Change;
@@ -42,7 +42,7 @@ fn standing_in(
     rules: Rules,
     placed: &[FttPlaced],
     state: &FttState,
-) -> Result<Standing, Refusal>
+) -> Result<Standing, ExportRefusal>
     requires known { IsRules rules }
     ensures rules { IfOk result (λ standing. standing.rules ≡ rules) }
     ensures list { IfOk result (λ standing. standing.list.items ≡ table_of placed.now) }
@@ -68,7 +68,7 @@ fn standing_in(
 }
 
 /// The state of a plan.
-fn state_in(ranked: &Ranked, state: &FttState) -> Result<PlanState, Refusal>
+fn state_in(ranked: &Ranked, state: &FttState) -> Result<PlanState, ExportRefusal>
     ensures state { IfOk result (λ made. made ≡ state_of state.now) }
     ensures near { IfOk result (λ made. made.cycle ≤ openings_end) }
     ensures held { IfOk result (λ made. IsValid ranked.now.placed made.cycle made.pending) }
@@ -76,14 +76,14 @@ fn state_in(ranked: &Ranked, state: &FttState) -> Result<PlanState, Refusal>
     ensures refused { IfErr result (λ refusal. (refusal ≡ State) × (IsPlanState ranked.now.placed state.now → ⊥)) }
 {
     if state.cycle > OPENINGS_END || !is_mask(state.pending) {
-        return Err(Refusal::State);
+        return Err(ExportRefusal::State);
     }
     let made = PlanState {
         cycle: state.cycle,
         pending: mask_in(state.pending),
     };
     if !valid(ranked, &made) {
-        return Err(Refusal::State);
+        return Err(ExportRefusal::State);
     }
     Ok(made)
 }
@@ -96,7 +96,7 @@ fn decided(
     state: &FttState,
     start: u64,
     ops: &[FttOp],
-) -> Result<(FttVerdict, Vec<FttPlaced>), Refusal>
+) -> Result<(FttVerdict, Vec<FttPlaced>), ExportRefusal>
     ensures decided { IfOk result (λ r. IsDecided rules.now placed.now state.now start ops.now r.0 r.1.items) }
     ensures known { IfOk result (λ _. AreAsked rules.now ops.now) }
     ensures refused { IfErr result (RefusesChange rules.now placed.now state.now ops.now) }
@@ -191,7 +191,7 @@ fn planned(
     rules: &FttRules,
     placed: &[FttPlaced],
     state: &FttState,
-) -> Result<(FttPlan, FttState), Refusal>
+) -> Result<(FttPlan, FttState), ExportRefusal>
     ensures opened { IfOk result (λ r. IsStateOpened rules.now placed.now state.now r.1 r.0) }
     ensures known { IfOk result (λ _. AreRules rules.now) }
     ensures refused { IfErr result (RefusesOpening rules.now placed.now state.now) }
@@ -199,11 +199,11 @@ fn planned(
     let rules = rules_in(rules)?;
     let standing = standing_in(alloc, rules, placed, state)?;
     if standing.state.cycle >= OPENINGS_END {
-        return Err(Refusal::State);
+        return Err(ExportRefusal::State);
     }
     match plan_with_width(&standing.ranked, standing.rules.window, &standing.state) {
         Ok(planned) => Ok((plan_out(&planned), state_out(&planned.next))),
-        Err(_) => Err(Refusal::Miss),
+        Err(_) => Err(ExportRefusal::Miss),
     }
 }
 

@@ -1,9 +1,9 @@
 //! A change that is planned in another thread, while cycles are opened.
 
 ghost use Rattle.std.specs.Prelude.{◌≡◌, ◌≢◌, ◌≤◌, ◌↔◌, None, Some, All, IfErr, IfOk, IsTrue, OnErr, OnOk};
-ghost use Rattle.master_handle.specs.declared.held.Held.{Held as HeldOf};
-ghost use Rattle.fttcan_c.specs.declared.refusal.Refusal.{Refusal as RefusalOf};
-ghost use Rattle.fttcan_c.specs.declared.refusal.Refusal.TheVariants.{Closed};
+ghost use Rattle.master_handle.specs.declared.held.HandleContent.{HandleContent as HeldOf};
+ghost use Rattle.fttcan_c.specs.declared.refusal.ExportRefusal.{ExportRefusal as RefusalOf};
+ghost use Rattle.fttcan_c.specs.declared.refusal.ExportRefusal.TheVariants.{Closed};
 ghost use Rattle.fttcan_c.specs.Apart.{HoldsPlanned, IsPlannedApart, IsPlannedTold, IsSnapshot, IsSnapshotOf, RefusesApart, RefusesPlanning};
 ghost use Rattle.fttcan_c.specs.Mastering.{Holds};
 ghost use Rattle.fttcan_c.specs.Plain.{IsOp, change_of};
@@ -13,26 +13,26 @@ ghost use Rattle.fttcan_c.specs.Refused.{status_of};
 use crate::plain::{FttOp, FttVerdict};
 use crate::plain_in::change_in;
 use crate::plain_out::verdict_out;
-use crate::refusal::{OK, Refusal};
+use crate::refusal::{ExportRefusal, OK};
 use change_protocol::Change;
-use master_handle::{FttHandle, Held};
+use master_handle::{FttHandle, HandleContent};
 use std::alloc::Global;
 use std::mem;
 
 /// A snapshot of a master, in a box of its own.
-fn snapshot_of(alloc: Global, held: &Held) -> Result<Box<Held>, Refusal>
+fn snapshot_of(alloc: Global, held: &HandleContent) -> Result<Box<HandleContent>, ExportRefusal>
     ensures snapshot { IfOk result (λ made. IsSnapshotOf held.now made.value) }
     ensures refused { IfErr result (RefusesRead held.now) }
 {
     match held {
-        Held::Master { core, trail: _ } => {
+        HandleContent::Master { core, trail: _ } => {
             let snapshot = core.snapshot(alloc)?;
-            match Box::new(alloc, Held::Snapshot { snapshot }) {
+            match Box::new(alloc, HandleContent::Snapshot { snapshot }) {
                 Ok(made) => Ok(made),
-                Err(_) => Err(Refusal::Memory),
+                Err(_) => Err(ExportRefusal::Memory),
             }
         }
-        _ => Err(Refusal::Closed),
+        _ => Err(ExportRefusal::Closed),
     }
 }
 
@@ -51,10 +51,10 @@ pub extern "C" fn fttcan_master_snapshot(m: &mut FttHandle, alloc: Global, s: &m
 {
     if let Some(old) = mem::replace(s, FttHandle::none()).into_box(alloc) {
         *s = FttHandle::of(old);
-        return Refusal::Open.status();
+        return ExportRefusal::Open.status();
     }
     let Some(held) = mem::replace(m, FttHandle::none()).into_box(alloc) else {
-        return Refusal::Closed.status();
+        return ExportRefusal::Closed.status();
     };
     let answer = snapshot_of(alloc, &held);
     *m = FttHandle::of(held);
@@ -76,49 +76,58 @@ pub extern "C" fn fttcan_snapshot_free(s: &mut FttHandle, alloc: Global)
 }
 
 /// Plans a change from a snapshot, in its box.
-fn planned_apart(alloc: Global, held: &mut Held, start: u64, ops: &[FttOp]) -> Result<(), Refusal>
+fn planned_apart(
+    alloc: Global,
+    held: &mut HandleContent,
+    start: u64,
+    ops: &[FttOp],
+) -> Result<(), ExportRefusal>
     ensures planned { OnOk result (IsPlannedApart (change_of start ops.now) held.old held.new) }
     ensures known { OnOk result (All IsOp ops.now) }
     ensures same { OnErr result (held.new ≡ held.old) }
     ensures refused { IfErr result (RefusesApart ops.now held.old) }
 {
     if !holds_snapshot(held) {
-        return Err(Refusal::Closed);
+        return Err(ExportRefusal::Closed);
     }
     let change = change_in(alloc, start, ops)?;
     planned_in_place(alloc, held, &change)
 }
 
 /// Whether a snapshot is held.
-fn holds_snapshot(held: &Held) -> bool
+fn holds_snapshot(held: &HandleContent) -> bool
     ensures snapshot { IsTrue result ↔ IsSnapshot held.now }
 {
     match held {
-        Held::Snapshot { .. } => true,
+        HandleContent::Snapshot { .. } => true,
         _ => false,
     }
 }
 
 /// Plans a change from a snapshot, and puts the plan in its place.
-fn planned_in_place(alloc: Global, held: &mut Held, change: &Change) -> Result<(), Refusal>
+fn planned_in_place(
+    alloc: Global,
+    held: &mut HandleContent,
+    change: &Change,
+) -> Result<(), ExportRefusal>
     ensures planned { OnOk result (IsPlannedApart change.now held.old held.new) }
     ensures same { OnErr result (held.new ≡ held.old) }
     ensures refused { IfErr result (RefusesPlanning held.old) }
 {
-    match mem::replace(held, Held::Moved) {
-        Held::Snapshot { snapshot } => match snapshot.plan(alloc, change) {
+    match mem::replace(held, HandleContent::Moved) {
+        HandleContent::Snapshot { snapshot } => match snapshot.plan(alloc, change) {
             Ok(planned) => {
-                *held = Held::Planned { planned };
+                *held = HandleContent::Planned { planned };
                 Ok(())
             }
             Err(snapshot) => {
-                *held = Held::Snapshot { snapshot };
-                Err(Refusal::Memory)
+                *held = HandleContent::Snapshot { snapshot };
+                Err(ExportRefusal::Memory)
             }
         },
         other => {
             *held = other;
-            Err(Refusal::Closed)
+            Err(ExportRefusal::Closed)
         }
     }
 }
@@ -144,10 +153,10 @@ pub extern "C" fn fttcan_plan_apart(
 {
     if let Some(old) = mem::replace(p, FttHandle::none()).into_box(alloc) {
         *p = FttHandle::of(old);
-        return Refusal::Open.status();
+        return ExportRefusal::Open.status();
     }
     let Some(mut held) = mem::replace(s, FttHandle::none()).into_box(alloc) else {
-        return Refusal::Closed.status();
+        return ExportRefusal::Closed.status();
     };
     match planned_apart(alloc, &mut held, start, ops) {
         Ok(()) => {
@@ -162,13 +171,13 @@ pub extern "C" fn fttcan_plan_apart(
 }
 
 /// What was decided of a planned change when its snapshot was taken.
-fn verdict_in(held: &Held) -> Result<FttVerdict, Refusal>
+fn verdict_in(held: &HandleContent) -> Result<FttVerdict, ExportRefusal>
     ensures verdict { IfOk result (λ verdict. IsPlannedTold verdict held.now) }
     ensures refused { IfErr result (λ refusal. (refusal ≡ Closed) × (HoldsPlanned held.now → ⊥)) }
 {
     match held {
-        Held::Planned { planned } => Ok(verdict_out(&planned.verdict())),
-        _ => Err(Refusal::Closed),
+        HandleContent::Planned { planned } => Ok(verdict_out(&planned.verdict())),
+        _ => Err(ExportRefusal::Closed),
     }
 }
 
@@ -186,7 +195,7 @@ pub extern "C" fn fttcan_planned_verdict(
     ensures empty { p.old.value ≡ None → result ≡ 7 }
 {
     let Some(held) = mem::replace(p, FttHandle::none()).into_box(alloc) else {
-        return Refusal::Closed.status();
+        return ExportRefusal::Closed.status();
     };
     let answer = verdict_in(&held);
     *p = FttHandle::of(held);

@@ -1,15 +1,15 @@
 //! How long asynchronous frames wait at most.
 
 ghost use Rattle.std.specs.Prelude.{◌≡◌, ◌≢◌, ℕ, ◌≤◌, Some, length, slice_get};
-ghost use Rattle.async_bound.specs.declared.stream.Stream.{Stream as StreamOf};
+ghost use Rattle.async_bound.specs.declared.stream.BurstStream.{BurstStream as StreamOf};
 ghost use Rattle.async_bound.specs.Bound.{Fits, IsLeastFitting};
 ghost use Rattle.fttcan_c.specs.Bounds.{IsBoundAsked};
 ghost use Rattle.fttcan_c.specs.Plain.{layout_of};
 
 use crate::frames::layout_in;
 use crate::plain::FttLayout;
-use crate::refusal::{OK, Refusal};
-use async_bound::{Stream, are_streams, start_bound};
+use crate::refusal::{ExportRefusal, OK};
+use async_bound::{BurstStream, are_streams, start_bound};
 
 /// The most streams of a call.
 const MOST_STREAMS: usize = 2_048;
@@ -20,7 +20,7 @@ const MOST_STREAMS: usize = 2_048;
 #[unsafe(no_mangle)]
 pub extern "C" fn fttcan_async_bound(
     layout: &FttLayout,
-    streams: &[Stream],
+    streams: &[BurstStream],
     which: usize,
     start: &mut u64,
 ) -> u32
@@ -34,7 +34,7 @@ pub extern "C" fn fttcan_async_bound(
         × (IsBoundAsked layout.now streams.now which → ⊥) }
 {
     if streams.len() > MOST_STREAMS || which >= streams.len() || !are_streams(streams) {
-        return Refusal::Argument.status();
+        return ExportRefusal::Argument.status();
     }
     let made = match layout_in(layout) {
         Ok(made) => made,
@@ -45,6 +45,6 @@ pub extern "C" fn fttcan_async_bound(
             *start = found;
             OK
         }
-        None => Refusal::No.status(),
+        None => ExportRefusal::No.status(),
     }
 }

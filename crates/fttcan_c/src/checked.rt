@@ -7,8 +7,8 @@ ghost use Rattle.plan_check.specs.PlanKept.{HasPending};
 ghost use Rattle.plan_check.specs.PlanText.{IsFirstWrongLine, IsTextOfPlan};
 ghost use Rattle.plan_check.specs.declared.text_fault.PlanTextFault.{PlanTextFault as PlanTextFaultOf};
 ghost use Rattle.fttcan_c.specs.declared.checked.Finding.TheVariants.{Kept};
-ghost use Rattle.fttcan_c.specs.declared.refusal.Refusal.{Refusal as RefusalOf};
-ghost use Rattle.fttcan_c.specs.declared.refusal.Refusal.TheVariants.{Memory};
+ghost use Rattle.fttcan_c.specs.declared.refusal.ExportRefusal.{ExportRefusal as RefusalOf};
+ghost use Rattle.fttcan_c.specs.declared.refusal.ExportRefusal.TheVariants.{Memory};
 ghost use Rattle.fttcan_c.specs.Checked.{BeginsRight, IsFinding, IsPlanBroken, IsPlanTaken, RefusesPlan, RefusesPlanOf};
 ghost use Rattle.fttcan_c.specs.Plain.{table_of};
 ghost use Rattle.fttcan_c.specs.Refused.{status_of};
@@ -16,7 +16,7 @@ ghost use Rattle.fttcan_c.specs.Refused.{status_of};
 use crate::plain::{FttBreach, FttPlaced};
 use crate::plain_in::table_in;
 use crate::plain_out::breach_out;
-use crate::refusal::{OK, Refusal};
+use crate::refusal::{ExportRefusal, OK};
 use plan_check::{Certificate, PlanTextFault, check, read_plan};
 use planner_policies::{Fill, PlanState, Policy, rank, valid};
 use profile::CYCLES_END;
@@ -58,7 +58,12 @@ fn begins_right(
 
 /// What is found of the text of a plan of a table, within a window of so many bit times.
 #[tactic(auto, using(crate::proofs::Taken::only_memory))]
-fn found(alloc: Global, placed: &[FttPlaced], window: u32, text: &[u8]) -> Result<Finding, Refusal>
+fn found(
+    alloc: Global,
+    placed: &[FttPlaced],
+    window: u32,
+    text: &[u8],
+) -> Result<Finding, ExportRefusal>
     ensures found { IfOk result (IsFinding (table_of placed.now) window text.now) }
     ensures complete { IsPlanTaken (table_of placed.now) window text.now
         → MatchResult result (λ finding. finding ≡ Kept) (λ refusal. refusal ≡ Memory) }
@@ -69,7 +74,12 @@ fn found(alloc: Global, placed: &[FttPlaced], window: u32, text: &[u8]) -> Resul
 }
 
 /// What is found of the text of a plan of a well placed list.
-fn found_in(alloc: Global, list: &[Placed], window: u32, text: &[u8]) -> Result<Finding, Refusal>
+fn found_in(
+    alloc: Global,
+    list: &[Placed],
+    window: u32,
+    text: &[u8],
+) -> Result<Finding, ExportRefusal>
     requires well_placed { IsWellPlaced list.now }
     ensures found { IfOk result (IsFinding list.now window text.now) }
     ensures complete { IsPlanTaken list.now window text.now
@@ -78,11 +88,11 @@ fn found_in(alloc: Global, list: &[Placed], window: u32, text: &[u8]) -> Result<
 {
     let certificate = match read_plan(alloc, text) {
         Ok(certificate) => certificate,
-        Err(PlanTextFault::Memory) => return Err(Refusal::Memory),
+        Err(PlanTextFault::Memory) => return Err(ExportRefusal::Memory),
         Err(PlanTextFault::Line { number }) => return Ok(Finding::Unread { number }),
     };
     if !begins_right(alloc, list, &certificate)? {
-        return Err(Refusal::State);
+        return Err(ExportRefusal::State);
     }
     match check(list, window, &certificate) {
         Ok(()) => Ok(Finding::Kept),
@@ -118,11 +128,11 @@ pub extern "C" fn fttcan_check(
         Ok(Finding::Kept) => OK,
         Ok(Finding::Broken { breach: first }) => {
             *breach = first;
-            Refusal::No.status()
+            ExportRefusal::No.status()
         }
         Ok(Finding::Unread { number }) => {
             breach.first = number;
-            Refusal::Text.status()
+            ExportRefusal::Text.status()
         }
         Err(refusal) => refusal.status(),
     }

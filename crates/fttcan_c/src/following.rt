@@ -3,10 +3,10 @@
 ghost use Rattle.std.specs.Prelude.{◌≡◌, ◌≢◌, [], Some, None, false, true, IfErr, IfOk, OnErr, OnOk};
 ghost use Rattle.admission.specs.Verdict.{is_accepted};
 ghost use Rattle.master_core.specs.Cores.{new_core};
-ghost use Rattle.master_handle.specs.declared.held.Held.{Held as HeldOf};
-ghost use Rattle.master_handle.specs.declared.held.Held.TheVariants.{Standby};
-ghost use Rattle.fttcan_c.specs.declared.refusal.Refusal.{Refusal as RefusalOf};
-ghost use Rattle.fttcan_c.specs.declared.refusal.Refusal.TheVariants.{Closed};
+ghost use Rattle.master_handle.specs.declared.held.HandleContent.{HandleContent as HeldOf};
+ghost use Rattle.master_handle.specs.declared.held.HandleContent.TheVariants.{Standby};
+ghost use Rattle.fttcan_c.specs.declared.refusal.ExportRefusal.{ExportRefusal as RefusalOf};
+ghost use Rattle.fttcan_c.specs.declared.refusal.ExportRefusal.TheVariants.{Closed};
 ghost use Rattle.fttcan_c.specs.Following.{HoldsStandby, IsChangeTold, IsDue, IsDueChange, IsExpected, IsInEffect, IsStandbyTakenOver, RefusesChangeTold, TakesEffect};
 ghost use Rattle.fttcan_c.specs.Mastering.{Holds, IsCoreSubmitted, MayAsk, RefusesAsked, RefusesNew};
 ghost use Rattle.fttcan_c.specs.Plain.{AreRules, change_of, rules_of};
@@ -16,27 +16,27 @@ use crate::master::asked;
 use crate::plain::{FttOp, FttRules, FttVerdict};
 use crate::plain_in::rules_in;
 use crate::plain_out::verdict_out;
-use crate::refusal::{OK, Refusal};
+use crate::refusal::{ExportRefusal, OK};
 use admission::Trail;
 use change_protocol::laws::lists_after_a_change;
 use master_core::laws::accepted_anew;
 use master_core::{Answered, Core};
-use master_handle::{FttHandle, Held};
+use master_handle::{FttHandle, HandleContent};
 use standby::laws::one_core;
 use std::alloc::Global;
 use std::mem;
 
 /// A standby that was told nothing yet, in a box of its own.
-fn made(alloc: Global, rules: &FttRules) -> Result<Box<Held>, Refusal>
+fn made(alloc: Global, rules: &FttRules) -> Result<Box<HandleContent>, ExportRefusal>
     ensures standby { IfOk result (λ held. held.value ≡ Standby (new_core (rules_of rules.now) true)) }
     ensures known { IfOk result (λ _. AreRules rules.now) }
     ensures refused { IfErr result (RefusesNew rules.now) }
 {
     let rules = rules_in(rules)?;
     let core = Core::new(alloc, rules, true)?;
-    match Box::new(alloc, Held::Standby { core }) {
+    match Box::new(alloc, HandleContent::Standby { core }) {
         Ok(held) => Ok(held),
-        Err(_) => Err(Refusal::Memory),
+        Err(_) => Err(ExportRefusal::Memory),
     }
 }
 
@@ -54,7 +54,7 @@ pub extern "C" fn fttcan_standby_new(s: &mut FttHandle, alloc: Global, rules: &F
 {
     if let Some(held) = mem::replace(s, FttHandle::none()).into_box(alloc) {
         *s = FttHandle::of(held);
-        return Refusal::Open.status();
+        return ExportRefusal::Open.status();
     }
     match made(alloc, rules) {
         Ok(held) => {
@@ -88,7 +88,7 @@ fn answered_to(
     caller: u8,
     start: u64,
     ops: &[FttOp],
-) -> Result<Answered, Refusal>
+) -> Result<Answered, ExportRefusal>
     ensures answered { IfOk result (IsCoreSubmitted caller (change_of start ops.now) core.old core.new) }
     ensures effect { IfOk result (λ answered. is_accepted answered.verdict ≡ true
         → IsInEffect (change_of start ops.now) core.old) }
@@ -109,11 +109,11 @@ fn answered_to(
 /// Tells a standby a change that the master accepted. It is unchanged where it would not accept it.
 fn changed(
     alloc: Global,
-    held: &mut Held,
+    held: &mut HandleContent,
     caller: u8,
     start: u64,
     ops: &[FttOp],
-) -> Result<Reply, Refusal>
+) -> Result<Reply, ExportRefusal>
     ensures answered { IfOk result (λ reply. IsChangeTold reply.accepted caller start ops.now reply.verdict held.old held.new) }
     ensures unfollowed { IfOk result (λ reply. reply.accepted ≡ false → held.new ≡ held.old) }
     ensures effect { IfOk result (λ reply. reply.accepted ≡ true → TakesEffect (change_of start ops.now) held.old) }
@@ -123,7 +123,7 @@ fn changed(
     ensures refused { IfErr result (RefusesChangeTold caller ops.now held.old) }
 {
     match held {
-        Held::Standby { core } => {
+        HandleContent::Standby { core } => {
             let Answered {
                 from: _,
                 verdict,
@@ -134,7 +134,7 @@ fn changed(
                 verdict: verdict_out(&verdict),
             })
         }
-        _ => Err(Refusal::Closed),
+        _ => Err(ExportRefusal::Closed),
     }
 }
 
@@ -165,7 +165,7 @@ pub extern "C" fn fttcan_standby_change(
     ensures empty { s.old.value ≡ None → result ≡ 7 }
 {
     let Some(mut held) = mem::replace(s, FttHandle::none()).into_box(alloc) else {
-        return Refusal::Closed.status();
+        return ExportRefusal::Closed.status();
     };
     let answer = changed(alloc, &mut held, caller, start, ops);
     *s = FttHandle::of(held);
@@ -175,7 +175,7 @@ pub extern "C" fn fttcan_standby_change(
             if reply.accepted {
                 OK
             } else {
-                Refusal::No.status()
+                ExportRefusal::No.status()
             }
         }
         Err(refusal) => refusal.status(),
@@ -183,13 +183,13 @@ pub extern "C" fn fttcan_standby_change(
 }
 
 /// The next cycle of a standby.
-fn expected(held: &Held) -> Result<u64, Refusal>
+fn expected(held: &HandleContent) -> Result<u64, ExportRefusal>
     ensures next { IfOk result (λ cycle. IsExpected cycle held.now) }
     ensures refused { IfErr result (λ refusal. (refusal ≡ Closed) × (HoldsStandby held.now → ⊥)) }
 {
     match held {
-        Held::Standby { core } => Ok(core.next()),
-        _ => Err(Refusal::Closed),
+        HandleContent::Standby { core } => Ok(core.next()),
+        _ => Err(ExportRefusal::Closed),
     }
 }
 
@@ -203,7 +203,7 @@ pub extern "C" fn fttcan_standby_next(s: &mut FttHandle, alloc: Global, cycle: &
     ensures empty { s.old.value ≡ None → result ≡ 7 }
 {
     let Some(held) = mem::replace(s, FttHandle::none()).into_box(alloc) else {
-        return Refusal::Closed.status();
+        return ExportRefusal::Closed.status();
     };
     let answer = expected(&held);
     *s = FttHandle::of(held);
@@ -217,20 +217,20 @@ pub extern "C" fn fttcan_standby_next(s: &mut FttHandle, alloc: Global, cycle: &
 }
 
 /// Makes a master of a standby, in its box. It takes no memory.
-fn taken_over(alloc: Global, held: &mut Held) -> Result<(), Refusal>
+fn taken_over(alloc: Global, held: &mut HandleContent) -> Result<(), ExportRefusal>
     ensures taken { OnOk result (IsStandbyTakenOver held.old held.new) }
     ensures same { OnErr result (held.new ≡ held.old) }
     ensures refused { IfErr result (λ refusal. (refusal ≡ Closed) × (HoldsStandby held.old → ⊥)) }
 {
-    match mem::replace(held, Held::Moved) {
-        Held::Standby { core } => {
+    match mem::replace(held, HandleContent::Moved) {
+        HandleContent::Standby { core } => {
             let trail = Trail::of(Vec::new(alloc));
-            *held = Held::Master { core, trail };
+            *held = HandleContent::Master { core, trail };
             Ok(())
         }
         other => {
             *held = other;
-            Err(Refusal::Closed)
+            Err(ExportRefusal::Closed)
         }
     }
 }
@@ -253,10 +253,10 @@ pub extern "C" fn fttcan_standby_take_over(
 {
     if let Some(old) = mem::replace(m, FttHandle::none()).into_box(alloc) {
         *m = FttHandle::of(old);
-        return Refusal::Open.status();
+        return ExportRefusal::Open.status();
     }
     let Some(mut held) = mem::replace(s, FttHandle::none()).into_box(alloc) else {
-        return Refusal::Closed.status();
+        return ExportRefusal::Closed.status();
     };
     match taken_over(alloc, &mut held) {
         Ok(()) => {

@@ -9,9 +9,9 @@ ghost use Rattle.can_frame.specs.Wire.{wire_length, wire_of};
 ghost use Rattle.can_frame.specs.declared.wire_fault.WireFault.{WireFault as WireFaultOf};
 ghost use Rattle.cycle_layout.specs.Layout.{IsAllowed, IsLayout};
 ghost use Rattle.requirement_table.specs.Instance.{payload};
-ghost use Rattle.fttcan_c.specs.declared.refusal.Refusal.{Refusal as RefusalOf};
-ghost use Rattle.fttcan_c.specs.declared.refusal.Refusal.TheVariants.{Argument};
-ghost use Rattle.fttcan_c.specs.Framing.{IsAskedFor, RefusesBits, RefusesFits, RefusesWire, data_frame};
+ghost use Rattle.fttcan_c.specs.declared.refusal.ExportRefusal.{ExportRefusal as RefusalOf};
+ghost use Rattle.fttcan_c.specs.declared.refusal.ExportRefusal.TheVariants.{Argument};
+ghost use Rattle.fttcan_c.specs.Framing.{IsFitAsked, RefusesBits, RefusesFits, RefusesWire, data_frame};
 ghost use Rattle.fttcan_c.specs.Plain.{bit_of, layout_of};
 ghost use Rattle.fttcan_c.specs.Refused.{status_of};
 ghost use Rattle.fttcan_c.specs.Room.{IsRoomFilled, IsRoomShort};
@@ -19,7 +19,7 @@ ghost use Rattle.fttcan_c.specs.Told.{frame_told, place_told};
 
 use crate::plain::{FttFrame, FttLayout};
 use crate::plain_out::frame_out;
-use crate::refusal::{OK, Refusal};
+use crate::refusal::{ExportRefusal, OK};
 use crate::room::put;
 use can_frame::laws::wire_lengths;
 use can_frame::{Frame, WireFault, read_wire, wire, wire_len};
@@ -42,19 +42,19 @@ pub extern "C" fn fttcan_wire_length(id: u16, bytes: &[u8], bits: &mut u32) -> u
             *bits = wire_len(&frame);
             OK
         }
-        Err(_) => Refusal::Argument.status(),
+        Err(_) => ExportRefusal::Argument.status(),
     }
 }
 
 /// The bits of a frame on the wire, one a byte: 0 is dominant and 1 recessive.
-fn wire_bytes(alloc: Global, id: u16, bytes: &[u8]) -> Result<Vec<u8>, Refusal>
+fn wire_bytes(alloc: Global, id: u16, bytes: &[u8]) -> Result<Vec<u8>, ExportRefusal>
     ensures bits { IfOk result (λ bits. IsFrame (data_frame id bytes.now)
         × (bits.items ≡ map from_bool (wire_of (data_frame id bytes.now)))) }
     ensures most { IfOk result (λ bits. length bits.items ≤ 135) }
     ensures refused { IfErr result (RefusesWire id bytes.now) }
 {
     let Ok(frame) = Frame::new(id, bytes) else {
-        return Err(Refusal::Argument);
+        return Err(ExportRefusal::Argument);
     };
     wire_lengths();
     let bits = wire(alloc, &frame)?;
@@ -112,13 +112,13 @@ fn bits_of(alloc: Global, bytes: &[u8]) -> Result<Vec<bool>, AllocError>
 }
 
 /// Bytes as bits, which are 0 or 1 each.
-fn bits_in(alloc: Global, bytes: &[u8]) -> Result<Vec<bool>, Refusal>
+fn bits_in(alloc: Global, bytes: &[u8]) -> Result<Vec<bool>, ExportRefusal>
     ensures bits { IfOk result (λ bits. bits.items ≡ map bit_of bytes.now) }
     ensures known { OnOk result (All (λ byte. byte ≤ 1) bytes.now) }
     ensures refused { IfErr result (RefusesBits bytes.now) }
 {
     if !are_bits(bytes) {
-        return Err(Refusal::Argument);
+        return Err(ExportRefusal::Argument);
     }
     let bits = bits_of(alloc, bytes)?;
     Ok(bits)
@@ -166,7 +166,7 @@ pub extern "C" fn fttcan_read_wire(
         }
         Err(fault) => {
             *place = place_of(bits.len(), &fault);
-            Refusal::Text.status()
+            ExportRefusal::Text.status()
         }
     }
 }
@@ -178,7 +178,7 @@ pub extern "C" fn fttcan_payload(number: u64, room: &mut [u8]) -> u32
     ensures refused { result ≢ 0 → (room.new ≡ room.old) × (result ≡ 2) × (length room.old ≤ 8 → ⊥) }
 {
     if room.len() > 8 {
-        return Refusal::Argument.status();
+        return ExportRefusal::Argument.status();
     }
     let payload = Payload::of(room.len() as u8, number);
     room.copy_from_slice(payload.as_slice());
@@ -186,17 +186,17 @@ pub extern "C" fn fttcan_payload(number: u64, room: &mut [u8]) -> u32
 }
 
 /// The layout of a cycle.
-pub fn layout_in(layout: &FttLayout) -> Result<Layout, Refusal>
+pub fn layout_in(layout: &FttLayout) -> Result<Layout, ExportRefusal>
     ensures layout { IfOk result (λ made. made ≡ layout_of layout.now) }
     ensures known { IfOk result IsLayout }
     ensures refused { IfErr result (λ refusal. (refusal ≡ Argument) × (IsLayout (layout_of layout.now) → ⊥)) }
 {
     if !are_slots(layout.slots) {
-        return Err(Refusal::Argument);
+        return Err(ExportRefusal::Argument);
     }
     match Layout::new(layout.cycle, layout.turnaround, layout.window, layout.slots) {
         Ok(made) => Ok(made),
-        Err(_) => Err(Refusal::Argument),
+        Err(_) => Err(ExportRefusal::Argument),
     }
 }
 
@@ -212,11 +212,11 @@ pub extern "C" fn fttcan_fits(
 ) -> u32
     ensures fits { result ≡ 0 → (answer : Bool) × (fits.new ≡ from_bool answer)
         × (IsTrue answer ↔ IsAllowed (layout_of layout.now) dlc at (at / layout.now.cycle) window) }
-    ensures known { result ≡ 0 → IsAskedFor layout.now dlc window }
+    ensures known { result ≡ 0 → IsFitAsked layout.now dlc window }
     ensures refused { result ≢ 0 → (fits.new ≡ fits.old) × (result ≡ 2) × RefusesFits layout.now dlc window }
 {
     if dlc > 8 || window > layout.window {
-        return Refusal::Argument.status();
+        return ExportRefusal::Argument.status();
     }
     match layout_in(layout) {
         Ok(made) => {

@@ -3,9 +3,9 @@
 ghost use Rattle.std.specs.Prelude.{◌≡◌, ◌≢◌, Some, None, All, IfErr, IfOk, OnErr, OnOk};
 ghost use Rattle.master_core.specs.Cores.{CoreView, IsCoreUpcoming};
 ghost use Rattle.trigger_codec.specs.Heard.{heard_of};
-ghost use Rattle.master_handle.specs.declared.held.Held.{Held as HeldOf};
-ghost use Rattle.fttcan_c.specs.declared.refusal.Refusal.{Refusal as RefusalOf};
-ghost use Rattle.fttcan_c.specs.declared.refusal.Refusal.TheVariants.{Argument};
+ghost use Rattle.master_handle.specs.declared.held.HandleContent.{HandleContent as HeldOf};
+ghost use Rattle.fttcan_c.specs.declared.refusal.ExportRefusal.{ExportRefusal as RefusalOf};
+ghost use Rattle.fttcan_c.specs.declared.refusal.ExportRefusal.TheVariants.{Argument};
 ghost use Rattle.fttcan_c.specs.Following.{AreDueFrames, CanFollow, IsFollowed, IsHeardBy, IsNotFollowed, IsTriggerHeard, RefusesFrames, RefusesHearing};
 ghost use Rattle.fttcan_c.specs.Following.{due_frames, fault_told};
 ghost use Rattle.fttcan_c.specs.Mastering.{Holds};
@@ -15,9 +15,9 @@ ghost use Rattle.fttcan_c.specs.Refused.{status_of};
 use crate::plain::{FttFollow, FttFrame};
 use crate::plain_in::{are_frames, frame_in};
 use crate::plain_out::mask_out;
-use crate::refusal::{OK, Refusal};
+use crate::refusal::{ExportRefusal, OK};
 use master_core::Core;
-use master_handle::{FttHandle, Held};
+use master_handle::{FttHandle, HandleContent};
 use profile::OPENINGS_END;
 use requirement_table::Mask;
 use standby::{Heard, hear};
@@ -80,7 +80,7 @@ fn fault_out(astray: &Astray) -> FttFollow
 }
 
 /// What some frames say, where they are the trigger of a cycle.
-fn heard_in(slots: u8, cycle: u64, frames: &[FttFrame]) -> Result<Option<Heard>, Refusal>
+fn heard_in(slots: u8, cycle: u64, frames: &[FttFrame]) -> Result<Option<Heard>, ExportRefusal>
     ensures heard { IfOk result (λ heard. heard ≡ heard_of slots cycle (frames_of frames.now)) }
     ensures refused { IfErr result (λ refusal. (refusal ≡ Argument) × (All IsFrameIn frames.now → ⊥)) }
 {
@@ -99,7 +99,7 @@ fn heard_in(slots: u8, cycle: u64, frames: &[FttFrame]) -> Result<Option<Heard>,
 }
 
 /// Has a core hear the trigger frames of its next cycle. It is planned once.
-fn heard_by(core: &mut Core, frames: &[FttFrame]) -> Result<Option<Astray>, Refusal>
+fn heard_by(core: &mut Core, frames: &[FttFrame]) -> Result<Option<Astray>, ExportRefusal>
     ensures heard { IfOk result (IsHeardBy (frames_of frames.now) core.old core.new) }
     ensures due { frames_of frames.now ≡ due_frames core.old → IfOk result (λ astray. astray ≡ None) }
     ensures known { IfOk result (λ _. All IsFrameIn frames.now × CanFollow core.old) }
@@ -109,11 +109,11 @@ fn heard_by(core: &mut Core, frames: &[FttFrame]) -> Result<Option<Astray>, Refu
     triggers_are_heard();
     core.known();
     if !are_frames(frames) {
-        return Err(Refusal::Argument);
+        return Err(ExportRefusal::Argument);
     }
     let cycle = core.next();
     if cycle >= OPENINGS_END {
-        return Err(Refusal::State);
+        return Err(ExportRefusal::State);
     }
     let rules = core.rules();
     let heard = heard_in(rules.slots, cycle, frames)?;
@@ -139,7 +139,10 @@ fn heard_by(core: &mut Core, frames: &[FttFrame]) -> Result<Option<Astray>, Refu
 }
 
 /// Has a standby hear the trigger frames of its next cycle.
-fn heard_trigger(held: &mut Held, frames: &[FttFrame]) -> Result<Option<Astray>, Refusal>
+fn heard_trigger(
+    held: &mut HandleContent,
+    frames: &[FttFrame],
+) -> Result<Option<Astray>, ExportRefusal>
     ensures heard { IfOk result (λ astray. IsTriggerHeard (frames_of frames.now) astray held.old held.new) }
     ensures astray { IfOk result (λ astray. astray ≢ None → held.new ≡ held.old) }
     ensures due { AreDueFrames (frames_of frames.now) held.old → IfOk result (λ astray. astray ≡ None) }
@@ -148,8 +151,8 @@ fn heard_trigger(held: &mut Held, frames: &[FttFrame]) -> Result<Option<Astray>,
     ensures refused { IfErr result (RefusesHearing frames.now held.old) }
 {
     match held {
-        Held::Standby { core } => heard_by(core, frames),
-        _ => Err(Refusal::Closed),
+        HandleContent::Standby { core } => heard_by(core, frames),
+        _ => Err(ExportRefusal::Closed),
     }
 }
 
@@ -178,7 +181,7 @@ pub extern "C" fn fttcan_standby_trigger(
     ensures empty { s.old.value ≡ None → result ≡ 7 }
 {
     let Some(mut held) = mem::replace(s, FttHandle::none()).into_box(alloc) else {
-        return Refusal::Closed.status();
+        return ExportRefusal::Closed.status();
     };
     let answer = heard_trigger(&mut held, frames);
     *s = FttHandle::of(held);
@@ -186,7 +189,7 @@ pub extern "C" fn fttcan_standby_trigger(
         Ok(None) => OK,
         Ok(Some(astray)) => {
             *fault = fault_out(&astray);
-            Refusal::No.status()
+            ExportRefusal::No.status()
         }
         Err(refusal) => refusal.status(),
     }

@@ -29,7 +29,7 @@ pub use apart::{
     fttcan_master_snapshot, fttcan_plan_apart, fttcan_planned_free, fttcan_planned_verdict,
     fttcan_snapshot_free,
 };
-pub use async_bound::Stream;
+pub use async_bound::BurstStream;
 pub use bounds::fttcan_async_bound;
 pub use checked::fttcan_check;
 pub use following::{
@@ -50,7 +50,7 @@ pub use reading::{
     fttcan_master_certificate, fttcan_master_look, fttcan_master_next, fttcan_master_planned,
     fttcan_master_rules, fttcan_master_table, fttcan_master_trail,
 };
-pub use refusal::{OK, Refusal};
+pub use refusal::{ExportRefusal, OK};
 pub use saving::{fttcan_master_restore, fttcan_master_save};
 pub use settling::fttcan_master_settle;
 pub use triggers::{fttcan_trigger_decode, fttcan_trigger_encode};

@@ -5,10 +5,10 @@ ghost use Rattle.std.specs.Int.{from_bool};
 ghost use Rattle.profile.specs.Limits.{openings_end};
 ghost use Rattle.master_core.specs.Cores.{new_core};
 ghost use Rattle.requirement_table.specs.declared.entries.Order.{Order as OrderOf};
-ghost use Rattle.master_handle.specs.declared.held.Held.{Held as HeldOf};
-ghost use Rattle.master_handle.specs.declared.held.Held.TheVariants.{Master};
-ghost use Rattle.fttcan_c.specs.declared.refusal.Refusal.{Refusal as RefusalOf};
-ghost use Rattle.fttcan_c.specs.declared.refusal.Refusal.TheVariants.{State};
+ghost use Rattle.master_handle.specs.declared.held.HandleContent.{HandleContent as HeldOf};
+ghost use Rattle.master_handle.specs.declared.held.HandleContent.TheVariants.{Master};
+ghost use Rattle.fttcan_c.specs.declared.refusal.ExportRefusal.{ExportRefusal as RefusalOf};
+ghost use Rattle.fttcan_c.specs.declared.refusal.ExportRefusal.TheVariants.{State};
 ghost use Rattle.fttcan_c.specs.Mastering.{Holds, IsCoreOpened, IsCoreSubmitted, IsMasterOpened, IsSubmitted, MayAsk, RefusesAsked, RefusesNew, RefusesOpen, RefusesSubmit};
 ghost use Rattle.fttcan_c.specs.Plain.{AreRules, change_of, mask_of, rules_of};
 ghost use Rattle.fttcan_c.specs.Refused.{status_of};
@@ -16,11 +16,11 @@ ghost use Rattle.fttcan_c.specs.Refused.{status_of};
 use crate::plain::{FttOp, FttOrder, FttRules, FttVerdict};
 use crate::plain_in::{change_in, rules_in};
 use crate::plain_out::{mask_out, verdict_out};
-use crate::refusal::{OK, Refusal};
+use crate::refusal::{ExportRefusal, OK};
 use admission::Trail;
 use change_protocol::Change;
 use master_core::{Answered, Core};
-use master_handle::{FttHandle, Held};
+use master_handle::{FttHandle, HandleContent};
 use profile::OPENINGS_END;
 use requirement_table::Order;
 use std::alloc::{AllocError, Global};
@@ -30,7 +30,7 @@ use std::mem;
 const MOST_CALLERS: u8 = 8;
 
 /// A master that was not called yet, in a box of its own.
-fn made(alloc: Global, rules: &FttRules) -> Result<Box<Held>, Refusal>
+fn made(alloc: Global, rules: &FttRules) -> Result<Box<HandleContent>, ExportRefusal>
     ensures master { IfOk result (λ held. held.value ≡ Master (new_core (rules_of rules.now) true) []) }
     ensures known { IfOk result (λ _. AreRules rules.now) }
     ensures refused { IfErr result (RefusesNew rules.now) }
@@ -38,9 +38,9 @@ fn made(alloc: Global, rules: &FttRules) -> Result<Box<Held>, Refusal>
     let rules = rules_in(rules)?;
     let core = Core::new(alloc, rules, true)?;
     let trail = Trail::of(Vec::new(alloc));
-    match Box::new(alloc, Held::Master { core, trail }) {
+    match Box::new(alloc, HandleContent::Master { core, trail }) {
         Ok(held) => Ok(held),
-        Err(_) => Err(Refusal::Memory),
+        Err(_) => Err(ExportRefusal::Memory),
     }
 }
 
@@ -58,7 +58,7 @@ pub extern "C" fn fttcan_master_new(m: &mut FttHandle, alloc: Global, rules: &Ft
 {
     if let Some(held) = mem::replace(m, FttHandle::none()).into_box(alloc) {
         *m = FttHandle::of(held);
-        return Refusal::Open.status();
+        return ExportRefusal::Open.status();
     }
     match made(alloc, rules) {
         Ok(held) => {
@@ -84,14 +84,14 @@ pub(crate) fn asked(
     caller: u8,
     start: u64,
     ops: &[FttOp],
-) -> Result<Answered, Refusal>
+) -> Result<Answered, ExportRefusal>
     ensures answered { IfOk result (IsCoreSubmitted caller (change_of start ops.now) core.old core.new) }
     ensures known { OnOk result (MayAsk caller ops.now) }
     ensures same { OnErr result (core.new ≡ core.old) }
     ensures refused { IfErr result (RefusesAsked caller ops.now) }
 {
     if caller < 1 || caller > MOST_CALLERS {
-        return Err(Refusal::Argument);
+        return Err(ExportRefusal::Argument);
     }
     let change = change_in(alloc, start, ops)?;
     let answered = answered_to(alloc, core, caller, &change)?;
@@ -114,18 +114,18 @@ fn answered_to(
 /// Has a master answer a change, and tells the verdict.
 fn submitted(
     alloc: Global,
-    held: &mut Held,
+    held: &mut HandleContent,
     caller: u8,
     start: u64,
     ops: &[FttOp],
-) -> Result<FttVerdict, Refusal>
+) -> Result<FttVerdict, ExportRefusal>
     ensures answered { IfOk result (λ verdict. IsSubmitted caller start ops.now verdict held.old held.new) }
     ensures known { OnOk result (MayAsk caller ops.now) }
     ensures same { OnErr result (held.new ≡ held.old) }
     ensures refused { IfErr result (RefusesSubmit caller ops.now held.old) }
 {
     match held {
-        Held::Master { core, trail } => {
+        HandleContent::Master { core, trail } => {
             let Answered {
                 from: _,
                 verdict,
@@ -134,7 +134,7 @@ fn submitted(
             *trail = shown;
             Ok(verdict_out(&verdict))
         }
-        _ => Err(Refusal::Closed),
+        _ => Err(ExportRefusal::Closed),
     }
 }
 
@@ -157,7 +157,7 @@ pub extern "C" fn fttcan_master_submit(
     ensures empty { m.old.value ≡ None → result ≡ 7 }
 {
     let Some(mut held) = mem::replace(m, FttHandle::none()).into_box(alloc) else {
-        return Refusal::Closed.status();
+        return ExportRefusal::Closed.status();
     };
     let answer = submitted(alloc, &mut held, caller, start, ops);
     *m = FttHandle::of(held);
@@ -171,13 +171,13 @@ pub extern "C" fn fttcan_master_submit(
 }
 
 /// Opens the next cycle of a core, and answers the order.
-fn opened_next(core: &mut Core) -> Result<FttOrder, Refusal>
+fn opened_next(core: &mut Core) -> Result<FttOrder, ExportRefusal>
     ensures opened { IfOk result (λ order. IsCoreOpened order core.old core.new) }
     ensures same { OnErr result (core.new ≡ core.old) }
     ensures refused { IfErr result (λ refusal. (refusal ≡ State) × (core.old.cycle < openings_end → ⊥)) }
 {
     if core.next() >= OPENINGS_END {
-        return Err(Refusal::State);
+        return Err(ExportRefusal::State);
     }
     core.known();
     let order = core.open();
@@ -201,14 +201,14 @@ fn order_out(order: &Order) -> FttOrder
 }
 
 /// Opens the next cycle of a master, and tells the order.
-fn opened(held: &mut Held) -> Result<FttOrder, Refusal>
+fn opened(held: &mut HandleContent) -> Result<FttOrder, ExportRefusal>
     ensures opened { IfOk result (λ order. IsMasterOpened order held.old held.new) }
     ensures same { OnErr result (held.new ≡ held.old) }
     ensures refused { IfErr result (RefusesOpen held.old) }
 {
     match held {
-        Held::Master { core, trail: _ } => opened_next(core),
-        _ => Err(Refusal::Closed),
+        HandleContent::Master { core, trail: _ } => opened_next(core),
+        _ => Err(ExportRefusal::Closed),
     }
 }
 
@@ -222,7 +222,7 @@ pub extern "C" fn fttcan_master_open(m: &mut FttHandle, alloc: Global, order: &m
     ensures empty { m.old.value ≡ None → result ≡ 7 }
 {
     let Some(mut held) = mem::replace(m, FttHandle::none()).into_box(alloc) else {
-        return Refusal::Closed.status();
+        return ExportRefusal::Closed.status();
     };
     let answer = opened(&mut held);
     *m = FttHandle::of(held);

@@ -3,13 +3,13 @@
 ghost use Rattle.std.specs.Prelude.{◌≡◌, ◌<◌, ◌≤◌, ◌^◌, ◌↔◌, All, IsTrue, IfErr, IfOk, OnOk, map};
 ghost use Rattle.can_frame.specs.DataFrame.{IsFrame};
 ghost use Rattle.requirement_table.specs.Table.{IsWellPlaced};
-ghost use Rattle.fttcan_c.specs.declared.refusal.Refusal.TheVariants.{Argument};
+ghost use Rattle.fttcan_c.specs.declared.refusal.ExportRefusal.TheVariants.{Argument};
 ghost use Rattle.fttcan_c.specs.Plain.{AreRules, IsFrameIn, IsMask, IsOp};
 ghost use Rattle.fttcan_c.specs.Plain.{change_of, entry_of, frame_of, mask_of, op_of, ops_of, placed_of, rules_of, table_of};
 ghost use Rattle.fttcan_c.specs.Refused.{RefusesFrame, RefusesOps, RefusesRules, RefusesTable};
 
 use crate::plain::{FttEntry, FttFrame, FttMask, FttOp, FttPlaced, FttRules};
-use crate::refusal::Refusal;
+use crate::refusal::ExportRefusal;
 use admission::Rules;
 use can_frame::{Frame, MAX_BYTES};
 use change_protocol::{Change, Op, Ops};
@@ -56,18 +56,18 @@ pub fn are_frames(frames: &[FttFrame]) -> bool
 /// # Errors
 ///
 /// `Argument` where the identifier is above 0x7EF, or more than 8 bytes are said to be in use.
-pub fn frame_in(frame: &FttFrame) -> Result<Frame, Refusal>
+pub fn frame_in(frame: &FttFrame) -> Result<Frame, ExportRefusal>
     ensures frame { IfOk result (λ made. made ≡ frame_of frame.now) }
     ensures legal { OnOk result (IsFrameIn frame.now) }
     ensures refused { IfErr result (RefusesFrame frame.now) }
 {
     let bytes = frame.bytes;
     if usize::from(frame.len) > MAX_BYTES {
-        return Err(Refusal::Argument);
+        return Err(ExportRefusal::Argument);
     }
     match Frame::new(frame.id, &bytes[..usize::from(frame.len)]) {
         Ok(made) => Ok(made),
-        Err(_) => Err(Refusal::Argument),
+        Err(_) => Err(ExportRefusal::Argument),
     }
 }
 
@@ -76,13 +76,13 @@ pub fn frame_in(frame: &FttFrame) -> Result<Frame, Refusal>
 /// # Errors
 ///
 /// `Argument` where they are out of range.
-pub fn rules_in(rules: &FttRules) -> Result<Rules, Refusal>
+pub fn rules_in(rules: &FttRules) -> Result<Rules, ExportRefusal>
     ensures rules { IfOk result (λ made. made ≡ rules_of rules.now) }
     ensures known { OnOk result (AreRules rules.now) }
     ensures refused { IfErr result (RefusesRules rules.now) }
 {
     if !are_rules(rules) {
-        return Err(Refusal::Argument);
+        return Err(ExportRefusal::Argument);
     }
     Ok(Rules {
         nodes: rules.nodes,
@@ -152,14 +152,14 @@ fn list_in(alloc: Global, placed: &[FttPlaced]) -> Result<Vec<Placed>, AllocErro
 /// # Errors
 ///
 /// `Table` where it is not well placed; and `Memory`.
-pub fn table_in(alloc: Global, placed: &[FttPlaced]) -> Result<Vec<Placed>, Refusal>
+pub fn table_in(alloc: Global, placed: &[FttPlaced]) -> Result<Vec<Placed>, ExportRefusal>
     ensures list { IfOk result (λ list. list.items ≡ table_of placed.now) }
     ensures known { IfOk result (λ list. IsWellPlaced list.items) }
     ensures refused { IfErr result (RefusesTable placed.now) }
 {
     let list = list_in(alloc, placed)?;
     if !well_placed(list.as_slice()) {
-        return Err(Refusal::Table);
+        return Err(ExportRefusal::Table);
     }
     Ok(list)
 }
@@ -199,13 +199,13 @@ fn are_ops(ops: &[FttOp]) -> bool
 /// # Errors
 ///
 /// `Argument` where an operation is of a kind that there is not; and `Memory`.
-pub fn change_in(alloc: Global, start: u64, ops: &[FttOp]) -> Result<Change, Refusal>
+pub fn change_in(alloc: Global, start: u64, ops: &[FttOp]) -> Result<Change, ExportRefusal>
     ensures change { IfOk result (λ change. change ≡ change_of start ops.now) }
     ensures known { OnOk result (All IsOp ops.now) }
     ensures refused { IfErr result (RefusesOps ops.now) }
 {
     if !are_ops(ops) {
-        return Err(Refusal::Argument);
+        return Err(ExportRefusal::Argument);
     }
     let list = ops_in(alloc, ops)?;
     Ok(Change {

@@ -2,11 +2,11 @@
 
 ghost use Rattle.std.specs.Prelude.{◌≡◌, ◌≢◌, ◌<◌, ◌≤◌, ℕ, List, Some, None, IfErr, IfOk, OnOk, map};
 ghost use Rattle.profile.specs.Limits.{openings_end};
-ghost use Rattle.master_handle.specs.declared.held.Held.{Held as HeldOf};
+ghost use Rattle.master_handle.specs.declared.held.HandleContent.{HandleContent as HeldOf};
 ghost use Rattle.fttcan_c.specs.declared.plain.FttMask.{FttMask as FttMaskOf};
 ghost use Rattle.fttcan_c.specs.declared.plain.FttPlaced.{FttPlaced as FttPlacedOf};
-ghost use Rattle.fttcan_c.specs.declared.refusal.Refusal.{Refusal as RefusalOf};
-ghost use Rattle.fttcan_c.specs.declared.refusal.Refusal.TheVariants.{Closed};
+ghost use Rattle.fttcan_c.specs.declared.refusal.ExportRefusal.{ExportRefusal as RefusalOf};
+ghost use Rattle.fttcan_c.specs.declared.refusal.ExportRefusal.TheVariants.{Closed};
 ghost use Rattle.fttcan_c.specs.Mastering.{Holds, HoldsMaster, IsCaller, RefusesOpen};
 ghost use Rattle.fttcan_c.specs.Plain.{mask_of};
 ghost use Rattle.fttcan_c.specs.Reading.{HasPlanText, HasTable, HasTrail, IsLookedAt, IsNextOf, IsPlanTextOf, IsPlannedOf, IsRulesOf, RefusesLook, RefusesRead};
@@ -16,10 +16,10 @@ ghost use Rattle.fttcan_c.specs.Told.{mask_told, put_of, rules_told};
 
 use crate::plain::{FttMask, FttPlaced, FttRules};
 use crate::plain_out::{mask_out, masks_out, rules_out, table_out};
-use crate::refusal::{OK, Refusal};
+use crate::refusal::{ExportRefusal, OK};
 use crate::room::put;
 use master_core::Core;
-use master_handle::{FttHandle, Held};
+use master_handle::{FttHandle, HandleContent};
 use plan_check::write_plan;
 use profile::OPENINGS_END;
 use std::alloc::{AllocError, Global};
@@ -29,13 +29,13 @@ use std::mem;
 const MOST_CALLERS: u8 = 8;
 
 /// The next cycle of a master.
-fn next_in(held: &Held) -> Result<u64, Refusal>
+fn next_in(held: &HandleContent) -> Result<u64, ExportRefusal>
     ensures next { IfOk result (λ cycle. IsNextOf cycle held.now) }
     ensures refused { IfErr result (λ refusal. (refusal ≡ Closed) × (HoldsMaster held.now → ⊥)) }
 {
     match held {
-        Held::Master { core, trail: _ } => Ok(core.next()),
-        _ => Err(Refusal::Closed),
+        HandleContent::Master { core, trail: _ } => Ok(core.next()),
+        _ => Err(ExportRefusal::Closed),
     }
 }
 
@@ -49,7 +49,7 @@ pub extern "C" fn fttcan_master_next(m: &mut FttHandle, alloc: Global, cycle: &m
     ensures empty { m.old.value ≡ None → result ≡ 7 }
 {
     let Some(held) = mem::replace(m, FttHandle::none()).into_box(alloc) else {
-        return Refusal::Closed.status();
+        return ExportRefusal::Closed.status();
     };
     let answer = next_in(&held);
     *m = FttHandle::of(held);
@@ -63,19 +63,19 @@ pub extern "C" fn fttcan_master_next(m: &mut FttHandle, alloc: Global, cycle: &m
 }
 
 /// The next cycle of a master, for an operator.
-fn looked_at(held: &Held, caller: u8) -> Result<u64, Refusal>
+fn looked_at(held: &HandleContent, caller: u8) -> Result<u64, ExportRefusal>
     ensures next { IfOk result (λ cycle. IsLookedAt caller cycle held.now) }
     ensures known { OnOk result (IsCaller caller) }
     ensures refused { IfErr result (RefusesLook caller held.now) }
 {
     match held {
-        Held::Master { core, trail: _ } => {
+        HandleContent::Master { core, trail: _ } => {
             if caller < 1 || caller > MOST_CALLERS {
-                return Err(Refusal::Argument);
+                return Err(ExportRefusal::Argument);
             }
             Ok(core.next())
         }
-        _ => Err(Refusal::Closed),
+        _ => Err(ExportRefusal::Closed),
     }
 }
 
@@ -96,7 +96,7 @@ pub extern "C" fn fttcan_master_look(
     ensures empty { m.old.value ≡ None → result ≡ 7 }
 {
     let Some(held) = mem::replace(m, FttHandle::none()).into_box(alloc) else {
-        return Refusal::Closed.status();
+        return ExportRefusal::Closed.status();
     };
     let answer = looked_at(&held, caller);
     *m = FttHandle::of(held);
@@ -110,18 +110,18 @@ pub extern "C" fn fttcan_master_look(
 }
 
 /// The slots that a master would flag now.
-fn planned_in(held: &Held) -> Result<FttMask, Refusal>
+fn planned_in(held: &HandleContent) -> Result<FttMask, ExportRefusal>
     ensures planned { IfOk result (λ flags. IsPlannedOf flags held.now) }
     ensures refused { IfErr result (RefusesOpen held.now) }
 {
     match held {
-        Held::Master { core, trail: _ } => {
+        HandleContent::Master { core, trail: _ } => {
             if core.next() >= OPENINGS_END {
-                return Err(Refusal::State);
+                return Err(ExportRefusal::State);
             }
             Ok(mask_out(core.planned()))
         }
-        _ => Err(Refusal::Closed),
+        _ => Err(ExportRefusal::Closed),
     }
 }
 
@@ -140,7 +140,7 @@ pub extern "C" fn fttcan_master_planned(
     ensures empty { m.old.value ≡ None → result ≡ 7 }
 {
     let Some(held) = mem::replace(m, FttHandle::none()).into_box(alloc) else {
-        return Refusal::Closed.status();
+        return ExportRefusal::Closed.status();
     };
     let answer = planned_in(&held);
     *m = FttHandle::of(held);
@@ -154,13 +154,13 @@ pub extern "C" fn fttcan_master_planned(
 }
 
 /// The rules of a master.
-fn rules_of_held(held: &Held) -> Result<FttRules, Refusal>
+fn rules_of_held(held: &HandleContent) -> Result<FttRules, ExportRefusal>
     ensures rules { IfOk result (λ rules. IsRulesOf rules held.now) }
     ensures refused { IfErr result (λ refusal. (refusal ≡ Closed) × (HoldsMaster held.now → ⊥)) }
 {
     match held {
-        Held::Master { core, trail: _ } => Ok(rules_out(&core.rules())),
-        _ => Err(Refusal::Closed),
+        HandleContent::Master { core, trail: _ } => Ok(rules_out(&core.rules())),
+        _ => Err(ExportRefusal::Closed),
     }
 }
 
@@ -174,7 +174,7 @@ pub extern "C" fn fttcan_master_rules(m: &mut FttHandle, alloc: Global, rules: &
     ensures empty { m.old.value ≡ None → result ≡ 7 }
 {
     let Some(held) = mem::replace(m, FttHandle::none()).into_box(alloc) else {
-        return Refusal::Closed.status();
+        return ExportRefusal::Closed.status();
     };
     let answer = rules_of_held(&held);
     *m = FttHandle::of(held);
@@ -188,17 +188,17 @@ pub extern "C" fn fttcan_master_rules(m: &mut FttHandle, alloc: Global, rules: &
 }
 
 /// The placed entries of a master.
-fn table_in(alloc: Global, held: &Held) -> Result<Vec<FttPlaced>, Refusal>
+fn table_in(alloc: Global, held: &HandleContent) -> Result<Vec<FttPlaced>, ExportRefusal>
     ensures table { IfOk result (λ list. HasTable list.items held.now) }
     ensures refused { IfErr result (RefusesRead held.now) }
 {
     match held {
-        Held::Master { core, trail: _ } => {
+        HandleContent::Master { core, trail: _ } => {
             core.known();
             let list = table_out(alloc, core.placed())?;
             Ok(list)
         }
-        _ => Err(Refusal::Closed),
+        _ => Err(ExportRefusal::Closed),
     }
 }
 
@@ -221,7 +221,7 @@ pub extern "C" fn fttcan_master_table(
     ensures empty { m.old.value ≡ None → result ≡ 7 }
 {
     let Some(held) = mem::replace(m, FttHandle::none()).into_box(alloc) else {
-        return Refusal::Closed.status();
+        return ExportRefusal::Closed.status();
     };
     let answer = table_in(alloc, &held);
     *m = FttHandle::of(held);
@@ -235,16 +235,16 @@ pub extern "C" fn fttcan_master_table(
 }
 
 /// The slots that were flagged up to the miss that a master's last answer told.
-fn trail_in(alloc: Global, held: &Held) -> Result<Vec<FttMask>, Refusal>
+fn trail_in(alloc: Global, held: &HandleContent) -> Result<Vec<FttMask>, ExportRefusal>
     ensures trail { IfOk result (λ masks. HasTrail masks.items held.now) }
     ensures refused { IfErr result (RefusesRead held.now) }
 {
     match held {
-        Held::Master { core: _, trail } => {
+        HandleContent::Master { core: _, trail } => {
             let masks = masks_out(alloc, trail.as_slice())?;
             Ok(masks)
         }
-        _ => Err(Refusal::Closed),
+        _ => Err(ExportRefusal::Closed),
     }
 }
 
@@ -268,7 +268,7 @@ pub extern "C" fn fttcan_master_trail(
     ensures empty { m.old.value ≡ None → result ≡ 7 }
 {
     let Some(held) = mem::replace(m, FttHandle::none()).into_box(alloc) else {
-        return Refusal::Closed.status();
+        return ExportRefusal::Closed.status();
     };
     let answer = trail_in(alloc, &held);
     *m = FttHandle::of(held);
@@ -292,16 +292,16 @@ fn text_of(alloc: Global, core: &Core) -> Result<Vec<u8>, AllocError>
 }
 
 /// The text of the certificate of a master.
-fn text_in(alloc: Global, held: &Held) -> Result<Vec<u8>, Refusal>
+fn text_in(alloc: Global, held: &HandleContent) -> Result<Vec<u8>, ExportRefusal>
     ensures text { IfOk result (λ text. HasPlanText text.items held.now) }
     ensures refused { IfErr result (RefusesRead held.now) }
 {
     match held {
-        Held::Master { core, trail: _ } => {
+        HandleContent::Master { core, trail: _ } => {
             let text = text_of(alloc, core)?;
             Ok(text)
         }
-        _ => Err(Refusal::Closed),
+        _ => Err(ExportRefusal::Closed),
     }
 }
 
@@ -325,7 +325,7 @@ pub extern "C" fn fttcan_master_certificate(
     ensures empty { m.old.value ≡ None → result ≡ 7 }
 {
     let Some(held) = mem::replace(m, FttHandle::none()).into_box(alloc) else {
-        return Refusal::Closed.status();
+        return ExportRefusal::Closed.status();
     };
     let answer = text_in(alloc, &held);
     *m = FttHandle::of(held);

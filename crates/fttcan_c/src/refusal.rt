@@ -10,7 +10,7 @@ pub const OK: u32 = 0;
 
 /// Why an export does not do what it is asked for.
 #[derive(Clone, Copy, PartialEq, Eq, Debug)]
-pub enum Refusal {
+pub enum ExportRefusal {
     /// Memory ran out, which says nothing of what was asked for. The call may be made again.
     Memory,
     /// An argument is out of its range.
@@ -34,34 +34,34 @@ pub enum Refusal {
     No,
 }
 
-impl Refusal {
+impl ExportRefusal {
     /// The status that C is told.
     pub fn status(self) -> u32
         ensures status { result ≡ status_of self }
         ensures refused { result ≢ 0 }
     {
         match self {
-            Refusal::Memory => 1,
-            Refusal::Argument => 2,
-            Refusal::Table => 3,
-            Refusal::State => 4,
-            Refusal::Room => 5,
-            Refusal::Miss => 6,
-            Refusal::Closed => 7,
-            Refusal::Open => 8,
-            Refusal::Text => 9,
-            Refusal::No => 10,
+            ExportRefusal::Memory => 1,
+            ExportRefusal::Argument => 2,
+            ExportRefusal::Table => 3,
+            ExportRefusal::State => 4,
+            ExportRefusal::Room => 5,
+            ExportRefusal::Miss => 6,
+            ExportRefusal::Closed => 7,
+            ExportRefusal::Open => 8,
+            ExportRefusal::Text => 9,
+            ExportRefusal::No => 10,
         }
     }
 }
 
-impl From<AllocError> for Refusal {
+impl From<AllocError> for ExportRefusal {
     ghost use Rattle.std.specs.Prelude.{◌≡◌};
-    ghost use Rattle.fttcan_c.specs.declared.refusal.Refusal.TheVariants.{Memory};
+    ghost use Rattle.fttcan_c.specs.declared.refusal.ExportRefusal.TheVariants.{Memory};
 
     ghost from_gives = { λ _ refusal. refusal ≡ Memory };
 
-    fn from(_: AllocError) -> Refusal {
-        Refusal::Memory
+    fn from(_: AllocError) -> ExportRefusal {
+        ExportRefusal::Memory
     }
 }

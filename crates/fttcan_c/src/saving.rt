@@ -2,20 +2,20 @@
 
 ghost use Rattle.std.specs.Prelude.{◌≡◌, ◌≢◌, ℕ, [], List, Some, None, IfErr, IfOk};
 ghost use Rattle.master_core.specs.Cores.{CoreView};
-ghost use Rattle.master_handle.specs.declared.held.Held.{Held as HeldOf};
-ghost use Rattle.master_handle.specs.declared.held.Held.TheVariants.{Master};
-ghost use Rattle.fttcan_c.specs.declared.refusal.Refusal.{Refusal as RefusalOf};
+ghost use Rattle.master_handle.specs.declared.held.HandleContent.{HandleContent as HeldOf};
+ghost use Rattle.master_handle.specs.declared.held.HandleContent.TheVariants.{Master};
+ghost use Rattle.fttcan_c.specs.declared.refusal.ExportRefusal.{ExportRefusal as RefusalOf};
 ghost use Rattle.fttcan_c.specs.Mastering.{Holds};
 ghost use Rattle.fttcan_c.specs.Reading.{RefusesRead};
 ghost use Rattle.fttcan_c.specs.Refused.{status_of};
 ghost use Rattle.fttcan_c.specs.Room.{IsRoomFilled, IsRoomShort};
 ghost use Rattle.fttcan_c.specs.Saving.{AreBytesOfCore, HasMasterBytes, IsCoreOfBytes, IsForC, IsRestored, RefusesRestore};
 
-use crate::refusal::{OK, Refusal};
+use crate::refusal::{ExportRefusal, OK};
 use crate::room::put;
 use admission::Trail;
 use master_core::Core;
-use master_handle::{FttHandle, Held};
+use master_handle::{FttHandle, HandleContent};
 use saved_state::laws::one_state;
 use saved_state::{ReadFault, read, write};
 use std::alloc::{AllocError, Global};
@@ -33,16 +33,16 @@ fn bytes_of_core(alloc: Global, core: &Core) -> Result<Vec<u8>, AllocError>
 }
 
 /// The bytes of the state of a master.
-fn bytes_in(alloc: Global, held: &Held) -> Result<Vec<u8>, Refusal>
+fn bytes_in(alloc: Global, held: &HandleContent) -> Result<Vec<u8>, ExportRefusal>
     ensures bytes { IfOk result (λ bytes. HasMasterBytes bytes.items held.now) }
     ensures refused { IfErr result (RefusesRead held.now) }
 {
     match held {
-        Held::Master { core, trail: _ } => {
+        HandleContent::Master { core, trail: _ } => {
             let bytes = bytes_of_core(alloc, core)?;
             Ok(bytes)
         }
-        _ => Err(Refusal::Closed),
+        _ => Err(ExportRefusal::Closed),
     }
 }
 
@@ -67,7 +67,7 @@ pub extern "C" fn fttcan_master_save(
     ensures empty { m.old.value ≡ None → result ≡ 7 }
 {
     let Some(held) = mem::replace(m, FttHandle::none()).into_box(alloc) else {
-        return Refusal::Closed.status();
+        return ExportRefusal::Closed.status();
     };
     let answer = bytes_in(alloc, &held);
     *m = FttHandle::of(held);
@@ -81,34 +81,34 @@ pub extern "C" fn fttcan_master_save(
 }
 
 /// The core that was saved as these bytes.
-fn core_in(alloc: Global, bytes: &[u8]) -> Result<Core, Refusal>
+fn core_in(alloc: Global, bytes: &[u8]) -> Result<Core, ExportRefusal>
     ensures core { IfOk result (IsCoreOfBytes bytes.now) }
     ensures refused { IfErr result (RefusesRestore bytes.now) }
 {
     let saved = match read(alloc, bytes) {
         Ok(saved) => saved,
-        Err(ReadFault::NoState) => return Err(Refusal::Text),
-        Err(ReadFault::Memory) => return Err(Refusal::Memory),
+        Err(ReadFault::NoState) => return Err(ExportRefusal::Text),
+        Err(ReadFault::Memory) => return Err(ExportRefusal::Memory),
     };
     if !saved.forgets || !are_slots(saved.rules.slots) {
-        return Err(Refusal::Text);
+        return Err(ExportRefusal::Text);
     }
     match Core::restore(alloc, saved)? {
         Some(core) => Ok(core),
-        None => Err(Refusal::Text),
+        None => Err(ExportRefusal::Text),
     }
 }
 
 /// The master that was saved as these bytes, in a box of its own. It has no answer yet, and so no trail.
-fn restored(alloc: Global, bytes: &[u8]) -> Result<Box<Held>, Refusal>
+fn restored(alloc: Global, bytes: &[u8]) -> Result<Box<HandleContent>, ExportRefusal>
     ensures restored { IfOk result (λ held. IsRestored bytes.now held.value) }
     ensures refused { IfErr result (RefusesRestore bytes.now) }
 {
     let core = core_in(alloc, bytes)?;
     let trail = Trail::of(Vec::new(alloc));
-    match Box::new(alloc, Held::Master { core, trail }) {
+    match Box::new(alloc, HandleContent::Master { core, trail }) {
         Ok(held) => Ok(held),
-        Err(_) => Err(Refusal::Memory),
+        Err(_) => Err(ExportRefusal::Memory),
     }
 }
 
@@ -135,7 +135,7 @@ pub extern "C" fn fttcan_master_restore(m: &mut FttHandle, alloc: Global, bytes:
 {
     if let Some(held) = mem::replace(m, FttHandle::none()).into_box(alloc) {
         *m = FttHandle::of(held);
-        return Refusal::Open.status();
+        return ExportRefusal::Open.status();
     }
     match restored(alloc, bytes) {
         Ok(held) => {

@@ -1,18 +1,18 @@
 //! A change that was planned in another thread is settled.
 
 ghost use Rattle.std.specs.Prelude.{◌≡◌, ◌≢◌, ◌≤◌, None, Some, IfErr, IfOk, OnErr, OnOk};
-ghost use Rattle.master_handle.specs.declared.held.Held.{Held as HeldOf};
-ghost use Rattle.fttcan_c.specs.declared.refusal.Refusal.{Refusal as RefusalOf};
-ghost use Rattle.fttcan_c.specs.declared.refusal.Refusal.TheVariants.{Memory};
+ghost use Rattle.master_handle.specs.declared.held.HandleContent.{HandleContent as HeldOf};
+ghost use Rattle.fttcan_c.specs.declared.refusal.ExportRefusal.{ExportRefusal as RefusalOf};
+ghost use Rattle.fttcan_c.specs.declared.refusal.ExportRefusal.TheVariants.{Memory};
 ghost use Rattle.fttcan_c.specs.Apart.{IsCoreSettled, IsHeldSettled, RefusesSettle};
 ghost use Rattle.fttcan_c.specs.Mastering.{Holds, IsCaller};
 ghost use Rattle.fttcan_c.specs.Refused.{status_of};
 
 use crate::plain::FttVerdict;
 use crate::plain_out::verdict_out;
-use crate::refusal::{OK, Refusal};
+use crate::refusal::{ExportRefusal, OK};
 use master_core::{Answered, Core, CorePlanned};
-use master_handle::{FttHandle, Held};
+use master_handle::{FttHandle, HandleContent};
 use std::alloc::{AllocError, Global};
 use std::mem;
 
@@ -37,10 +37,10 @@ fn settled_by(
 /// it is moved out too.
 fn settled(
     alloc: Global,
-    held: &mut Held,
+    held: &mut HandleContent,
     caller: u8,
-    from: &mut Held,
-) -> Result<FttVerdict, Refusal>
+    from: &mut HandleContent,
+) -> Result<FttVerdict, ExportRefusal>
     ensures settled { IfOk result (λ verdict. IsHeldSettled caller verdict from.old held.old held.new) }
     ensures known { OnOk result (IsCaller caller) }
     ensures same { OnErr result (held.new ≡ held.old) }
@@ -48,11 +48,11 @@ fn settled(
     ensures refused { IfErr result (RefusesSettle caller held.old from.old) }
 {
     match held {
-        Held::Master { core, trail } => match mem::replace(from, Held::Moved) {
-            Held::Planned { planned } => {
+        HandleContent::Master { core, trail } => match mem::replace(from, HandleContent::Moved) {
+            HandleContent::Planned { planned } => {
                 if caller < 1 || caller > MOST_CALLERS {
-                    *from = Held::Planned { planned };
-                    return Err(Refusal::Argument);
+                    *from = HandleContent::Planned { planned };
+                    return Err(ExportRefusal::Argument);
                 }
                 let Answered {
                     from: _,
@@ -64,10 +64,10 @@ fn settled(
             }
             other => {
                 *from = other;
-                Err(Refusal::Closed)
+                Err(ExportRefusal::Closed)
             }
         },
-        _ => Err(Refusal::Closed),
+        _ => Err(ExportRefusal::Closed),
     }
 }
 
@@ -97,11 +97,11 @@ pub extern "C" fn fttcan_master_settle(
     ensures unplanned { p.old.value ≡ None → result ≡ 7 }
 {
     let Some(mut held) = mem::replace(m, FttHandle::none()).into_box(alloc) else {
-        return Refusal::Closed.status();
+        return ExportRefusal::Closed.status();
     };
     let Some(mut from) = mem::replace(p, FttHandle::none()).into_box(alloc) else {
         *m = FttHandle::of(held);
-        return Refusal::Closed.status();
+        return ExportRefusal::Closed.status();
     };
     let answer = settled(alloc, &mut held, caller, &mut from);
     *m = FttHandle::of(held);
@@ -110,7 +110,7 @@ pub extern "C" fn fttcan_master_settle(
             *verdict = said;
             OK
         }
-        Err(Refusal::Memory) => Refusal::Memory.status(),
+        Err(ExportRefusal::Memory) => ExportRefusal::Memory.status(),
         Err(refusal) => {
             *p = FttHandle::of(from);
             refusal.status()

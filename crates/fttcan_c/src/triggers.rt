@@ -3,8 +3,8 @@
 ghost use Rattle.std.specs.Prelude.{◌≡◌, ◌≢◌, ◌<◌, ◌≤◌, ◌^◌, ◌↔◌, ◌∷◌, [], All, IfErr, IfOk, IsTrue, OnOk, map};
 ghost use Rattle.profile.specs.Limits.{first_slots, most_slots};
 ghost use Rattle.trigger_kind.specs.Kind.{IsSlots, slots_of};
-ghost use Rattle.fttcan_c.specs.declared.refusal.Refusal.{Refusal as RefusalOf};
-ghost use Rattle.fttcan_c.specs.declared.refusal.Refusal.TheVariants.{Room};
+ghost use Rattle.fttcan_c.specs.declared.refusal.ExportRefusal.{ExportRefusal as RefusalOf};
+ghost use Rattle.fttcan_c.specs.declared.refusal.ExportRefusal.TheVariants.{Room};
 ghost use Rattle.fttcan_c.specs.Plain.{IsFrameIn, IsTriggerIn, frame_of, frames_of, mask_of};
 ghost use Rattle.fttcan_c.specs.Refused.{status_of};
 ghost use Rattle.fttcan_c.specs.Room.{IsRoomFilled, IsRoomShort};
@@ -14,7 +14,7 @@ ghost use Rattle.fttcan_c.specs.Triggers.{IsTriggerTold, RefusesOne, RefusesTrig
 use crate::plain::{FttFrame, FttMask, FttTrigger};
 use crate::plain_in::{are_frames, frame_in, is_mask, mask_in};
 use crate::plain_out::{frame_out, mask_out};
-use crate::refusal::{OK, Refusal};
+use crate::refusal::{ExportRefusal, OK};
 use crate::room::put;
 use profile::{FIRST_SLOTS, LONGEST_WINDOW};
 use trigger_codec::{decode, decode_second, encode, encode_later, flags_of_both};
@@ -45,7 +45,7 @@ fn put_trigger(
     trigger: &FttTrigger,
     room: &mut [FttFrame],
     count: &mut usize,
-) -> Result<(), Refusal>
+) -> Result<(), ExportRefusal>
     requires trigger { IsTriggerIn slots trigger.now }
     ensures filled { OnOk result (IsRoomFilled (map frame_told (frames_told slots trigger.now)) room.old room.new count.new) }
     ensures short { IfErr result (λ refusal. (refusal ≡ Room)
@@ -76,7 +76,7 @@ pub extern "C" fn fttcan_trigger_encode(
         × (result ≡ 2) × (IsTriggerIn slots trigger.now → ⊥) }
 {
     if !is_trigger(slots, trigger) {
-        return Refusal::Argument.status();
+        return ExportRefusal::Argument.status();
     }
     match put_trigger(slots, trigger, room, count) {
         Ok(()) => OK,
@@ -86,14 +86,14 @@ pub extern "C" fn fttcan_trigger_encode(
 
 /// What one trigger frame says, where a cycle has one.
 #[tactic(auto, using(crate::proofs::Silent::none_heard))]
-fn one_decoded(only: &FttFrame) -> Result<FttTrigger, Refusal>
+fn one_decoded(only: &FttFrame) -> Result<FttTrigger, ExportRefusal>
     ensures trigger { IfOk result (IsTriggerTold first_slots (frame_of only.now ∷ [])) }
     ensures known { OnOk result (IsFrameIn only.now) }
     ensures refused { IfErr result (RefusesOne only.now) }
 {
     let frame = frame_in(only)?;
     let Ok(said) = decode(&frame) else {
-        return Err(Refusal::Text);
+        return Err(ExportRefusal::Text);
     };
     Ok(FttTrigger {
         flags: mask_out(said.mask),
@@ -104,7 +104,7 @@ fn one_decoded(only: &FttFrame) -> Result<FttTrigger, Refusal>
 
 /// What two trigger frames say, where a cycle has two.
 #[tactic(auto, using(crate::proofs::Silent::none_first, crate::proofs::Silent::none_second, crate::proofs::Silent::other_cycle))]
-fn both_decoded(first: &FttFrame, second: &FttFrame) -> Result<FttTrigger, Refusal>
+fn both_decoded(first: &FttFrame, second: &FttFrame) -> Result<FttTrigger, ExportRefusal>
     ensures trigger { IfOk result (IsTriggerTold most_slots (frame_of first.now ∷ frame_of second.now ∷ [])) }
     ensures known { OnOk result (IsFrameIn first.now × IsFrameIn second.now) }
     ensures refused { IfErr result (RefusesTwo first.now second.now) }
@@ -112,13 +112,13 @@ fn both_decoded(first: &FttFrame, second: &FttFrame) -> Result<FttTrigger, Refus
     let one = frame_in(first)?;
     let other = frame_in(second)?;
     let Ok(said) = decode(&one) else {
-        return Err(Refusal::Text);
+        return Err(ExportRefusal::Text);
     };
     let Ok(more) = decode_second(&other) else {
-        return Err(Refusal::Text);
+        return Err(ExportRefusal::Text);
     };
     if said.low != more.low {
-        return Err(Refusal::Text);
+        return Err(ExportRefusal::Text);
     }
     Ok(FttTrigger {
         flags: mask_out(flags_of_both(said.mask, more.mask)),
@@ -128,7 +128,7 @@ fn both_decoded(first: &FttFrame, second: &FttFrame) -> Result<FttTrigger, Refus
 }
 
 /// What the trigger frames of a cycle say, where there are so many.
-fn decoded_by(triggers: Triggers, frames: &[FttFrame]) -> Result<FttTrigger, Refusal>
+fn decoded_by(triggers: Triggers, frames: &[FttFrame]) -> Result<FttTrigger, ExportRefusal>
     requires known { All IsFrameIn frames.now }
     ensures trigger { IfOk result (IsTriggerTold (slots_of triggers) (frames_of frames.now)) }
     ensures refused { IfErr result (RefusesTrigger (slots_of triggers) frames.now) }
@@ -136,23 +136,23 @@ fn decoded_by(triggers: Triggers, frames: &[FttFrame]) -> Result<FttTrigger, Ref
     match triggers {
         Triggers::One => match frames {
             [only] => one_decoded(only),
-            _ => Err(Refusal::Text),
+            _ => Err(ExportRefusal::Text),
         },
         Triggers::Two => match frames {
             [first, second] => both_decoded(first, second),
-            _ => Err(Refusal::Text),
+            _ => Err(ExportRefusal::Text),
         },
     }
 }
 
 /// What the trigger frames of a cycle say, with so many slots.
-fn decoded(slots: u8, frames: &[FttFrame]) -> Result<FttTrigger, Refusal>
+fn decoded(slots: u8, frames: &[FttFrame]) -> Result<FttTrigger, ExportRefusal>
     ensures trigger { IfOk result (IsTriggerTold slots (frames_of frames.now)) }
     ensures known { OnOk result (IsSlots slots × All IsFrameIn frames.now) }
     ensures refused { IfErr result (RefusesTrigger slots frames.now) }
 {
     if !are_slots(slots) || !are_frames(frames) {
-        return Err(Refusal::Argument);
+        return Err(ExportRefusal::Argument);
     }
     decoded_by(Triggers::of(slots), frames)
 }

@@ -16,7 +16,7 @@ const OUT_OF_MEMORY: &[u8] = b"out of memory\n";
 
 /// How a call ended, and what it put to its output and to its messages.
 #[derive(Drop)]
-struct Ended {
+struct EndedCall {
     status: Status,
     out: MemSink,
     err: MemSink,
@@ -43,7 +43,7 @@ fn carried_out(
     mut files: Given<'_>,
     out_room: usize,
     err_room: usize,
-) -> Result<Ended, AllocError>
+) -> Result<EndedCall, AllocError>
     ensures called { IfOk result (λ ended. IsCalled (words_of words.now)
         (files_of files.entry.file0.now files.entry.file1.now files.entry.file2.now files.entry.file3.now)
         out_room err_room ended.status ended.out.taken ended.err.taken) }
@@ -57,7 +57,7 @@ fn carried_out(
     if !fits(&out, out_room) || !fits(&err, err_room) {
         return Err(AllocError);
     }
-    Ok(Ended { status, out, err })
+    Ok(EndedCall { status, out, err })
 }
 
 /// Copies bytes to the front of a room, as many as it takes, and answers how many.

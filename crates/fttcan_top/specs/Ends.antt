@@ -53,25 +53,25 @@ module _ (called : Option Command) (told : Option NamedFiles) (before behind : �
   IsStoppedStatus why = IsNotAsked called shelf_rose told before behind why × (new ≡ old)
 
   -- it was asked for something, and put the whole answer, which has this status
-  abbrev pub IsAnswered : Status → Type 0
-  IsAnswered status =
+  abbrev pub IsAnsweredWhole : Status → Type 0
+  IsAnsweredWhole status =
       (asked_for : Asked) × IsAskedFor called told before behind asked_for × Tells asked_for status old new
 
   -- it was asked for something, and was cut short: it put the first part of the answer, or nothing
-  abbrev pub IsCutShort : Type 0
-  IsCutShort =
+  abbrev pub IsAnswerCut : Type 0
+  IsAnswerCut =
       (asked_for : Asked) × IsAskedFor called told before behind asked_for × ((new ≡ old) ⊎ PutsPart asked_for old new)
 
   -- *What a call did* that ends with this status, and where a file is refused with this refusal
   abbrev pub Did : Status → Refusal → Type 0
-  Did Status.Done refusal = IsAnswered Status.Done
-  Did Status.Refused refusal = IsAnswered Status.Refused
-  Did Status.No refusal = IsAnswered Status.No
+  Did Status.Done refusal = IsAnsweredWhole Status.Done
+  Did Status.Refused refusal = IsAnsweredWhole Status.Refused
+  Did Status.No refusal = IsAnsweredWhole Status.No
   Did Status.Words refusal = IsStoppedStatus Words
   Did Status.Input refusal = IsStoppedStatus (Input refusal)
   Did Status.Read refusal = IsStoppedStatus Read
-  Did Status.Write refusal = out_rose × IsCutShort
-  Did Status.Memory refusal = IsStoppedStatus Memory ⊎ IsCutShort
+  Did Status.Write refusal = out_rose × IsAnswerCut
+  Did Status.Memory refusal = IsStoppedStatus Memory ⊎ IsAnswerCut
 
 -- the same of a call that ended so
 pub record Ended (called : Option Command) (told : Option NamedFiles) (before behind : ℕ) (shelf_rose out_rose : Type 0)

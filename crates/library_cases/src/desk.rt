@@ -10,13 +10,13 @@ const MOST: usize = 1_000_000;
 
 /// A list of calls: the number of the pass that made it, and a count.
 #[derive(Drop)]
-pub struct Desk {
+pub struct CountDesk {
     pub name: u64,
     pub calls: Vec<(u64, u64)>,
     ghost few: { length calls.items < 2 ^ 62 },
 }
 
-impl Stands for Desk {
+impl Stands for CountDesk {
     type Entry = (u64, u64);
 
     type Fixed = u64;
@@ -30,13 +30,13 @@ impl Stands for Desk {
     ghost few = { λ desk. desk.few };
 }
 
-impl Desk {
+impl CountDesk {
     /// No calls, and this name.
-    pub fn empty(alloc: Global, name: u64) -> Desk
+    pub fn empty(alloc: Global, name: u64) -> CountDesk
         ensures empty { result.calls.items ≡ [] }
         ensures name { result.name ≡ name }
     {
-        Desk {
+        CountDesk {
             name,
             calls: Vec::new(alloc),
         }

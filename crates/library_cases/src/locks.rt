@@ -3,7 +3,7 @@
 ghost use Rattle.std.specs.Prelude.{◌≡◌, ◌≢◌, ◌<◌, ◌∷◌, ◌++◌, [], length, All, IfOk, MatchBool, vec_len};
 ghost use Rattle.turn_lock.specs.Passes.{IsReady};
 
-use crate::desk::Desk;
+use crate::desk::CountDesk;
 use std::alloc::{AllocError, Global};
 use std::rt::Env;
 use std::sync::Wait;
@@ -15,7 +15,7 @@ use turn_lock::{Busy, Pass, Turn};
 const ROUNDS: u64 = 10_000;
 
 /// Tries once to get the turn, and notes a call if it is got and the call is wanted.
-fn note_once(turn: &Turn<Desk>, pass: &mut Pass<Desk>, count: u64, wanted: bool) -> bool
+fn note_once(turn: &Turn<CountDesk>, pass: &mut Pass<CountDesk>, count: u64, wanted: bool) -> bool
     requires ready { IsReady turn.now pass.old }
     ensures ready { IsReady turn.now pass.new }
     ensures number { pass.new.view.number ≡ pass.old.view.number }
@@ -58,7 +58,7 @@ fn pause(seed: u64) -> u64 {
 }
 
 /// Notes so many calls, gives the turn back at each fourth try, and pauses after each.
-fn play<R: Wait>(rt: &R, turn: &Turn<Desk>, pass: &mut Pass<Desk>, rounds: u64, seed: u64)
+fn play<R: Wait>(rt: &R, turn: &Turn<CountDesk>, pass: &mut Pass<CountDesk>, rounds: u64, seed: u64)
     requires ready { IsReady turn.now pass.old }
     ensures ready { IsReady turn.now pass.new }
     ensures number { pass.new.view.number ≡ pass.old.view.number }
@@ -83,8 +83,8 @@ fn play<R: Wait>(rt: &R, turn: &Turn<Desk>, pass: &mut Pass<Desk>, rounds: u64, 
 /// Plays each pass in a thread of its own.
 fn play_all<R: Threads + Wait + Sync>(
     rt: &R,
-    turn: &Turn<Desk>,
-    passes: &mut [Pass<Desk>],
+    turn: &Turn<CountDesk>,
+    passes: &mut [Pass<CountDesk>],
     rounds: u64,
     seed: u64,
 )
@@ -103,10 +103,10 @@ fn play_all<R: Threads + Wait + Sync>(
 /// Splits so many passes from the first one.
 fn hire(
     alloc: Global,
-    turn: &Turn<Desk>,
-    first: &mut Pass<Desk>,
+    turn: &Turn<CountDesk>,
+    first: &mut Pass<CountDesk>,
     count: usize,
-) -> Result<Vec<Pass<Desk>>, AllocError>
+) -> Result<Vec<Pass<CountDesk>>, AllocError>
     requires ready { IsReady turn.now first.old }
     requires first { (first.old.view.number ≡ 0) × (first.old.view.made ≡ 0) × (first.old.view.out ≡ 0) }
     requires few { count < 100 }
@@ -122,7 +122,7 @@ fn hire(
 }
 
 /// Joins the passes into the first one.
-fn retire(turn: &Turn<Desk>, first: &mut Pass<Desk>, mut passes: Vec<Pass<Desk>>)
+fn retire(turn: &Turn<CountDesk>, first: &mut Pass<CountDesk>, mut passes: Vec<Pass<CountDesk>>)
     requires ready { IsReady turn.now first.old }
     requires first { (first.old.view.number ≡ 0) × (first.old.view.out ≡ vec_len passes) }
     requires passes { All (λ pass. IsReady turn.now pass × (pass.view.number ≢ 0)) passes.items }
@@ -147,7 +147,7 @@ fn is_in_order(calls: &[(u64, u64)]) -> bool {
 
 /// What a try finds: the word if it is refused, and else how many calls stand there, which are given
 /// back.
-fn look(turn: &Turn<Desk>, pass: &mut Pass<Desk>) -> Result<usize, Busy>
+fn look(turn: &Turn<CountDesk>, pass: &mut Pass<CountDesk>) -> Result<usize, Busy>
     requires ready { IsReady turn.now pass.old }
     ensures ready { IsReady turn.now pass.new }
     ensures same { (pass.new.view.number ≡ pass.old.view.number) × (pass.new.view.out ≡ pass.old.view.out) }
@@ -163,7 +163,7 @@ fn look(turn: &Turn<Desk>, pass: &mut Pass<Desk>) -> Result<usize, Busy>
 }
 
 /// Tries for the turn at the lock, and gives it back. It is the last call of the pass.
-fn is_free(turn: &Turn<Desk>, pass: &mut Pass<Desk>) -> bool
+fn is_free(turn: &Turn<CountDesk>, pass: &mut Pass<CountDesk>) -> bool
     requires ready { IsReady turn.now pass.old }
 {
     match turn.try_turn(pass) {
@@ -178,9 +178,9 @@ fn is_free(turn: &Turn<Desk>, pass: &mut Pass<Desk>) -> bool
 /// Notes a call by the first pass, where that is wanted, or gives the turn back, and answers what the second one finds
 /// while the first one holds the turn.
 fn found_meanwhile(
-    turn: &Turn<Desk>,
-    first: &mut Pass<Desk>,
-    second: &mut Pass<Desk>,
+    turn: &Turn<CountDesk>,
+    first: &mut Pass<CountDesk>,
+    second: &mut Pass<CountDesk>,
     wanted: bool,
 ) -> Option<Result<usize, Busy>>
     requires first { IsReady turn.now first.old × (first.old.view.number ≡ 0) }
@@ -205,7 +205,7 @@ fn found_meanwhile(
 /// Two passes: their numbers, and what the second one finds while the first one holds the turn, and afterwards. Then
 /// the first one is alone.
 fn two_passes(alloc: Global, told: &mut String) -> Result<(), AllocError> {
-    let (turn, mut first) = Turn::new(alloc, Desk::empty(alloc, 7))?;
+    let (turn, mut first) = Turn::new(alloc, CountDesk::empty(alloc, 7))?;
     let mut second = turn.split_pass(&mut first);
     let (number, made, out) = (first.number(), first.made(), first.out());
     let (other_number, other_made, other_out) = (second.number(), second.made(), second.out());
@@ -226,7 +226,7 @@ fn two_passes(alloc: Global, told: &mut String) -> Result<(), AllocError> {
 /// A pass that is refused while the first one holds the turn, and one that did not ask then: what each finds once the
 /// first one has noted a call, where that is wanted, or has given the turn back.
 fn asked_again(alloc: Global, wanted: bool, told: &mut String) -> Result<(), AllocError> {
-    let (turn, mut first) = Turn::new(alloc, Desk::empty(alloc, 7))?;
+    let (turn, mut first) = Turn::new(alloc, CountDesk::empty(alloc, 7))?;
     let mut refused = turn.split_pass(&mut first);
     let mut other = turn.split_pass(&mut first);
     let meanwhile = found_meanwhile(&turn, &mut first, &mut refused, wanted);
@@ -240,7 +240,7 @@ fn asked_again(alloc: Global, wanted: bool, told: &mut String) -> Result<(), All
 
 /// A lock that is closed after one call.
 fn closed(alloc: Global, told: &mut String) -> Result<(), AllocError> {
-    let (turn, mut first) = Turn::new(alloc, Desk::empty(alloc, 7))?;
+    let (turn, mut first) = Turn::new(alloc, CountDesk::empty(alloc, 7))?;
     let noted = note_once(&turn, &mut first, 5, true);
     let desk = turn.close(first);
     let (name, calls) = (desk.name, desk.calls.as_slice());
@@ -254,7 +254,7 @@ fn shared<T: Threads + Wait + Sync>(
     seed: u64,
     told: &mut String,
 ) -> Result<(), AllocError> {
-    let (turn, mut first) = Turn::new(alloc, Desk::empty(alloc, 7))?;
+    let (turn, mut first) = Turn::new(alloc, CountDesk::empty(alloc, 7))?;
     let mut passes = hire(alloc, &turn, &mut first, 8)?;
     play_all(threads, &turn, passes.as_mut_slice(), ROUNDS, seed);
     retire(&turn, &mut first, passes);

@@ -1,7 +1,7 @@
 //! The tables, and what each of them asks.
 
 use crate::{inputs, locks, logs, masters, shelves, sinks, streams};
-use cases::{Fault, Table, show};
+use cases::{CaseTable, Fault, show};
 use std::alloc::{AllocError, Global};
 use std::io;
 use std::sync::Wait;
@@ -9,7 +9,7 @@ use std::thread::Threads;
 
 /// What is asked in the cases of a table.
 #[derive(Clone, Copy)]
-enum Topic {
+enum CallTopic {
     /// Files are fetched from memory.
     MemoryShelf,
     /// Files of the system are fetched.
@@ -43,22 +43,22 @@ enum Topic {
 }
 
 /// The tables, each with the name of its file.
-const TABLES: [(&str, Topic); 15] = [
-    ("memory_shelf", Topic::MemoryShelf),
-    ("file_shelf", Topic::FileShelf),
-    ("memory_sink", Topic::MemorySink),
-    ("streams", Topic::Streams),
-    ("faults", Topic::Faults),
-    ("system", Topic::System),
-    ("steps", Topic::Steps),
-    ("requests", Topic::Requests),
-    ("generated", Topic::Generated),
-    ("logs", Topic::Logs),
-    ("rows", Topic::Rows),
-    ("last_rows", Topic::LastRows),
-    ("events", Topic::Events),
-    ("locks", Topic::Locks),
-    ("masters", Topic::Masters),
+const TABLES: [(&str, CallTopic); 15] = [
+    ("memory_shelf", CallTopic::MemoryShelf),
+    ("file_shelf", CallTopic::FileShelf),
+    ("memory_sink", CallTopic::MemorySink),
+    ("streams", CallTopic::Streams),
+    ("faults", CallTopic::Faults),
+    ("system", CallTopic::System),
+    ("steps", CallTopic::Steps),
+    ("requests", CallTopic::Requests),
+    ("generated", CallTopic::Generated),
+    ("logs", CallTopic::Logs),
+    ("rows", CallTopic::Rows),
+    ("last_rows", CallTopic::LastRows),
+    ("events", CallTopic::Events),
+    ("locks", CallTopic::Locks),
+    ("masters", CallTopic::Masters),
 ];
 
 /// The names of all tables.
@@ -74,14 +74,14 @@ pub fn all_names(alloc: Global) -> Result<Vec<String>, AllocError> {
 fn tell<T: Threads + Wait + Sync>(
     rt: &HostRuntime,
     threads: &T,
-    topic: Topic,
+    topic: CallTopic,
     given: &str,
     told: &mut String,
 ) -> io::Result<()> {
     match topic {
-        Topic::FileShelf => Ok(shelves::fetched_from_files(rt, given, told)?),
-        Topic::Streams => streams::put(rt, given, told),
-        Topic::Locks => Ok(locks::told(rt, threads, given, told)?),
+        CallTopic::FileShelf => Ok(shelves::fetched_from_files(rt, given, told)?),
+        CallTopic::Streams => streams::put(rt, given, told),
+        CallTopic::Locks => Ok(locks::told(rt, threads, given, told)?),
         _ => Ok(tell_of_values(rt.alloc(), topic, given, told)?),
     }
 }
@@ -89,36 +89,36 @@ fn tell<T: Threads + Wait + Sync>(
 /// Tells of what a case gives that needs nothing of the system but memory.
 fn tell_of_values(
     alloc: Global,
-    topic: Topic,
+    topic: CallTopic,
     given: &str,
     told: &mut String,
 ) -> Result<(), AllocError> {
     match topic {
-        Topic::MemoryShelf => shelves::fetched_from_memory(alloc, given, told),
-        Topic::MemorySink => sinks::put_to_memory(alloc, given, told),
-        Topic::Faults => sinks::printed(given, told),
-        Topic::System => inputs::system(alloc, given, told),
-        Topic::Steps => inputs::steps(alloc, given, told),
-        Topic::Requests => inputs::requests(alloc, given, told),
-        Topic::Generated => inputs::generated(alloc, given, told),
-        Topic::Logs => logs::log(alloc, given, told),
-        Topic::Rows => logs::second_rows(alloc, given, told),
-        Topic::LastRows => logs::last_rows(alloc, given, told),
-        Topic::Events => logs::events(alloc, told),
-        Topic::Masters => masters::told(alloc, given, told),
-        Topic::FileShelf | Topic::Streams | Topic::Locks => Ok(()),
+        CallTopic::MemoryShelf => shelves::fetched_from_memory(alloc, given, told),
+        CallTopic::MemorySink => sinks::put_to_memory(alloc, given, told),
+        CallTopic::Faults => sinks::printed(given, told),
+        CallTopic::System => inputs::system(alloc, given, told),
+        CallTopic::Steps => inputs::steps(alloc, given, told),
+        CallTopic::Requests => inputs::requests(alloc, given, told),
+        CallTopic::Generated => inputs::generated(alloc, given, told),
+        CallTopic::Logs => logs::log(alloc, given, told),
+        CallTopic::Rows => logs::second_rows(alloc, given, told),
+        CallTopic::LastRows => logs::last_rows(alloc, given, told),
+        CallTopic::Events => logs::events(alloc, told),
+        CallTopic::Masters => masters::told(alloc, given, told),
+        CallTopic::FileShelf | CallTopic::Streams | CallTopic::Locks => Ok(()),
     }
 }
 
 /// What answers the cases of a table.
 #[derive(Drop)]
-struct Asked<'a, T> {
+struct CallTable<'a, T> {
     rt: &'a HostRuntime,
     threads: &'a T,
-    topic: Topic,
+    topic: CallTopic,
 }
 
-impl<T: Threads + Wait + Sync> Table for Asked<'_, T> {
+impl<T: Threads + Wait + Sync> CaseTable for CallTable<'_, T> {
     ghost use Rattle.std.specs.Thread.{IsSync};
 
     ghost IsReady = { λ _. IsSync T.row };
@@ -131,7 +131,7 @@ impl<T: Threads + Wait + Sync> Table for Asked<'_, T> {
 }
 
 /// What is asked in the table of this name, where there is one.
-fn topic_named(wanted: &str) -> Option<Topic> {
+fn topic_named(wanted: &str) -> Option<CallTopic> {
     for (name, topic) in TABLES {
         if wanted == name {
             return Some(topic);
@@ -150,5 +150,5 @@ pub fn shown<T: Threads + Wait + Sync>(
         println!(rt; "FAILED {name}: no such table")?;
         return Ok(false);
     };
-    show(rt, name, Asked { rt, threads, topic })
+    show(rt, name, CallTable { rt, threads, topic })
 }

@@ -23,7 +23,7 @@ use Rattle.std.specs.contracts.impls.GlobalAllocator.TheImpl.{ghosts}
 use Rattle.std.proofs.GlobalToken.{dealloc_token-Testable}
 use Rattle.std_alloc.specs.Box.Ownership.{box_owns}
 use Rattle.master_handle.specs.Owned.{owned}
-use Rattle.master_handle.specs.contracts.held.Held.{the_row as R}
+use Rattle.master_handle.specs.contracts.held.HandleContent.{the_row as R}
 use Rattle.master_handle.specs.contracts.handle.FttHandle as handle
 
 abbrev pub one : Val → Val

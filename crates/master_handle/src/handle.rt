@@ -1,9 +1,9 @@
 //! A value behind a pointer that C can hold.
 
 ghost use Rattle.std.specs.Prelude.{◌≡◌, Option, Some, None, option_map};
-ghost use Rattle.master_handle.specs.declared.held.Held.{Held as HeldOf};
+ghost use Rattle.master_handle.specs.declared.held.HandleContent.{HandleContent as HeldOf};
 
-use crate::held::Held;
+use crate::held::HandleContent;
 use crate::loose::Loose;
 use std::alloc::Global;
 use std::marker::Model;
@@ -20,7 +20,7 @@ pub struct FttHandle {
 
 impl Model for FttHandle {
     ghost use Rattle.master_handle.specs.Owned.{owned};
-    ghost use Rattle.master_handle.specs.contracts.held.Held.{the_row};
+    ghost use Rattle.master_handle.specs.contracts.held.HandleContent.{the_row};
 
     ghost also_owns = { λ h. owned the_row h.at h.value };
 }
@@ -33,14 +33,14 @@ impl FttHandle {
         FttHandle { at: null_mut() }
     }
 
-    fn of_loose(loose: Loose<Held, Global>) -> FttHandle
+    fn of_loose(loose: Loose<HandleContent, Global>) -> FttHandle
         ensures { result.value ≡ Some loose.value }
     {
         let Loose { at, alloc: _ } = loose;
         FttHandle { at: at as *mut u8 }
     }
 
-    fn into_loose(self, alloc: Global) -> Option<Loose<Held, Global>>
+    fn into_loose(self, alloc: Global) -> Option<Loose<HandleContent, Global>>
         ensures { option_map (λ b. b.value) result ≡ self.value }
     {
         let FttHandle { at } = self;
@@ -48,21 +48,21 @@ impl FttHandle {
             None
         } else {
             Some(Loose {
-                at: at as *mut Held,
+                at: at as *mut HandleContent,
                 alloc,
             })
         }
     }
 
     /// What the box holds, which C holds from now on.
-    pub fn of(held: Box<Held>) -> FttHandle
+    pub fn of(held: Box<HandleContent>) -> FttHandle
         ensures held { result.value ≡ Some held.value }
     {
         FttHandle::of_loose(Loose::of(held))
     }
 
     /// What is held, where something is.
-    pub fn into_box(self, alloc: Global) -> Option<Box<Held>>
+    pub fn into_box(self, alloc: Global) -> Option<Box<HandleContent>>
         ensures held { option_map (λ b. b.value) result ≡ self.value }
     {
         match self.into_loose(alloc) {

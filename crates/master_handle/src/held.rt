@@ -5,7 +5,7 @@ use master_core::{Core, CorePlanned, CoreSnapshot};
 
 /// What a handle holds.
 #[derive(Drop)]
-pub enum Held {
+pub enum HandleContent {
     /// A master, and the slots that were flagged up to the miss that its last answer told: nothing after other answers.
     Master { core: Core, trail: Trail },
     /// A standby that follows a master: the core that it would go on with.

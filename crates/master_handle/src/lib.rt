@@ -6,4 +6,4 @@ mod held;
 mod loose;
 
 pub use handle::FttHandle;
-pub use held::Held;
+pub use held::HandleContent;

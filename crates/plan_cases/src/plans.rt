@@ -3,7 +3,7 @@
 use crate::{
     admission_calls, fault_calls, list_calls, master_calls, numbers, table_calls, walk_calls,
 };
-use cases::{Fault, Table, cut};
+use cases::{CaseTable, Fault, cut};
 use planner_policies::Fill;
 use requirement_table::{Placed, well_placed};
 use std::alloc::{AllocError, Global};
@@ -23,7 +23,7 @@ impl Plans {
     }
 }
 
-impl Table for Plans {
+impl CaseTable for Plans {
     ghost use Rattle.std.specs.Prelude.{⊤};
 
     ghost IsReady = { λ _. ⊤ };

@@ -1,6 +1,6 @@
 //! Calls about the bytes of a saved state.
 
-use cases::{Fault, Table, bytes, cut};
+use cases::{CaseTable, Fault, bytes, cut};
 use master_core::Saved;
 use saved_state::{ReadFault, checksum, read, write};
 use std::alloc::{AllocError, Global};
@@ -9,7 +9,7 @@ use std::alloc::{AllocError, Global};
 #[derive(Drop)]
 pub struct Saves;
 
-impl Table for Saves {
+impl CaseTable for Saves {
     ghost use Rattle.std.specs.Prelude.{⊤};
 
     ghost IsReady = { λ _. ⊤ };

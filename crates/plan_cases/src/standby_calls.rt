@@ -7,7 +7,7 @@ use crate::admission_calls::{known, rules_of};
 use crate::numbers::{count, first, number, set};
 use admission::Rules;
 use can_frame::Frame;
-use cases::{Fault, Table, cut};
+use cases::{CaseTable, Fault, cut};
 use change_protocol::{Change, Op, Ops};
 use planner_policies::Fill;
 use profile::OPENINGS_END;
@@ -30,7 +30,7 @@ impl Standbys {
     }
 }
 
-impl Table for Standbys {
+impl CaseTable for Standbys {
     ghost use Rattle.std.specs.Prelude.{⊤};
 
     ghost IsReady = { λ _. ⊤ };

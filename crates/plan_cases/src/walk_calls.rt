@@ -18,7 +18,7 @@ struct Values {
 
 /// A value, and the number of steps to it.
 #[derive(Clone, Copy)]
-struct Place {
+struct SteppedValue {
     value: u64,
     steps: u64,
 }
@@ -40,15 +40,15 @@ impl Values {
 }
 
 impl Walk for Values {
-    type State = Place;
+    type State = SteppedValue;
 
-    type Here = Place;
+    type Here = SteppedValue;
 
     ghost use Rattle.std.specs.Prelude.{Option};
     ghost use Rattle.std.specs.Option.{option_map};
     ghost use Rattle.std.proofs.Common.{refl, subst, sym, ◌∙◌, ℕ};
     ghost use Rattle.recurrence_check.specs.Course.{GoOnAlike};
-    ghost use Rattle.plan_cases.specs.declared.walk_calls.Place.{Place};
+    ghost use Rattle.plan_cases.specs.declared.walk_calls.SteppedValue.{SteppedValue};
     ghost use Rattle.plan_cases.specs.declared.walk_calls.Values.{Values};
 
     ghost course = { λ walk. record {
@@ -67,24 +67,24 @@ impl Walk for Values {
 
     ghost is_on = { λ walk here. Unit {0} };
 
-    fn begin(&self, _alloc: Global) -> Result<Place, AllocError> {
-        Ok(Place { value: 0, steps: 0 })
+    fn begin(&self, _alloc: Global) -> Result<SteppedValue, AllocError> {
+        Ok(SteppedValue { value: 0, steps: 0 })
     }
 
-    fn state(&self, here: &Place) -> Place {
+    fn state(&self, here: &SteppedValue) -> SteppedValue {
         *here
     }
 
-    fn step(&self, here: &mut Place) -> Option<Place> {
+    fn step(&self, here: &mut SteppedValue) -> Option<SteppedValue> {
         let value = self.behind(here.value)?;
-        *here = Place {
+        *here = SteppedValue {
             value,
             steps: here.steps + 1,
         };
         Some(*here)
     }
 
-    fn same(&self, one: &Place, other: &Place) -> bool {
+    fn same(&self, one: &SteppedValue, other: &SteppedValue) -> bool {
         one.value == other.value
     }
 
@@ -95,9 +95,9 @@ impl Walk for Values {
     ghost kept = { λ walk one other _ _ _ _ same.
         let behind : ℕ → Option ℕ = λ value. if nat_eq value walk.stop then None
         else Some (if nat_lt value walk.top then value + 1 else walk.back) in
-        let place : ℕ → ℕ → Place = λ steps value. record { value = value; steps = steps + 1 } in
-        let alike : Option Place → Option Place → Type 0 =
-        GoOnAlike (λ (one other : Place). one.value ≡ other.value) in
+        let place : ℕ → ℕ → SteppedValue = λ steps value. record { value = value; steps = steps + 1 } in
+        let alike : Option SteppedValue → Option SteppedValue → Type 0 =
+        GoOnAlike (λ (one other : SteppedValue). one.value ≡ other.value) in
         subst (λ value. alike (option_map (place one.steps) (behind one.value))
         (option_map (place other.steps) (behind value))) same
         (elim (behind one.value) as (λ found. alike (option_map (place one.steps) found)
@@ -110,7 +110,7 @@ impl Keyed for Values {
 
     ghost key_of = { λ walk place. Some (place.value, 0) };
 
-    fn key(&self, state: &Place) -> Option<(u128, u64)> {
+    fn key(&self, state: &SteppedValue) -> Option<(u128, u64)> {
         Some((u128::from(state.value), 0))
     }
 
@@ -118,7 +118,7 @@ impl Keyed for Values {
         1
     }
 
-    fn pass(&self, _here: &mut Place, _most: u64) -> Stretch {
+    fn pass(&self, _here: &mut SteppedValue, _most: u64) -> Stretch {
         Stretch {
             steps: 0,
             key: None,

@@ -6,7 +6,7 @@ use Rattle.requirement_table.specs.Instance.{released_by, worst}
 use Rattle.bit_sets.specs.Sets.{has_bit}
 use Rattle.requirement_table.specs.Table.{IsWellPlaced, instance_in}
 use Rattle.plan_check.specs.declared.blocks.Block.{Block}
-use Rattle.plan_check.specs.Blocks.{AreMarked, IsClearFor, IsFilled, IsFilledFor, IsSameBut, ends_by, has_at}
+use Rattle.plan_check.specs.Blocks.{AreMarked, IsClearFor, IsFilled, IsFilledFor, IsSameButSlot, ends_by, has_at}
 use Rattle.plan_check.specs.Places.{AreSlotsBelow, IsCurrent}
 use Rattle.plan_check.proofs.Current.{absent-instance, current-end}
 use Rattle.plan_check.proofs.Entries.{cost-current, last-current, last-none, releases-current, releases-none}
@@ -48,7 +48,7 @@ filled-some placed from count slot place one p old new well current at clear has
 }
 
 -- the other slots are as before
-same-filled : (placed : List Placed) (from count slot other : ℕ) (old new : Block) → IsSameBut count slot old new → other ≢ slot
+same-filled : (placed : List Placed) (from count slot other : ℕ) (old new : Block) → IsSameButSlot count slot old new → other ≢ slot
     → IsFilledFor placed from count other old → IsFilledFor placed from count other new
 same-filled placed from count slot other old new same apart filled = record {
   released = λ i below. same.released i other below apart ∙ filled.released i below;
@@ -56,7 +56,7 @@ same-filled placed from count slot other old new same apart filled = record {
   cost = λ i below some. same.cost other apart ∙ filled.cost i below some;
 }
 
-same-clear : (count slot other : ℕ) (old new : Block) → IsSameBut count slot old new → other ≢ slot → IsClearFor count other old
+same-clear : (count slot other : ℕ) (old new : Block) → IsSameButSlot count slot old new → other ≢ slot → IsClearFor count other old
     → IsClearFor count other new
 same-clear count slot other old new same apart clear = record {
   released = λ i below. same.released i other below apart ∙ clear.released i below;
@@ -64,7 +64,7 @@ same-clear count slot other old new same apart clear = record {
 }
 
 -- one slot further
-pub filled-next : (placed : List Placed) (from count slot : ℕ) (old new : Block) → IsSameBut count slot old new
+pub filled-next : (placed : List Placed) (from count slot : ℕ) (old new : Block) → IsSameButSlot count slot old new
     → IsFilledFor placed from count slot new → ((s : ℕ) → s < slot → IsFilledFor placed from count s old)
     → (s : ℕ) → s < slot + 1 → IsFilledFor placed from count s new
 filled-next placed from count slot old new same here before s low =
@@ -73,7 +73,7 @@ filled-next placed from count slot old new same here before s low =
     (λ (apart : s ≢ slot). same-filled placed from count slot s old new same apart (before s (omega arith)))
     (cases_eq s slot)
 
-pub clear-next : (count slot : ℕ) (old new : Block) → IsSameBut count slot old new → ((s : ℕ) → slot ≤ s → IsClearFor count s old)
+pub clear-next : (count slot : ℕ) (old new : Block) → IsSameButSlot count slot old new → ((s : ℕ) → slot ≤ s → IsClearFor count s old)
     → (s : ℕ) → slot + 1 ≤ s → IsClearFor count s new
 clear-next count slot old new same clear s high = same-clear count slot s old new same (λ is. omega arith) (clear s (omega arith))
 

@@ -51,7 +51,7 @@ pub record IsClearFor (count slot : ℕ) (block : Block) : Type 0 where
   pub ends : (i : ℕ) → i < count → has_at block.ends i slot ≡ false
 
 -- of the other slots so many sets say what they said before
-pub record IsSameBut (count slot : ℕ) (old new : Block) : Type 0 where
+pub record IsSameButSlot (count slot : ℕ) (old new : Block) : Type 0 where
   pub released : (i other : ℕ) → i < count → other ≢ slot → has_at new.released i other ≡ has_at old.released i other
   pub ends : (i other : ℕ) → i < count → other ≢ slot → has_at new.ends i other ≡ has_at old.ends i other
   pub cost : (other : ℕ) → other ≢ slot → slice_index_or new.costs other 0 ≡ slice_index_or old.costs other 0

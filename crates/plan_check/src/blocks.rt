@@ -5,7 +5,7 @@ ghost use Rattle.profile.specs.Limits.{cycles_end};
 ghost use Rattle.requirement_table.specs.Instance.{released_by};
 ghost use Rattle.bit_sets.specs.Sets.{most_slots};
 ghost use Rattle.requirement_table.specs.Table.{IsInRange, IsWellPlaced, is_over};
-ghost use Rattle.plan_check.specs.Blocks.{AreMarked, IsClearFor, IsFilled, IsFilledFor, IsLastBlock, IsSameBut, ends_by, meets};
+ghost use Rattle.plan_check.specs.Blocks.{AreMarked, IsClearFor, IsFilled, IsFilledFor, IsLastBlock, IsSameButSlot, ends_by, meets};
 ghost use Rattle.plan_check.specs.Places.{AreCurrent, AreSlotsBelow, IsCurrent};
 ghost use Rattle.plan_check.specs.PlanKept.{goes_round};
 
@@ -225,7 +225,7 @@ fn fill_slot(placed: &[Placed], from: u64, count: u64, slot: u8, place: usize, b
     requires current { (i : ℕ) → i < count → IsCurrent placed.now (from + i) slot place }
     requires clear { IsClearFor count slot block.old }
     ensures filled { IsFilledFor placed.now from count slot block.new }
-    ensures others { IsSameBut count slot block.old block.new }
+    ensures others { IsSameButSlot count slot block.old block.new }
 {
     if let Some(p) = placed.get(place) {
         let one = Mask::empty().with(slot);

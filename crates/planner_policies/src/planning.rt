@@ -357,7 +357,7 @@ fn plan_each(line: &[Due], w: u32, cycle: u64) -> Result<PlannedCycle, Miss>
 
 /// The first instances of a line, as many as fit a window together.
 #[derive(Drop)]
-struct Front {
+struct LineFront {
     /// How many there are.
     count: usize,
     /// What they cost together, in bit times.
@@ -367,7 +367,7 @@ struct Front {
 }
 
 /// The first instances of a line, as many as fit a window of `w` bit times together.
-fn front_of(line: &[Due], w: u32) -> Front
+fn front_of(line: &[Due], w: u32) -> LineFront
     requires known { All (λ due. due.slot < most_slots) line.now }
     ensures longest { IsLongestFit w line.now result.count }
     ensures width { result.width ≡ sum_by (λ due. due.cost) (take result.count line.now) }
@@ -380,7 +380,7 @@ fn front_of(line: &[Due], w: u32) -> Front
     for (place, due) in line.iter().enumerate() {
         if due.cost > w - width {
             mask.known();
-            return Front {
+            return LineFront {
                 count: place,
                 width,
                 mask,
@@ -390,7 +390,7 @@ fn front_of(line: &[Due], w: u32) -> Front
         mask = mask.with(due.slot);
     }
     mask.known();
-    Front {
+    LineFront {
         count: line.len(),
         width,
         mask,

@@ -22,8 +22,8 @@ use Rattle.steps_file.specs.declared.step_rows.Form.{Form}
 use Rattle.steps_file.specs.declared.step_rows.Form.TheVariants as form
 use Rattle.steps_file.specs.declared.step_rows.StepLine.{StepLine}
 use Rattle.steps_file.specs.declared.step_rows.StepLine.TheVariants as line
-use Rattle.steps_file.specs.declared.step_rows.Verb.{Verb}
-use Rattle.steps_file.specs.declared.step_rows.Verb.TheVariants as verb
+use Rattle.steps_file.specs.declared.step_rows.StepVerb.{StepVerb}
+use Rattle.steps_file.specs.declared.step_rows.StepVerb.TheVariants as verb
 
 -- the parts of a chain that gave something
 part : {A B : Type 0} (o : Option A) (f : A → Option B) (y : B) → option_and_then f o ≡ Some y → (x : A) × (o ≡ Some x) × (f x ≡ Some y)
@@ -81,7 +81,7 @@ entry_fits row place entry h =
       priority = omega (arith, (number_in row (place + 6) 0 255 priority.0 priority.1).1);
     }
 
-operation_fits : (v : Verb) (row : List (List ℕ)) (place : ℕ) (op : Op) → operation_at v row place ≡ Some op → FitsOperation op
+operation_fits : (v : StepVerb) (row : List (List ℕ)) (place : ℕ) (op : Op) → operation_at v row place ≡ Some op → FitsOperation op
 operation_fits verb.Add row place op h =
     let entry = mapped (entry_at row place) operation.Add op h in
     rw (← entry.2) (entry_fits row place entry.0 entry.1)
@@ -100,7 +100,7 @@ FitsLine (line.Look caller) = Unit {0}
 FitsLine (line.Begins caller start op) = (start < 2 ^ 64) × FitsOperation op
 FitsLine (line.Joins op) = FitsOperation op
 
-beginning_fits : (v : Verb) (row : List (List ℕ)) (said : StepLine) → beginning v row ≡ Some said → FitsLine said
+beginning_fits : (v : StepVerb) (row : List (List ℕ)) (said : StepLine) → beginning v row ≡ Some said → FitsLine said
 beginning_fits v row said h =
     let caller = part (number_at row 1 0 255) _ said h in
     let start = part (number_at row 2 0 (2 ^ 64 - 1)) _ said caller.2 in

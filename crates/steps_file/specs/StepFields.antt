@@ -5,8 +5,8 @@ use Rattle.requirement_table.specs.declared.entries.Entry.{Entry}
 use Rattle.change_protocol.specs.declared.operations.Op.{Op}
 use Rattle.change_protocol.specs.declared.operations.Op.TheVariants as operation
 use Rattle.text_fields.specs.CsvRows.{number_at}
-use Rattle.steps_file.specs.declared.step_rows.Verb.{Verb}
-use Rattle.steps_file.specs.declared.step_rows.Verb.TheVariants.{Add, Remove, Change}
+use Rattle.steps_file.specs.declared.step_rows.StepVerb.{StepVerb}
+use Rattle.steps_file.specs.declared.step_rows.StepVerb.TheVariants.{Add, Remove, Change}
 use Rattle.steps_file.specs.declared.step_rows.Form.{Form}
 use Rattle.steps_file.specs.declared.step_rows.Form.TheVariants as form
 use Rattle.steps_file.specs.declared.step_rows.StepLine.{StepLine}
@@ -38,13 +38,13 @@ entry_at row place = do
   })
 
 -- the operation that the fields from this place on describe
-abbrev pub operation_at : Verb → List (List ℕ) → ℕ → Option Op
+abbrev pub operation_at : StepVerb → List (List ℕ) → ℕ → Option Op
 operation_at Add row place = option_map operation.Add (entry_at row place)
 operation_at Remove row place = option_map operation.Remove (number_at row place 0 255)
 operation_at Change row place = option_map operation.Change (entry_at row place)
 
 -- the row `add`, `remove` or `change`, with OPERATOR, START and the operation
-abbrev pub beginning : Verb → List (List ℕ) → Option StepLine
+abbrev pub beginning : StepVerb → List (List ℕ) → Option StepLine
 beginning verb row = do
   caller ← number_at row 1 0 255
   start ← number_at row 2 0 (2 ^ 64 - 1)

@@ -3,13 +3,13 @@ use Rattle.std.specs.Prelude.{ℕ, ◌+◌, ◌==◌}
 use Rattle.std.specs.Prelude.{Bool, false, if◌then◌else◌, List, Option, Some, None, option_map, option_and_then, codes}
 use Rattle.std.specs.Str.{bytes_eq}
 use Rattle.csv.specs.Records.{field_at}
-use Rattle.steps_file.specs.declared.step_rows.Verb.{Verb}
-use Rattle.steps_file.specs.declared.step_rows.Verb.TheVariants.{Add, Remove, Change}
+use Rattle.steps_file.specs.declared.step_rows.StepVerb.{StepVerb}
+use Rattle.steps_file.specs.declared.step_rows.StepVerb.TheVariants.{Add, Remove, Change}
 use Rattle.steps_file.specs.declared.step_rows.Form.{Form}
 use Rattle.steps_file.specs.declared.step_rows.Form.TheVariants.{Cycle, Look, Begins, Joins}
 
 -- what an operation does, by its word
-abbrev pub verb_of : List ℕ → Option Verb
+abbrev pub verb_of : List ℕ → Option StepVerb
 verb_of word =
     if bytes_eq word (codes "add") then Some Add
     else if bytes_eq word (codes "remove") then Some Remove
@@ -34,7 +34,7 @@ unfoldable pub form_of : List (List ℕ) → Option Form
 form_of row = option_and_then (form_of_word row) (field_at row 0)
 
 -- how many fields an operation has: SLOT, NODE, LENGTH, PHASE, PERIOD, DEADLINE and PRIORITY, or SLOT alone
-abbrev pub fields_of_verb : Verb → ℕ
+abbrev pub fields_of_verb : StepVerb → ℕ
 fields_of_verb Add = 7
 fields_of_verb Remove = 1
 fields_of_verb Change = 7

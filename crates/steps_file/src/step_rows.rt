@@ -26,7 +26,7 @@ use text_fields::{Record, field_of, number};
 
 /// What an operation does.
 #[derive(Clone, Copy, Debug, PartialEq, Eq)]
-pub enum Verb {
+pub enum StepVerb {
     /// It adds an entry.
     Add,
     /// It removes a slot's entry.
@@ -43,9 +43,9 @@ pub enum Form {
     /// `look`.
     Look,
     /// `add`, `remove` or `change`: it begins a change with this operation.
-    Begins(Verb),
+    Begins(StepVerb),
     /// `and`: it joins an operation to a change. `None` where no word of an operation follows.
-    Joins(Option<Verb>),
+    Joins(Option<StepVerb>),
 }
 
 /// What a row says.
@@ -78,15 +78,15 @@ pub enum StepLine {
 }
 
 /// What an operation does, by its word.
-fn read_verb(word: &[u8]) -> Option<Verb>
+fn read_verb(word: &[u8]) -> Option<StepVerb>
     ensures value { result ≡ verb_of word.now }
 {
     if word == b"add".as_slice() {
-        Some(Verb::Add)
+        Some(StepVerb::Add)
     } else if word == b"remove".as_slice() {
-        Some(Verb::Remove)
+        Some(StepVerb::Remove)
     } else if word == b"change".as_slice() {
-        Some(Verb::Change)
+        Some(StepVerb::Change)
     } else {
         None
     }
@@ -122,13 +122,13 @@ fn read_form(row: &Record<'_>) -> Option<Form>
 }
 
 /// How many fields an operation has.
-fn fields_of_verb(verb: Verb) -> usize
+fn fields_of_verb(verb: StepVerb) -> usize
     ensures value { result ≡ fields_of_verb verb }
     ensures few { result ≤ 7 }
 {
     match verb {
-        Verb::Add | Verb::Change => 7,
-        Verb::Remove => 1,
+        StepVerb::Add | StepVerb::Change => 7,
+        StepVerb::Remove => 1,
     }
 }
 
@@ -168,20 +168,20 @@ fn read_entry(row: &Record<'_>, place: usize) -> Option<Entry>
 }
 
 /// The operation that the fields from this place on describe.
-fn read_operation(verb: Verb, row: &Record<'_>, place: usize) -> Option<Op>
+fn read_operation(verb: StepVerb, row: &Record<'_>, place: usize) -> Option<Op>
     requires near { place ≤ 3 }
     ensures value { result ≡ operation_at verb (map trimmed (fields_in row.now)) place }
 {
     match verb {
-        Verb::Add => {
+        StepVerb::Add => {
             let entry = read_entry(row, place)?;
             Some(Op::Add { entry })
         }
-        Verb::Remove => {
+        StepVerb::Remove => {
             let slot = number(row, place, 0..=255)?;
             Some(Op::Remove { slot: slot as u8 })
         }
-        Verb::Change => {
+        StepVerb::Change => {
             let entry = read_entry(row, place)?;
             Some(Op::Change { entry })
         }
@@ -189,7 +189,7 @@ fn read_operation(verb: Verb, row: &Record<'_>, place: usize) -> Option<Op>
 }
 
 /// What a row says that begins a change with this operation.
-fn read_beginning(verb: Verb, row: &Record<'_>) -> Option<StepLine>
+fn read_beginning(verb: StepVerb, row: &Record<'_>) -> Option<StepLine>
     ensures value { result ≡ beginning verb (map trimmed (fields_in row.now)) }
 {
     let caller = number(row, 1, 0..=255)?;

@@ -10,6 +10,7 @@ use Rattle.kept_run.specs.Progress.{IsOnTheWay}
 use Rattle.steps_file.specs.StepsFile.{count_of}
 use Rattle.steps_file.specs.declared.steps.Step.{Step}
 use Rattle.system_file.specs.declared.system.System.{System}
+use Rattle.replay_run.specs.Progress.{EndsIn}
 use Rattle.replay_run.specs.Run.{setting_of}
 use Rattle.bus_trace.specs.EventRows.{told_at}
 use Rattle.bus_trace.specs.Logged.{IsEventNear}
@@ -31,12 +32,7 @@ pub record IsAgain (system : System) (requests : List Request) (trace : List Tim
 abbrev pub CanGoOn : Rerun → Type 0
 CanGoOn rerun = (system : System) × (requests : List Request) × (trace : List TimedFrame) × IsAgain system requests trace rerun
 
--- the history ends in the event
-pub record EndsIn (history : List Event) (event : Event) : Type 0 where
-  pub before : List Event
-  pub is : history ≡ before ++ event ∷ []
-
--- it ends in an event whose rows can be told
+-- the history ends in an event whose rows can be told
 pub record EndsNear (history : List Event) : Type 0 where
   pub event : Event
   pub ends : EndsIn history event

@@ -1,7 +1,7 @@
 use Rattle.std.proofs.Common.{◌∙◌, arith, map, refl}
 use Rattle.ftt_io.specs.Counts.{Rose}
 use Rattle.command_words.specs.WordsRead.{named}
-use Rattle.asked_files.specs.Inputs.{AreRead, nothing_read}
+use Rattle.asked_files.specs.Inputs.{AreFilesRead, nothing_read}
 use Rattle.asked_files.specs.Loads.{IsHeldUp}
 use Rattle.asked_files.proofs.FetchLemmas.{goes-on, going-ends, going-start, held-up, most-fetched, most-so-far}
 use Rattle.asked_files.proofs.LoadLemmas.{handed-on}
@@ -36,7 +36,7 @@ returns-in_err-content-clause-stop g c =
     let old = g.S.Shelf.fetches c.args.shelf.now in
     let next = g.S.Shelf.fetches c.fetch_content.new.shelf in
     let loop = c.loop-file.invariant in
-    handed-on (IsHeldUp ⊥ rose told (λ files. AreRead files sources nothing_read) sources old next) c.from_residual.result
+    handed-on (IsHeldUp ⊥ rose told (λ files. AreFilesRead files sources nothing_read) sources old next) c.from_residual.result
     c.in_err-content.field-0.0 c.from_residual.ensures.1
     (held-up told c.args.files.now old (g.S.Shelf.fetches c.loop-file.shelf) c.loop-file.file-index _ c.loop-file.inputs
     c.loop-file-test.true loop.going

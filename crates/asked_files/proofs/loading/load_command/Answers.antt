@@ -2,7 +2,7 @@ use Rattle.std.proofs.Common.{◌∙◌, Some, ap, length, map, option_map, subs
 use Rattle.ftt_io.specs.Counts.{Rose}
 use Rattle.command_words.specs.WordsRead.{command_read, named}
 use Rattle.asked_files.specs.Asked.{IsNotAsked, asked_of}
-use Rattle.asked_files.specs.Inputs.{AreRead, nothing_read}
+use Rattle.asked_files.specs.Inputs.{AreFilesRead, nothing_read}
 use Rattle.asked_files.specs.Loads.{AreAllRead, Fetches, IsHeldUp}
 use Rattle.asked_files.proofs.TaskLemmas.{loaded, never-none, not-loaded}
 use Rattle.asked_files.proofs.LoadLemmas.{handed-on}
@@ -16,7 +16,7 @@ returns-in_err-inputs-clause-stop g c =
     let old = g.S.Shelf.fetches c.args.shelf.now in
     let new = g.S.Shelf.fetches c.fetch_all.new.shelf in
     let why = c.in_err-inputs.field-0.0 in
-    let held = subst (λ files. IsHeldUp ⊥ rose told (λ all. AreRead all files nothing_read) files old new why)
+    let held = subst (λ files. IsHeldUp ⊥ rose told (λ all. AreFilesRead all files nothing_read) files old new why)
     (ap (map named) c.as_slice.ensures.value) c.in_err-inputs.ensures.stop in
     handed-on (IsNotAsked (Some command) rose told old new) c.from_residual.result why c.from_residual.ensures.1
     (not-loaded command told old new rose why held)

@@ -4,7 +4,7 @@ use Rattle.std.proofs.lemmas.List.Elements.{All-filter}
 use Rattle.std.proofs.lemmas.Option.{slice_get_read}
 use Rattle.std.specs.Prelude.{nat_eq}
 use Rattle.async_window.specs.declared.request.Request.{Request}
-use Rattle.async_bound.specs.declared.stream.Stream.{Stream}
+use Rattle.async_bound.specs.declared.stream.BurstStream.{BurstStream}
 use Rattle.async_bound.specs.Streams.{AreStreams, IsStream}
 use Rattle.bounded_runs.specs.declared.of_streams.StrayWhy.{StrayWhy}
 use Rattle.bounded_runs.specs.declared.of_streams.Traffic.{Traffic}
@@ -14,7 +14,7 @@ use Rattle.bounded_runs.proofs.Belongs.{arrivals-more, arrivals-rise, belongs-fr
 use Rattle.bounded_runs.proofs.of_streams.are_of_streams.Goals as goal
 
 -- what is known of an identifier
-its-streams : (all : List Traffic) (traffic : Traffic) (at n id : ℕ) (streams : List Stream) → traffic ≡ get_or all at traffic → at ≡ n → n ≡ id
+its-streams : (all : List Traffic) (traffic : Traffic) (at n id : ℕ) (streams : List BurstStream) → traffic ≡ get_or all at traffic → at ≡ n → n ≡ id
     → n ≤ 2031 → ((place : ℕ) (d : Traffic) → place < 2048 → (get_or all place d).streams.items ≡ streams_of streams place)
     → traffic.streams.items ≡ streams_of streams id
 its-streams all traffic at n id streams is is_n is_id few each =
@@ -31,7 +31,7 @@ with-one : (requests : List Request) (k : ℕ) (r : Request) → k < length requ
     → take (k + 1) requests ≡ take k requests ++ r ∷ []
 with-one requests k r within is = take_more requests k r within ∙ ap (λ z. take k requests ++ z ∷ []) (sym is)
 
-strays-here : (streams : List Stream) (requests : List Request) (k : ℕ) (r : Request) (why : StrayWhy) (own : List Stream) (arrived : List ℕ)
+strays-here : (streams : List BurstStream) (requests : List Request) (k : ℕ) (r : Request) (why : StrayWhy) (own : List BurstStream) (arrived : List ℕ)
     → AreStreams streams → k < length requests → r ≡ get_or requests k r → AreOfStreams streams (take k requests)
     → own ≡ streams_of streams r.frame.identifier → arrived ≡ arrivals_of (take k requests) r.frame.identifier → Strays own arrived r why
     → IsFirstStray streams requests k why
@@ -45,12 +45,12 @@ strays-here streams requests k r why own arrived known within is before same_own
       strays = here;
     }
 
-not-all : (streams : List Stream) (requests : List Request) (k : ℕ) (why : StrayWhy) → IsFirstStray streams requests k why → AreOfStreams streams requests → ⊥
+not-all : (streams : List BurstStream) (requests : List Request) (k : ℕ) (why : StrayWhy) → IsFirstStray streams requests k why → AreOfStreams streams requests → ⊥
 not-all streams requests k why first are =
     first.no_more (belongs-front streams (take (k + 1) requests) (drop (k + 1) requests)
     (subst (AreOfStreams streams) (sym (take-append-drop (k + 1) requests)) are))
 
-one-more : (streams : List Stream) (requests : List Request) (k : ℕ) (r : Request) (own : List Stream) (arrived : List ℕ)
+one-more : (streams : List BurstStream) (requests : List Request) (k : ℕ) (r : Request) (own : List BurstStream) (arrived : List ℕ)
     → AreStreams streams → k < length requests → r ≡ get_or requests k r → AreOfStreams streams (take k requests)
     → own ≡ streams_of streams r.frame.identifier → arrived ≡ arrivals_of (take k requests) r.frame.identifier → FollowsStreams own arrived r
     → AreOfStreams streams (take (k + 1) requests)

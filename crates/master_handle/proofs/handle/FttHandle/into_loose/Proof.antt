@@ -32,7 +32,7 @@ use Rattle.std.proofs.raw_atomic.Walks.{proved_at, leaves}
 use Rattle.std_alloc.proofs.ResultValues.{and_tt}
 use Rattle.master_handle.proofs.Parts.{two, Parts, two_fit, parts_close}
 use Rattle.master_handle.proofs.Owning.{one, handle_out, either}
-use Rattle.master_handle.specs.contracts.held.Held.{the_row as R}
+use Rattle.master_handle.specs.contracts.held.HandleContent.{the_row as R}
 use Rattle.master_handle.specs.contracts.handle.FttHandle as handle
 use Rattle.master_handle.specs.contracts.handle.FttHandle.into_loose.{ended, clauses}
 use Rattle.master_handle.specs.contracts.handle.FttHandle.into_loose.Key.{name as #self}

@@ -18,7 +18,7 @@ use Rattle.core.specs.declared.option.Option.{Option}
 use Rattle.core.specs.declared.option.Option.TheVariants.{None}
 use Rattle.std.proofs.raw_atomic.Walks.{proved_at, leaves}
 use Rattle.master_handle.proofs.Owning.{one, handle_in}
-use Rattle.master_handle.specs.contracts.held.Held.{the_row as R}
+use Rattle.master_handle.specs.contracts.held.HandleContent.{the_row as R}
 use Rattle.master_handle.specs.contracts.handle.FttHandle.none.{ended, clauses}
 use Rattle.master_handle.specs.contracts.handle.FttHandle.none.Key.{name as #self}
 use Rattle.master_handle.proofs.handle.FttHandle.none.Statement.{statement}

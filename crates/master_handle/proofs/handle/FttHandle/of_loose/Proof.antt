@@ -24,7 +24,7 @@ use Rattle.std.proofs.raw_atomic.Walks.{proved_at, leaves}
 use Rattle.master_handle.proofs.Parts.{two, Parts, two_fit, parts_open}
 use Rattle.std.specs.declared.alloc.Global.{Global}
 use Rattle.master_handle.proofs.Owning.{one, boxed, handle_in}
-use Rattle.master_handle.specs.contracts.held.Held.{the_row as R}
+use Rattle.master_handle.specs.contracts.held.HandleContent.{the_row as R}
 use Rattle.master_handle.specs.contracts.handle.FttHandle.of_loose.{ended, clauses}
 use Rattle.master_handle.specs.contracts.handle.FttHandle.of_loose.Key.{name as #self}
 use Rattle.master_handle.proofs.handle.FttHandle.of_loose.Statement.{statement}
