@@ -29,7 +29,7 @@ use std::alloc::{AllocError, Global};
 
 /// A table whose plan goes on from a state, by these rules.
 #[derive(Drop)]
-struct Standing {
+struct StandingTable {
     rules: Rules,
     list: Vec<Placed>,
     ranked: Ranked,
@@ -42,7 +42,7 @@ fn standing_in(
     rules: Rules,
     placed: &[FttPlaced],
     state: &FttState,
-) -> Result<Standing, ExportRefusal>
+) -> Result<StandingTable, ExportRefusal>
     requires known { IsRules rules }
     ensures rules { IfOk result (λ standing. standing.rules ≡ rules) }
     ensures list { IfOk result (λ standing. standing.list.items ≡ table_of placed.now) }
@@ -59,7 +59,7 @@ fn standing_in(
     let list = table_in(alloc, placed)?;
     let ranked = rank(alloc, list.as_slice(), rules.policy, rules.fill)?;
     let state = state_in(&ranked, state)?;
-    Ok(Standing {
+    Ok(StandingTable {
         rules,
         list,
         ranked,

@@ -17,7 +17,7 @@ use bus_trace::log_text;
 use can_frame::TimedFrame;
 use ftt_io::Sink;
 use generated_input::generate;
-use live_run::{Ended, Gate};
+use live_run::{EndedRun, Gate};
 use master_core::{Event, Master, all_accepted};
 use plan_check::{Breach, Certificate, check, write_plan};
 use replay_run::{Tailed, answer, asked_table, replay, replay_tail};
@@ -118,7 +118,7 @@ pub fn live_log_of<T: Threads + Wait + Sync, G: Gate>(
     let owners = system.owners.as_slice();
     let requests = requests.as_slice();
     let steps = steps.into_vec();
-    let Ended { master, run } = live_steps::live(rt, alloc, &system, steps, requests, gate)?;
+    let EndedRun { master, run } = live_steps::live(rt, alloc, &system, steps, requests, gate)?;
     let history = master.history();
     let trace = run.trace.as_slice();
     let mut text = log_text(alloc, history, trace)?;

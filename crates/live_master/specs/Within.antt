@@ -6,8 +6,8 @@ use Rattle.admission_rules.specs.declared.Rules.{Rules}
 use Rattle.master_core.specs.declared.event.Event.{Event}
 use Rattle.master_core.specs.History.{next_of, placed_of}
 use Rattle.live_master.specs.Calls.{GaveBack, IsOpenedInTurn}
-use Rattle.live_master.specs.declared.within.Opening.{Opening}
-use Rattle.live_master.specs.declared.within.Opening.TheVariants as opening
+use Rattle.live_master.specs.declared.within.FoundOpening.{FoundOpening}
+use Rattle.live_master.specs.declared.within.FoundOpening.TheVariants as opening
 
 -- a cycle was opened by this order. No more entries are placed, and the list that is learnt with it, where there is one,
 -- has no more
@@ -25,6 +25,6 @@ pub record IsShort (entries : ℕ) (old new : Known Event Rules) (needed : ℕ) 
   pub alone : next_of gave_back.between ≡ 0
 
 -- with room for so many entries
-abbrev pub OpenedWithin : Rules → ℕ → Known Event Rules → Known Event Rules → Opening → Type 0
+abbrev pub OpenedWithin : Rules → ℕ → Known Event Rules → Known Event Rules → FoundOpening → Type 0
 OpenedWithin rules entries old new (opening.Opened order) = IsOpenedWithin rules entries old new order
 OpenedWithin rules entries old new (opening.Short needed) = IsShort entries old new needed

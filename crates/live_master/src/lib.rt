@@ -20,4 +20,4 @@ mod within;
 pub use fault::{SettleFault, TryFault};
 pub use live::LiveMaster;
 pub use passes::{DispatcherPass, OperatorPass};
-pub use within::Opening;
+pub use within::FoundOpening;

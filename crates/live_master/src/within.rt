@@ -21,7 +21,7 @@ use turn_lock::{Pass, Turn};
 
 /// What a call found that opens a cycle where there is room for so many entries.
 #[derive(Drop, Debug)]
-pub enum Opening {
+pub enum FoundOpening {
     /// There is room: the cycle was opened by this order.
     Opened { order: Order },
     /// So many entries are placed, more than there is room for. No cycle was opened.
@@ -35,7 +35,7 @@ fn open_within_once(
     alloc: Global,
     pass: &mut Pass<Desk>,
     entries: usize,
-) -> Result<Opening, TryFault>
+) -> Result<FoundOpening, TryFault>
     requires standing { IsPassOf turn.now pass.old }
     requires dispatcher { pass.old.view.number ≡ 0 }
     requires cycles { next_of pass.old.view.mine < openings_end }
@@ -51,13 +51,13 @@ fn open_within_once(
             let needed = desk.master.placed().len();
             if entries < needed {
                 held.give_back();
-                return Ok(Opening::Short { needed });
+                return Ok(FoundOpening::Short { needed });
             }
             match desk.master.reserve(alloc, 1) {
                 Ok(()) => {
                     let order = desk.master.open();
                     held.commit();
-                    Ok(Opening::Opened { order })
+                    Ok(FoundOpening::Opened { order })
                 }
                 Err(_full) => {
                     held.give_back();
@@ -82,7 +82,7 @@ impl LiveMaster {
         alloc: Global,
         pass: &mut DispatcherPass,
         entries: usize,
-    ) -> Result<Opening, TryFault>
+    ) -> Result<FoundOpening, TryFault>
         requires of { IsOfLock self.now pass.old }
         requires cycles { next_of pass.old.view.mine < openings_end }
         ensures within { IfOk result (λ opening. OpenedWithin self.now.fixed entries pass.old pass.new opening) }
@@ -90,11 +90,11 @@ impl LiveMaster {
         ensures standing { IsPassOf self.now pass.new }
     {
         match open_within_once(&self.turn, alloc, &mut pass.pass, entries)? {
-            Opening::Opened { order } => {
+            FoundOpening::Opened { order } => {
                 pass.cycles += 1;
-                Ok(Opening::Opened { order })
+                Ok(FoundOpening::Opened { order })
             }
-            Opening::Short { needed } => Ok(Opening::Short { needed }),
+            FoundOpening::Short { needed } => Ok(FoundOpening::Short { needed }),
         }
     }
 
@@ -110,7 +110,7 @@ impl LiveMaster {
         alloc: Global,
         pass: &mut DispatcherPass,
         entries: usize,
-    ) -> Result<Opening, AllocError>
+    ) -> Result<FoundOpening, AllocError>
         requires of { IsOfLock self.now pass.old }
         requires cycles { next_of pass.old.view.mine < openings_end }
         ensures within { IfOk result (λ opening.

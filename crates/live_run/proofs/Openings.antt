@@ -16,7 +16,7 @@ use Rattle.kept_run.specs.Setting.{Setting}
 use Rattle.live_master.specs.Callers.{number_of}
 use Rattle.live_master.specs.Calls.{AfterWaiting, GaveBack}
 use Rattle.live_master.specs.Within.{OpenedWithin}
-use Rattle.live_master.specs.declared.within.Opening.TheVariants as opening
+use Rattle.live_master.specs.declared.within.FoundOpening.TheVariants as opening
 use Rattle.live_run.specs.declared.dispatching.LiveBus.{LiveBus}
 use Rattle.live_run.specs.Running.{CanDispatch, HasOpened, HasSeen, IsRunning, IsSameBus, KeepsPasses}
 use Rattle.live_run.proofs.Runs.{all-closed, closed-behind}

@@ -6,7 +6,7 @@ use Rattle.master_core.specs.History.{next_of}
 use Rattle.kept_run.specs.Kept.{Kept}
 use Rattle.kept_run.specs.Setting.{Setting}
 use Rattle.live_master.specs.Callers.{number_of}
-use Rattle.live_run.specs.declared.closing.Ended.{Ended}
+use Rattle.live_run.specs.declared.closing.EndedRun.{EndedRun}
 use Rattle.live_run.specs.declared.script.Script.{Script}
 use Rattle.live_run.specs.Answers.{AnswersActs}
 use Rattle.live_run.specs.Live.{AreRequestsLeft}
@@ -22,7 +22,7 @@ pub record AnswersScripts (cycles : ℕ) (scripts : List Script) (history : List
 
 -- the master's history is legal, answers the scripts, and with the trace keeps what is promised; and so many requests
 -- are not sent
-pub record IsWholeRun (setting : Setting) (cycles : ℕ) (scripts : List Script) (ended : Ended) : Type 0 where
+pub record IsWholeRun (setting : Setting) (cycles : ℕ) (scripts : List Script) (ended : EndedRun) : Type 0 where
   pub rules : ended.master.rules ≡ setting.rules
   pub kept : Kept setting ended.master.history ended.run.trace
   pub answers : AnswersScripts cycles scripts ended.master.history

@@ -26,7 +26,7 @@ use std::thread::Threads;
 
 /// What a whole run leaves.
 #[derive(Drop)]
-pub struct Ended {
+pub struct EndedRun {
     /// The master, with the history of the run.
     pub master: Master,
     /// The frames on the bus, and how many requests are not sent.
@@ -54,7 +54,7 @@ pub fn run_whole<T: Threads + Wait + Sync, G: Gate>(
     cycles: u64,
     scripts: Vec<Script>,
     gate: &G,
-) -> Result<Ended, AllocError>
+) -> Result<EndedRun, AllocError>
     ghost setting: { Setting }
     requires given { setting ≡ record {
       rules = rules;
@@ -82,5 +82,5 @@ pub fn run_whole<T: Threads + Wait + Sync, G: Gate>(
     let nodes = Nodes::new(alloc, layout, rules.nodes, owners, requests)?;
     let run = run_live(rt, alloc, &shared, &mut pass, nodes, cycles, scripts, gate)?;
     let master = shared.close(pass);
-    Ok(Ended { master, run })
+    Ok(EndedRun { master, run })
 }

@@ -18,7 +18,7 @@ use can_frame::TimedFrame;
 use cycle_engine::{Nodes, Segment, run_cycle_in};
 use kept_run::laws::{calls_between, cycles_run, one_call_more, orders};
 use live_master::laws::openings_of_dispatchers;
-use live_master::{DispatcherPass, LiveMaster, Opening};
+use live_master::{DispatcherPass, FoundOpening, LiveMaster};
 use profile::SHORTEST_FRAME;
 use requirement_table::Order;
 use std::alloc::{AllocError, Global};
@@ -81,8 +81,8 @@ fn open_next<R: Wait>(
     openings_of_dispatchers();
     for _ in rt.forever() {
         match shared.open_within(rt, alloc, pass, *entries)? {
-            Opening::Opened { order } => return Ok(order),
-            Opening::Short { needed } => {
+            FoundOpening::Opened { order } => return Ok(order),
+            FoundOpening::Short { needed } => {
                 nodes.reserve(alloc, needed)?;
                 *entries = needed;
             }

@@ -14,7 +14,7 @@ mod running;
 mod script;
 mod sharing;
 
-pub use closing::{Ended, run_whole};
+pub use closing::{EndedRun, run_whole};
 pub use frames::{FrameList, Run};
 pub use points::{Gate, OpenGate, Point};
 pub use running::run_live;

@@ -10,7 +10,7 @@ ghost use Rattle.live_steps.specs.Live.{IsLive};
 use crate::parting::part;
 use async_window::Request;
 use live_master::laws::events_in_histories;
-use live_run::{Ended, Gate, run_whole};
+use live_run::{EndedRun, Gate, run_whole};
 use std::alloc::{AllocError, Global};
 use std::sync::Wait;
 use std::thread::Threads;
@@ -30,7 +30,7 @@ pub fn live<T: Threads + Wait + Sync, G: Gate>(
     steps: Vec<Step>,
     requests: &[Request],
     gate: &G,
-) -> Result<Ended, AllocError>
+) -> Result<EndedRun, AllocError>
     requires system { IsSystem system.now }
     requires steps { AreLegalSteps steps.items }
     requires requests { AreLegal system.now.owners requests.now }

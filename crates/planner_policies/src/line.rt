@@ -15,12 +15,12 @@ pub const ALL: usize = MOST_SLOTS as usize;
 
 /// A list of at most `ROOM` instances, one a slot. Contracts see the list.
 #[derive(Drop)]
-pub struct Line<const ROOM: usize> {
+pub struct SlotLine<const ROOM: usize> {
     places: [Due; ROOM],
     count: usize,
 }
 
-impl<const ROOM: usize> Model for Line<ROOM> {
+impl<const ROOM: usize> Model for SlotLine<ROOM> {
     ghost use Rattle.std.specs.Prelude.{◌≡◌, ◌≤◌, List, length, take};
     ghost use Rattle.planner_policies.specs.declared.due.Due.{Due};
 
@@ -31,12 +31,12 @@ impl<const ROOM: usize> Model for Line<ROOM> {
     ghost invariant = { λ l. (l.count ≤ ROOM) × (length l.places ≡ ROOM) };
 }
 
-impl<const ROOM: usize> Line<ROOM> {
+impl<const ROOM: usize> SlotLine<ROOM> {
     /// The line of nothing.
     pub fn new() -> Self
         ensures empty { result ≡ [] }
     {
-        Line {
+        SlotLine {
             places: [Due::NONE; ROOM],
             count: 0,
         }

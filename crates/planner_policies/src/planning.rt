@@ -13,7 +13,7 @@ ghost use Rattle.planner_policies.specs.Plan.{HasNoMissIn, IsMissIn, IsValid, le
 
 use crate::Fill;
 use crate::due::{Due, due_of};
-use crate::line::{ALL, FEW, Line};
+use crate::line::{ALL, FEW, SlotLine};
 use crate::ranking::Ranked;
 use crate::state::{Miss, PlanState};
 use requirement_table::{Mask, Placed, current_instance};
@@ -238,7 +238,7 @@ fn all_fitting(ranked: &Ranked, w: u32, state: &PlanState) -> Option<Taken>
 }
 
 /// The instances that are pending in the cycle of the state, in key order.
-fn line_of<const ROOM: usize>(ranked: &Ranked, w: u32, state: &PlanState) -> Line<ROOM>
+fn line_of<const ROOM: usize>(ranked: &Ranked, w: u32, state: &PlanState) -> SlotLine<ROOM>
     requires cycle { state.now.cycle < cycles_end }
     requires valid { IsValid ranked.now.placed state.now.cycle state.now.pending }
     requires room { ROOM < most_slots → length ranked.now.placed ≤ ROOM }
@@ -246,7 +246,7 @@ fn line_of<const ROOM: usize>(ranked: &Ranked, w: u32, state: &PlanState) -> Lin
         (has_bit state.now.pending) result }
 {
     let rows = ranked.rows();
-    let mut line = Line::<ROOM>::new();
+    let mut line = SlotLine::<ROOM>::new();
     for row in rows {
         if let Some(due) = due_of(ranked.policy(), row, state) {
             line.put(due);

@@ -1,6 +1,6 @@
 use Rattle.std.proofs.Common.{◌≡◌}
 use Rattle.planner_policies.proofs.Lines.{IsMovedUp}
-use Rattle.planner_policies.proofs.line.Line.put.Given as goal
+use Rattle.planner_policies.proofs.line.SlotLine.put.Given as goal
 
 abbrev pub decreases-loop-place : goal.decreases-loop-place
 decreases-loop-place g l = l.place

@@ -1,8 +1,8 @@
 use Rattle.std.proofs.Common.{◌<◌, ◌-◌, inl, inr, refl, sym, ap, ◌∙◌, length, length-take, arith}
 use Rattle.planner_policies.specs.declared.due.Due.{Due}
 use Rattle.planner_policies.proofs.Lines.{moved_up-start, moved_up-next, put_in}
-use Rattle.planner_policies.proofs.line.Line.put.Goals as goal
-use Rattle.planner_policies.proofs.line.Line.put.Goals.{then-loop-place-test+else-not-is_by, else-loop-place-test}
+use Rattle.planner_policies.proofs.line.SlotLine.put.Goals as goal
+use Rattle.planner_policies.proofs.line.SlotLine.put.Goals.{then-loop-place-test+else-not-is_by, else-loop-place-test}
 
 abbrev no_due : Due
 no_due = record { key = 0; priority = 0; slot = 0; cost = 0; release = 0; last = 0 }
