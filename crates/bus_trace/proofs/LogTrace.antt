@@ -21,11 +21,11 @@ until-other sent later other =
     let more : 1 + until later ≡ suc (until later) = omega arith in
     ap (λ b. cond (not b) (1 + until later) 0) {x = is_trigger sent} {y = false} other ∙ more
 
-pub triggers_with-trigger : (seen : ℕ) (sent : TimedFrame) → sent.frame.identifier ≡ 0 → trigger_count_with seen sent ≡ seen + 1
-triggers_with-trigger seen sent here = cond-true (is_trigger sent) (seen + 1) seen (eq-eqb _ _ here)
+pub trigger_count_with-trigger : (seen : ℕ) (sent : TimedFrame) → sent.frame.identifier ≡ 0 → trigger_count_with seen sent ≡ seen + 1
+trigger_count_with-trigger seen sent here = cond-true (is_trigger sent) (seen + 1) seen (eq-eqb _ _ here)
 
-triggers_with-other : (seen : ℕ) (sent : TimedFrame) → is_trigger sent ≡ false → trigger_count_with seen sent ≡ seen
-triggers_with-other seen sent other = cond-false (is_trigger sent) (seen + 1) seen other
+trigger_count_with-other : (seen : ℕ) (sent : TimedFrame) → is_trigger sent ≡ false → trigger_count_with seen sent ≡ seen
+trigger_count_with-other seen sent other = cond-false (is_trigger sent) (seen + 1) seen other
 
 cond_both : {A : Type 0} (b : Bool) (x : A) → cond b x x ≡ x
 cond_both true x = refl
@@ -45,7 +45,7 @@ started_in-until cycle seen (sent ∷ later) =
     elim (cases_Bool (is_trigger sent)) [
       | inl here ↦ sym (ap split (until-trigger sent later here) ∙ ap (λ l. l ++ started_in cycle seen (sent ∷ later)) (cond_both (eqb seen (cycle + 1)) []))
       | inr other ↦
-          ap (λ n. cond (eqb n (cycle + 1)) (sent ∷ []) [] ++ started_in cycle n later) (triggers_with-other seen sent other)
+          ap (λ n. cond (eqb n (cycle + 1)) (sent ∷ []) [] ++ started_in cycle n later) (trigger_count_with-other seen sent other)
           ∙ ap (λ l. cond (eqb seen (cycle + 1)) (sent ∷ []) [] ++ l) (started_in-until cycle seen later)
           ∙ cond_joined (eqb seen (cycle + 1)) sent (take (until later) later) _
           ∙ sym (ap split (until-other sent later other))
@@ -60,11 +60,11 @@ begins-until (sent ∷ later) =
       | inr other ↦ subst (λ n. BeginsWithTrigger (drop n (sent ∷ later))) (sym (until-other sent later other)) (begins-until later)
     ]
 
-pub triggers_with-le : (seen : ℕ) (sent : TimedFrame) → seen ≤ trigger_count_with seen sent
-triggers_with-le seen sent =
+pub trigger_count_with-le : (seen : ℕ) (sent : TimedFrame) → seen ≤ trigger_count_with seen sent
+trigger_count_with-le seen sent =
     elim (cases_Bool (is_trigger sent)) [
-      | inl here ↦ omega (arith, triggers_with-trigger seen sent (eqb-true _ _ here))
-      | inr other ↦ omega (arith, triggers_with-other seen sent other)
+      | inl here ↦ omega (arith, trigger_count_with-trigger seen sent (eqb-true _ _ here))
+      | inr other ↦ omega (arith, trigger_count_with-other seen sent other)
     ]
 
 -- where the count of triggers is not that of the cycle, the frame starts in another one
@@ -76,7 +76,7 @@ starts-elsewhere cycle seen sent rest other = ap (λ l. l ++ rest) (cond-false (
 started_in-past : (cycle seen : ℕ) (frames : List TimedFrame) → cycle + 1 < seen → started_in cycle seen frames ≡ []
 started_in-past cycle seen [] past = refl
 started_in-past cycle seen (sent ∷ later) past =
-    let more = triggers_with-le seen sent in
+    let more = trigger_count_with-le seen sent in
     starts-elsewhere cycle (trigger_count_with seen sent) sent _ (λ is. omega arith)
     ∙ started_in-past cycle (trigger_count_with seen sent) later (omega arith)
 
@@ -85,7 +85,7 @@ pub started_in-later : (cycle seen : ℕ) (frames : List TimedFrame) → BeginsW
     → started_in cycle seen frames ≡ []
 started_in-later cycle seen [] begins past = refl
 started_in-later cycle seen (sent ∷ later) begins past =
-    let now = triggers_with-trigger seen sent begins in
+    let now = trigger_count_with-trigger seen sent begins in
     starts-elsewhere cycle (trigger_count_with seen sent) sent _ (λ is. omega arith)
     ∙ started_in-past cycle (trigger_count_with seen sent) later (omega arith)
 
@@ -118,7 +118,7 @@ started_in-trigger : (cycle seen : ℕ) (sent : TimedFrame) (later : List TimedF
     → started_in cycle seen (sent ∷ later)
     ≡ cond (eqb (seen + 1) (cycle + 1)) (sent ∷ take (until later) later) [] ++ started_in cycle (seen + 1) (drop (until later) later)
 started_in-trigger cycle seen sent later zero_id =
-    ap (λ n. cond (eqb n (cycle + 1)) (sent ∷ []) [] ++ started_in cycle n later) (triggers_with-trigger seen sent zero_id)
+    ap (λ n. cond (eqb n (cycle + 1)) (sent ∷ []) [] ++ started_in cycle n later) (trigger_count_with-trigger seen sent zero_id)
     ∙ ap (λ l. cond (eqb (seen + 1) (cycle + 1)) (sent ∷ []) [] ++ l) (started_in-until cycle (seen + 1) later)
     ∙ cond_joined (eqb (seen + 1) (cycle + 1)) sent (take (until later) later) _
 

@@ -17,7 +17,7 @@ use Rattle.bit_sets.specs.Sets.{most_slots}
 use Rattle.requirement_table.specs.Table.{IsInRange, IsWellPlaced}
 use Rattle.requirement_table.proofs.Shared.{Exists-from_test, MaySend-from_instance, latest-of_sent}
 use Rattle.bus_trace.specs.Log.{trigger_count_with, triggers_in}
-use Rattle.bus_trace.proofs.Shared.{triggers_with-le}
+use Rattle.bus_trace.proofs.Shared.{trigger_count_with-le}
 use Rattle.plan_report.specs.Report.{Sending, delay_of, first_sendings, greatest_of, is_sent, least_of, sendings, sending_at, sent_by, sent_of}
 use Rattle.plan_report.specs.Current.{IsCurrentInstance, IsTheOne}
 use Rattle.plan_report.specs.declared.current.CurrentInstance.{CurrentInstance}
@@ -113,7 +113,7 @@ tally-same frames p sent tally nothing is =
       greatest = is.greatest ∙ ap (λ l. greatest_of (map (delay_of p) (first_sendings [] l))) (sym same);
       last = subst (λ l. IsLastSent p (triggers_in (frames ++ sent ∷ [])) l tally.last) (sym same)
           (subst (λ n. IsLastSent p n (sendings p 0 frames) tally.last) (sym (triggers-push frames sent))
-          (last-later p (triggers_in frames) (trigger_count_with (triggers_in frames) sent) (sendings p 0 frames) tally.last (triggers_with-le _ sent) is.last));
+          (last-later p (triggers_in frames) (trigger_count_with (triggers_in frames) sent) (sendings p 0 frames) tally.last (trigger_count_with-le _ sent) is.last));
       few = omega arith;
     }
 
@@ -136,7 +136,7 @@ module _ (frames : List TimedFrame) (p : Placed) (sent : TimedFrame) (tally : Ta
   xs = sendings p 0 frames
 
   on : triggers_in frames ≤ cycle + 1
-  on = let more = triggers_with-le (triggers_in frames) sent in omega arith
+  on = let more = trigger_count_with-le (triggers_in frames) sent in omega arith
 
   all : sendings p 0 (frames ++ sent ∷ []) ≡ xs ++ this ∷ []
   all = sendings-push p 0 frames sent ∙ ap (λ n. xs ++ sent_by p n sent) now ∙ ap (λ l. xs ++ l) sends

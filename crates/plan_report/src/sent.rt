@@ -34,7 +34,7 @@ pub fn tallies(
     let mut places = SlotPlaces::new();
     let mut seen = 0u64;
     for sent in trace {
-        seen = triggers_with(seen, sent);
+        seen = trigger_count_with(seen, sent);
         count_frame(&mut tallies, &mut places, placed, sent, seen);
     }
     Ok(tallies)
@@ -42,7 +42,7 @@ pub fn tallies(
 
 /// The number of triggers up to a frame, itself included, where `seen` came before it.
 #[inline(always)]
-fn triggers_with(seen: u64, sent: &TimedFrame) -> u64
+fn trigger_count_with(seen: u64, sent: &TimedFrame) -> u64
     requires few { seen < 2 ^ 63 }
     ensures triggers { result ≡ trigger_count_with seen sent.now }
 {

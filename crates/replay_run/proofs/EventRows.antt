@@ -18,7 +18,7 @@ use Rattle.master_core.specs.History.{AllAfter, IsRight, is_open, next_of, place
 use Rattle.kept_run.proofs.Shared.{next_of-push, second_identifiers}
 use Rattle.bus_trace.specs.EventRows.{BeginsCycle, opened_row, rows_of_event, width_told_in}
 use Rattle.bus_trace.specs.Log.{event_rows, events_rows, frame_row, open_row, started_in, trigger_count_with, triggers_in}
-use Rattle.bus_trace.proofs.Shared.{events_rows-push, started_in-later, starts-elsewhere, triggers_with-le, triggers_with-trigger}
+use Rattle.bus_trace.proofs.Shared.{events_rows-push, started_in-later, starts-elsewhere, trigger_count_with-le, trigger_count_with-trigger}
 
 -- Counting triggers
 
@@ -28,7 +28,7 @@ counted-other seen sent other = cond-false (eqb sent.frame.identifier 0) (seen +
 pub triggers-all-up : (seen : ℕ) (frames : List TimedFrame) → seen ≤ fold trigger_count_with seen frames
 triggers-all-up seen [] = omega arith
 triggers-all-up seen (sent ∷ later) =
-    let now = triggers_with-le seen sent in
+    let now = trigger_count_with-le seen sent in
     let more = triggers-all-up (trigger_count_with seen sent) later in
     omega arith
 
@@ -44,7 +44,7 @@ pub triggers-more : (trace : List TimedFrame) (sent : TimedFrame) (later : List 
     → All (λ s. s.frame.identifier ≢ 0) later → triggers_in (trace ++ sent ∷ later) ≡ triggers_in trace + 1
 triggers-more trace sent later is others =
     fold-append trigger_count_with 0 trace (sent ∷ later)
-    ∙ ap (λ n. fold trigger_count_with n later) (triggers_with-trigger (triggers_in trace) sent is)
+    ∙ ap (λ n. fold trigger_count_with n later) (trigger_count_with-trigger (triggers_in trace) sent is)
     ∙ counted-none (triggers_in trace + 1) later others
 
 -- The frames that start in a cycle
@@ -83,7 +83,7 @@ started-next trace cycle sent later so_far trigger others =
     started-append cycle 0 trace (sent ∷ later)
     ∙ ap (λ l. l ++ started_in cycle (triggers_in trace) (sent ∷ later)) (started-before cycle 0 trace (omega arith))
     ∙ ap (λ n. started_in cycle n (sent ∷ later)) so_far
-    ∙ ap (λ n. cond (eqb n (cycle + 1)) (sent ∷ []) [] ++ started_in cycle n later) (triggers_with-trigger cycle sent trigger)
+    ∙ ap (λ n. cond (eqb n (cycle + 1)) (sent ∷ []) [] ++ started_in cycle n later) (trigger_count_with-trigger cycle sent trigger)
     ∙ here cycle (cycle + 1) sent _ refl
     ∙ ap (λ l. sent ∷ l) (started-rest cycle later others)
 

@@ -33,7 +33,7 @@ use Rattle.replay_run.specs.Begun.{IsRunBegun}
 use Rattle.replay_run.specs.Run.{IsRun, setting_of}
 use Rattle.kept_run.proofs.Shared.{Contains-filter}
 use Rattle.replay_run.proofs.Shared.{cut-at, started-all, started-early, started-within}
-use Rattle.bus_trace.proofs.Shared.{events_rows-append, triggers_with-trigger}
+use Rattle.bus_trace.proofs.Shared.{events_rows-append, trigger_count_with-trigger}
 use Rattle.replay_run.proofs.EventRows.{rows-stay, triggers-all-up}
 
 -- legal histories open the cycles from 0 on, in their order
@@ -98,7 +98,7 @@ counted-among : (seen : ℕ) (frames : List TimedFrame) (sent : TimedFrame) → 
     → seen + 1 ≤ fold trigger_count_with seen frames
 counted-among seen [] sent (k, within, is) trigger = absurd (omega arith)
 counted-among seen (x ∷ later) sent (zero, within, is) trigger =
-    let now = triggers_with-trigger seen x (ap (λ s. s.frame.identifier) is ∙ trigger) in
+    let now = trigger_count_with-trigger seen x (ap (λ s. s.frame.identifier) is ∙ trigger) in
     let more = triggers-all-up (trigger_count_with seen x) later in
     omega arith
 counted-among seen (x ∷ later) sent (suc k, within, is) trigger =
