@@ -40,7 +40,8 @@ Fits layout streams stream span =
     < room_in layout (longest_up_to streams stream.id) (span - blocking streams)
 
 -- the least number of bit times that fits, and it is at most the stream's least distance
-pub record IsLeastFitting (layout : CycleLayout) (streams : List BurstStream) (stream : BurstStream) (span : ℕ) : Type 0 where
+pub record IsLeastFitting (layout : CycleLayout) (streams : List BurstStream) (stream : BurstStream)
+    (span : ℕ) : Type 0 where
   pub within : span ≤ stream.gap
   pub fits : Fits layout streams stream span
   pub least : (less : ℕ) → Fits layout streams stream less → span ≤ less
@@ -48,7 +49,8 @@ pub record IsLeastFitting (layout : CycleLayout) (streams : List BurstStream) (s
 -- what a bound of a stream has to be for the laws on runs, said by counting times: wherever `span` bit times begin,
 -- those behind `blocked` have more usable times than a request of the stream has to leave to others. `longest` is no
 -- less than the longest frame up to its identifier, and `blocked` no less than what a frame under way still needs
-pub record IsBound (layout : CycleLayout) (streams : List BurstStream) (stream : BurstStream) (longest blocked span : ℕ) : Type 0 where
+pub record IsBound (layout : CycleLayout) (streams : List BurstStream) (stream : BurstStream)
+    (longest blocked span : ℕ) : Type 0 where
   pub among : Contains streams stream
   pub short : All (λ other. other.id ≤ stream.id → worst other.bytes ≤ longest) streams
   pub blocking : All (λ other. worst other.bytes ≤ blocked + 1) streams

@@ -47,7 +47,8 @@ pub record IsMail (mail : List Mail) : Type 0 where
 -- the identifier is offered at this time: its first unsent request waits and may start, in the cycle of that time,
 -- whose synchronous window has the length l
 abbrev pub OffersIdentifier : CycleLayout → ℕ → List Mail → ℕ → ℕ → Type 0
-OffersIdentifier layout l mail at id = (request : Request) × MayStart layout (at / layout.cycle) l (unsent_of mail id) at request
+OffersIdentifier layout l mail at id = (request : Request)
+    × MayStart layout (at / layout.cycle) l (unsent_of mail id) at request
 
 -- some request waits at this time: the first unsent one of some identifier has arrived
 pub record SomeWaits (mail : List Mail) (at : ℕ) : Type 0 where

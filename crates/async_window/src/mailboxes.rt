@@ -67,7 +67,8 @@ impl Model for Mailboxes {
 
     ghost view = { λ m. mail_of m.ids.items m.boxes.items };
 
-    ghost invariant = { λ m. AreBoxesSorted m.ids.items m.boxes.items m.places.items m.firsts.arrivals m.firsts.lengths m.remaining };
+    ghost invariant = { λ m. AreBoxesSorted m.ids.items m.boxes.items m.places.items m.firsts.arrivals
+        m.firsts.lengths m.remaining };
 }
 
 impl Mailboxes {
@@ -134,7 +135,8 @@ impl Mailboxes {
         requires window { l ≤ layout.now.window }
         requires time { at < times_end }
         requires cycle { cycle ≡ at / layout.now.cycle }
-        ensures least { IsLeastWith (OffersIdentifier layout.now l self.now at) (option_map (λ offer. offer.id) result) }
+        ensures least { IsLeastWith (OffersIdentifier layout.now l self.now at)
+            (option_map (λ offer. offer.id) result) }
         ensures value { option_map (λ offer. offer.id) result ≡ mail_offer layout.now l self.now at }
         ensures stays { IfSome result (λ offer. StaysUntil layout.now l self.now at offer.id offer.until) }
         ensures known { IsMail self.now }

@@ -20,15 +20,16 @@ pub record IsAmongOpened (layout : CycleLayout) (openings : List Opening) (cycle
   pub narrow : width_of opening ≤ layout.window
 
 -- a run of `count` cycles: its trace is that which arbitration decides, and each cycle sends what its opening says
-pub record IsBoundedRun (sends : Instance → List ℕ) (layout : CycleLayout) (requests : List Request) (openings : List Opening)
-    (count : ℕ) (trace : List TimedFrame) : Type 0 where
+pub record IsBoundedRun (sends : Instance → List ℕ) (layout : CycleLayout) (requests : List Request)
+    (openings : List Opening) (count : ℕ) (trace : List TimedFrame) : Type 0 where
   pub can_trace : IsCanTrace sends layout requests openings count trace
   pub runs : RunsCycles sends layout openings trace
   pub opened : (cycle : ℕ) → cycle < count → IsAmongOpened layout openings cycle
 
 -- of the requests of its identifier, behind the frames that started before the time, the request waits, and its longest
 -- frame has at most so many bit times
-pub record WaitsOnBus (requests : List Request) (trace : List TimedFrame) (longest at : ℕ) (request : Request) : Type 0 where
+pub record WaitsOnBus (requests : List Request) (trace : List TimedFrame) (longest at : ℕ)
+    (request : Request) : Type 0 where
   pub waiting : IsRequestWaiting (unsent_after requests (started_before at trace) request.frame.identifier) at request
   pub short : worst (length request.frame.bytes) ≤ longest
 

@@ -53,7 +53,8 @@ pub record FollowsStreams (own : List BurstStream) (arrived : List ℕ) (request
   pub apart : All (λ stream. IsCloseTo arrived request.at stream → ⊥) own
 
 -- the requests before this place belong to the streams, with the one at the place they do not, and why
-pub record IsFirstStray (streams : List BurstStream) (requests : List Request) (place : ℕ) (why : StrayWhy) : Type 0 where
+pub record IsFirstStray (streams : List BurstStream) (requests : List Request) (place : ℕ)
+    (why : StrayWhy) : Type 0 where
   pub request : Request
   pub there : slice_get requests place ≡ Some request
   pub before : AreOfStreams streams (take place requests)

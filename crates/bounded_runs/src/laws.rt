@@ -56,7 +56,8 @@ pub fn waiting_fills_the_bus()
 /// times behind its arrival, if so many bit times are run.
 pub fn requests_start_in_time()
     ensures starts { (sends : Instance → List ℕ) (layout : CycleLayout) (requests : List Request)
-        → (openings : List Opening) (count : ℕ) (trace : List TimedFrame) (streams : List BurstStream) (stream : BurstStream)
+        → (openings : List Opening) (count : ℕ) (trace : List TimedFrame)
+        → (streams : List BurstStream) (stream : BurstStream)
         → (longest blocked span place : ℕ) (request : Request)
         → IsLayout layout → IsBoundedRun sends layout requests openings count trace
         → AreStreams streams → AreOfStreams streams requests → IsBound layout streams stream longest blocked span
@@ -70,7 +71,8 @@ pub fn requests_start_in_time()
 /// times behind its arrival, if so many bit times are run.
 pub fn bounds_hold()
     ensures starts { (sends : Instance → List ℕ) (layout : CycleLayout) (requests : List Request)
-        → (openings : List Opening) (count : ℕ) (trace : List TimedFrame) (streams : List BurstStream) (stream : BurstStream)
+        → (openings : List Opening) (count : ℕ) (trace : List TimedFrame)
+        → (streams : List BurstStream) (stream : BurstStream)
         → (span place : ℕ) (request : Request)
         → IsLayout layout → IsBoundedRun sends layout requests openings count trace
         → AreStreams streams → AreOfStreams streams requests → Contains streams stream

@@ -86,7 +86,8 @@ triggers_in frames = fold trigger_count_with 0 frames
 abbrev pub started_in : ℕ → ℕ → List TimedFrame → List TimedFrame
 started_in cycle seen [] = []
 started_in cycle seen (sent ∷ later) =
-    (if trigger_count_with seen sent == cycle + 1 then sent ∷ [] else []) ++ started_in cycle (trigger_count_with seen sent) later
+    (if trigger_count_with seen sent == cycle + 1 then sent ∷ [] else [])
+    ++ started_in cycle (trigger_count_with seen sent) later
 
 -- the rows of an event, after the events before it: a change that is refused for a miss is followed by its plan up to
 -- the miss, and an opening by the frames of its cycle

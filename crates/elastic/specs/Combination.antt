@@ -108,4 +108,5 @@ operations_at (op ∷ ops) (place ∷ places) = operation_at place op ∷ operat
 abbrev pub IsLexicallyBefore : List ℕ → List ℕ → Type 0
 IsLexicallyBefore [] others = ⊥
 IsLexicallyBefore (place ∷ places) [] = ⊥
-IsLexicallyBefore (place ∷ places) (other ∷ others) = (place < other) ⊎ ((place ≡ other) × IsLexicallyBefore places others)
+IsLexicallyBefore (place ∷ places) (other ∷ others) = (place < other)
+    ⊎ ((place ≡ other) × IsLexicallyBefore places others)

@@ -94,7 +94,8 @@ pub record CanOpen (placed : List FttPlaced) (state : FttState) : Type 0 where
 
 -- the cycle of a state was planned, which may be opened: the flagged slots and the length of their window, and the state
 -- behind it. No deadline is missed in it
-pub record IsStateOpened (rules : FttRules) (placed : List FttPlaced) (old new : FttState) (plan : FttPlan) : Type 0 where
+pub record IsStateOpened (rules : FttRules) (placed : List FttPlaced) (old new : FttState)
+    (plan : FttPlan) : Type 0 where
   pub well_placed : IsWellPlaced (table_of placed)
   pub from : CanOpen placed old
   pub cycle : new.cycle ≡ old.cycle + 1

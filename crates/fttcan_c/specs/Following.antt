@@ -53,7 +53,8 @@ pub record IsStandbyTakenOver (standby master : HandleContent) : Type 0 where
 
 -- a standby was told a change: its core answers it as that of a master does, and C is told the verdict. It is accepted
 -- or not
-pub record IsChangeTold (accepted : Bool) (caller start : ℕ) (ops : List FttOp) (verdict : FttVerdict) (old new : HandleContent) : Type 0 where
+pub record IsChangeTold (accepted : Bool) (caller start : ℕ) (ops : List FttOp) (verdict : FttVerdict)
+    (old new : HandleContent) : Type 0 where
   pub core : CoreView
   pub next : CoreView
   pub answered : Answered

@@ -47,7 +47,8 @@ pub record IsCoreSubmitted (caller : ℕ) (change : Change) (old new : CoreView)
       → IsStateOf (history ++ Submit caller change answered.from answered.verdict answered.trail ∷ []) new
 
 -- a master answered it, C is told the verdict, and the trail is kept
-pub record IsSubmitted (caller start : ℕ) (ops : List FttOp) (verdict : FttVerdict) (old new : HandleContent) : Type 0 where
+pub record IsSubmitted (caller start : ℕ) (ops : List FttOp) (verdict : FttVerdict)
+    (old new : HandleContent) : Type 0 where
   pub core : CoreView
   pub trail : List ℕ
   pub next : CoreView

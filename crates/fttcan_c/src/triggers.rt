@@ -47,7 +47,8 @@ fn put_trigger(
     count: &mut usize,
 ) -> Result<(), ExportRefusal>
     requires trigger { IsTriggerIn slots trigger.now }
-    ensures filled { OnOk result (IsRoomFilled (map frame_told (frames_told slots trigger.now)) room.old room.new count.new) }
+    ensures filled { OnOk result
+        (IsRoomFilled (map frame_told (frames_told slots trigger.now)) room.old room.new count.new) }
     ensures short { IfErr result (λ refusal. (refusal ≡ Room)
         × IsRoomShort (map frame_told (frames_told slots trigger.now)) room.old room.new count.new) }
 {

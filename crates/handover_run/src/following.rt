@@ -110,7 +110,8 @@ pub fn follow_opening(
     requires slots { IfSome standby.old (λ one. slots ≡ one.rules.slots) }
     requires due { IfSome standby.old (λ one. HearsDue one frames.now) }
     requires next { IfSome standby.old (λ one. next_of one.history < openings_end) }
-    ensures followed { (rules : Rules) (whole : List EventOf) (cycle mask : ℕ) → IsStillFollowing rules whole standby.old
+    ensures followed { (rules : Rules) (whole : List EventOf) (cycle mask : ℕ)
+        → IsStillFollowing rules whole standby.old
         → IsRight rules whole (Open cycle mask)
         → OnOk result (IsStillFollowing rules (whole ++ Open cycle mask ∷ []) standby.new) }
 {

@@ -69,7 +69,8 @@ pub fn replay_handed<O: Sink>(
     ensures faults_never_fall { O.faults out.old ≤ O.faults out.new }
     ensures written { IfOk result (λ quiet. IsHandedOver system.now steps.now requests.now quiet
         (O.told_bytes out.old) (O.told_bytes out.new)) }
-    ensures cut { OnErr result (IsRunCut system.now steps.now requests.now (O.told_bytes out.old) (O.told_bytes out.new)) }
+    ensures cut { OnErr result
+        (IsRunCut system.now steps.now requests.now (O.told_bytes out.old) (O.told_bytes out.new)) }
     ensures stopped { IsErrOf result Cut.Memory
         → IsStopped system.now steps.now requests.now (O.told_bytes out.old) (O.told_bytes out.new) }
     ensures failed { IsErrOf result Cut.Write → Rose (O.faults out.old) (O.faults out.new) }

@@ -116,7 +116,8 @@ pub fn orders()
         → FitsWindow setting.layout (opening_of order (placed_of history)) }
     ensures before { (setting : Setting) (history : List Event) (trace : List TimedFrame)
         (nodes : NodesView) (order : Order)
-        → IsUnderWay setting history trace → AreNodesReady setting history trace nodes → IsOrder setting.rules history order
+        → IsUnderWay setting history trace → AreNodesReady setting history trace nodes
+        → IsOrder setting.rules history order
         → IsBefore nodes.layout setting.owners setting.requests (placed_of history) trace order
         (learnt_by order.learned (states_of nodes.nodes)) }
 {
@@ -155,7 +156,8 @@ pub fn cycles_run()
         → IsUnderWay setting (history ++ Open order.cycle order.mask ∷ []) (trace ++ frames) }
     ensures ready { (setting : Setting) (history : List Event) (trace frames : List TimedFrame)
         (nodes new : NodesView) (order : Order)
-        → IsUnderWay setting history trace → AreNodesReady setting history trace nodes → IsOrder setting.rules history order
+        → IsUnderWay setting history trace → AreNodesReady setting history trace nodes
+        → IsOrder setting.rules history order
         → new.layout ≡ nodes.layout
         → states_of new.nodes ≡ heard_by frames (learnt_by order.learned (states_of nodes.nodes))
         → IsBus nodes.layout setting.owners setting.requests (placed_of history)

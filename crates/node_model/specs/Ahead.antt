@@ -16,7 +16,8 @@ StaysOffered node from offer = (later : ℕ) → from ≤ later → later ≤ of
 -- behind the look the node offers something next at the time that it found, and then as long as it says
 abbrev pub IsAhead : NodeState → OfferAhead → Type 0
 IsAhead node look =
-    IsNextOffer node look.since (next_time look.next) × IfSome look.next (λ next. StaysOffered node next.from next.offer)
+    IsNextOffer node look.since (next_time look.next)
+    × IfSome look.next (λ next. StaysOffered node next.from next.offer)
 
 -- the time lies behind the look, and before the time that it found, where it found one
 pub record IsQuietAt (look : OfferAhead) (at : ℕ) : Type 0 where

@@ -41,7 +41,8 @@ sent_by p (suc cycle) sent =
 -- the sendings of an entry's instances by the frames of a trace, in their order, where `seen` triggers came before
 abbrev pub sendings : Placed → ℕ → List TimedFrame → List Sending
 sendings p seen [] = []
-sendings p seen (sent ∷ later) = sent_by p (trigger_count_with seen sent) sent ++ sendings p (trigger_count_with seen sent) later
+sendings p seen (sent ∷ later) =
+    sent_by p (trigger_count_with seen sent) sent ++ sendings p (trigger_count_with seen sent) later
 
 -- whether the instance with this number is among those of the sendings
 abbrev pub is_sent : List Sending → ℕ → Bool

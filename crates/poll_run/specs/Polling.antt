@@ -25,7 +25,8 @@ SoFar setting streams history Holds = (lengths carried : ℕ → ℕ → Option 
     → All (λ opening. AreRidesAt setting.layout.cycle streams opening lengths carried) (openings_of history) → Holds carried
 
 -- the trace was told; the bus is going, without requests, with a trace in which each instance sends its number
-pub record IsPolledGoing (setting : Setting) (streams : List Stream) (trace : List TimedFrame) (polled : Polled) : Type 0 where
+pub record IsPolledGoing (setting : Setting) (streams : List Stream) (trace : List TimedFrame)
+    (polled : Polled) : Type 0 where
   pub plain_trace : List TimedFrame
   pub going : IsGoing setting plain_trace polled.bus
   pub no_requests : setting.requests ≡ []

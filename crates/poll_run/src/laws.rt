@@ -116,13 +116,15 @@ pub fn polling()
 pub fn sent_once()
     ensures once { (system : System) (streams : List Stream) (history : List Event) (carried : ℕ → ℕ → Option ℕ)
         (trace : List TimedFrame) (place release other cycle again : ℕ)
-        → IsSystem system → AreLegalStreams system.rules.slots streams → IsPolledTrace system streams history carried trace
+        → IsSystem system → AreLegalStreams system.rules.slots streams
+        → IsPolledTrace system streams history carried trace
         → IsRidden streams (openings_of history) carried place release cycle
         → IsRidden streams (openings_of history) carried place other again
         → (release ≡ other) × (cycle ≡ again) }
     ensures order { (system : System) (streams : List Stream) (history : List Event) (carried : ℕ → ℕ → Option ℕ)
         (trace : List TimedFrame) (slot before behind release later cycle again : ℕ)
-        → IsSystem system → AreLegalStreams system.rules.slots streams → IsPolledTrace system streams history carried trace
+        → IsSystem system → AreLegalStreams system.rules.slots streams
+        → IsPolledTrace system streams history carried trace
         → IsOfSlot streams slot before → IsOfSlot streams slot behind → before < behind
         → IsRidden streams (openings_of history) carried before release cycle
         → IsRidden streams (openings_of history) carried behind later again

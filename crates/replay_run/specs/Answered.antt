@@ -22,7 +22,8 @@ pub record StoppedIn (old : MasterView) (calls : List Call) (new : MasterView) :
 pub answered-nothing : (one : MasterView) → HasAnsweredCalls one [] one
 answered-nothing one = record { same_rules = refl; plain = λ plain. plain; answers = sym (append-nil (map call_of one.history)) }
 
-pub answered-more : (one other third : MasterView) (calls later : List Call) → HasAnsweredCalls one calls other → HasAnsweredCalls other later third
+pub answered-more : (one other third : MasterView) (calls later : List Call) → HasAnsweredCalls one calls other
+    → HasAnsweredCalls other later third
     → HasAnsweredCalls one (calls ++ later) third
 answered-more one other third calls later first second = record {
   same_rules = second.same_rules ∙ first.same_rules;
@@ -30,7 +31,8 @@ answered-more one other third calls later first second = record {
   answers = second.answers ∙ ap (λ l. l ++ later) first.answers ∙ append_assoc (map call_of one.history) calls later;
 }
 
-pub stopped-later : (one other third : MasterView) (calls later more : List Call) → HasAnsweredCalls one calls other → StoppedIn other later third
+pub stopped-later : (one other third : MasterView) (calls later more : List Call) → HasAnsweredCalls one calls other
+    → StoppedIn other later third
     → StoppedIn one (calls ++ (later ++ more)) third
 stopped-later one other third calls later more first stopped = record {
   front = calls ++ stopped.front;
@@ -40,5 +42,6 @@ stopped-later one other third calls later more first stopped = record {
   answered = answered-more one other third calls stopped.front first stopped.answered;
 }
 
-pub stopped-at_once : (one other : MasterView) (calls : List Call) → HasAnsweredCalls one [] other → StoppedIn one calls other
+pub stopped-at_once : (one other : MasterView) (calls : List Call) → HasAnsweredCalls one [] other
+    → StoppedIn one calls other
 stopped-at_once one other calls none = record { front = []; back = calls; split = refl; answered = none }

@@ -33,7 +33,8 @@ pub record IsAskedAfter (old : AskedEntries) (calls : List Call) (new : AskedEnt
 pub on-nothing : (one : AskedEntries) → IsAskedAfter one [] one
 on-nothing one = record { bounds = refl; table = refl; can_apply = λ can. can }
 
-pub on-more : (one other third : AskedEntries) (calls later : List Call) → IsAskedAfter one calls other → IsAskedAfter other later third
+pub on-more : (one other third : AskedEntries) (calls later : List Call) → IsAskedAfter one calls other
+    → IsAskedAfter other later third
     → IsAskedAfter one (calls ++ later) third
 on-more one other third calls later first second = record {
   bounds = second.bounds ∙ first.bounds;

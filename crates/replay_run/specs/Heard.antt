@@ -42,7 +42,8 @@ module _ {O : Type 0} (told_bytes : O → Option (List ℕ)) (faults : O → ℕ
         puts = Puts-append (told_bytes one) (told_bytes other) (told_bytes third) rows later first.puts second.puts;
       }
 
-  pub breaks-later : (one other third : O) (rows later : List ℕ) → TakesRows one rows other → BreaksOff other later third
+  pub breaks-later : (one other third : O) (rows later : List ℕ) → TakesRows one rows other
+      → BreaksOff other later third
       → BreaksOff one (rows ++ later) third
   breaks-later one other third rows later first second =
       let before = first.faults_never_fall in

@@ -12,13 +12,16 @@ module _ {S R : Type 0} (Goes : S → List Event → List TimedFrame → R → T
   goes-at_once one told = λ start before heard.
       subst (λ calls. IsHeardSoFar Goes Heard start calls one told) (sym (append-nil before)) heard
 
-  pub goes-in_turn : (one other third : R) (told middle now : L) (calls later : List Call) → GoesOnLogging Goes Heard one told calls other middle
-      → GoesOnLogging Goes Heard other middle later third now → GoesOnLogging Goes Heard one told (calls ++ later) third now
+  pub goes-in_turn : (one other third : R) (told middle now : L) (calls later : List Call)
+      → GoesOnLogging Goes Heard one told calls other middle
+      → GoesOnLogging Goes Heard other middle later third now
+      → GoesOnLogging Goes Heard one told (calls ++ later) third now
   goes-in_turn one other third told middle now calls later first second = λ start before heard.
       subst (λ all. IsHeardSoFar Goes Heard start all third now) (append_assoc before calls later)
       (second start (before ++ calls) (first start before heard))
 
-  pub ready-still : (one other : R) (told now : L) (calls : List Call) → CanLog Goes Heard one told → GoesOnLogging Goes Heard one told calls other now
+  pub ready-still : (one other : R) (told now : L) (calls : List Call) → CanLog Goes Heard one told
+      → GoesOnLogging Goes Heard one told calls other now
       → CanLog Goes Heard other now
   ready-still one other told now calls can on = (can.0, can.1 ++ calls, on can.0 can.1 can.2)
 
@@ -38,7 +41,8 @@ module _ {S R : Type 0} (Goes : S → List Event → List TimedFrame → R → T
     heard = is.heard;
   }
 
-  pub cut-later : (one other : R) (told middle now : L) (calls later more : List Call) (why : Cut) → GoesOnLogging Goes Heard one told calls other middle
+  pub cut-later : (one other : R) (told middle now : L) (calls later more : List Call) (why : Cut)
+      → GoesOnLogging Goes Heard one told calls other middle
       → IsCutAfter Heard Broke Keeps Goes other middle later now why → IsCutAfter Heard Broke Keeps Goes one told (calls ++ (later ++ more)) now why
   cut-later one other told middle now calls later more why first cut = λ start before heard.
       let all : ((before ++ calls) ++ later) ++ more ≡ before ++ (calls ++ (later ++ more)) =

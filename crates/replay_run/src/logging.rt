@@ -59,7 +59,8 @@ fn tell_last<L: Listener>(
 fn open_next<R: Runs, L: Listener>(run: &mut R, listener: &mut L, alloc: Global) -> Result<(), Cut>
     requires ready { CanLog R.goes L.heard run.old listener.old }
     requires few { next_of (R.bus run.old).master.history < most_cycles }
-    ensures goes_on { OnOk result (GoesOnLogging R.goes L.heard run.old listener.old (opens ∷ []) run.new listener.new) }
+    ensures goes_on { OnOk result
+        (GoesOnLogging R.goes L.heard run.old listener.old (opens ∷ []) run.new listener.new) }
     ensures next { OnOk result
         (next_of (R.bus run.new).master.history ≡ next_of (R.bus run.old).master.history + 1) }
     ensures stops { IfErr result

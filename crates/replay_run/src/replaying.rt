@@ -103,7 +103,8 @@ pub fn replay_to<O: Sink>(
     ensures rules { IfOk result (λ run. run.master.rules ≡ system.now.rules) }
     ensures kept { IfOk result (λ run. is_some run.trace ≡ keeps) }
     ensures events { IfOk result (λ run. run.master.keeps ≡ keeps) }
-    ensures cut { OnErr result (IsRunCut system.now steps.now requests.now (O.told_bytes out.old) (O.told_bytes out.new)) }
+    ensures cut { OnErr result
+        (IsRunCut system.now steps.now requests.now (O.told_bytes out.old) (O.told_bytes out.new)) }
     ensures stopped { IsErrOf result Cut.Memory
         → IsStopped system.now steps.now requests.now (O.told_bytes out.old) (O.told_bytes out.new) }
     ensures failed { IsErrOf result Cut.Write → Rose (O.faults out.old) (O.faults out.new) }

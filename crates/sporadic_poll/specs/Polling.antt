@@ -27,7 +27,8 @@ pub record IsPolled (layout_cycle : ℕ) (streams : List Stream) (slot : ℕ) (l
     (request : Stream) : Type 0 where
   pub some_time : 0 < layout_cycle
   pub stands : IsStreamAt streams slot place request
-  pub spaced : (one other : ℕ) (before behind : Stream) → one < other → other ≤ place → IsStreamAt streams slot one before
+  pub spaced : (one other : ℕ) (before behind : Stream) → one < other → other ≤ place
+      → IsStreamAt streams slot one before
       → IsStreamAt streams slot other behind
       → arrival_cycle layout_cycle before + period ≤ arrival_cycle layout_cycle behind
   pub short : (one : ℕ) (before : Stream) → one ≤ place → IsStreamAt streams slot one before

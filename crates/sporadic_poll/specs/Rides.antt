@@ -66,7 +66,8 @@ pub record IsRequestTaken (slot : ℕ) (riding : Riding) (place release : ℕ) :
 -- what is known of a slot before a cycle is what its instances took that were released before it
 pub record HasRidden (slot : ℕ) (carried : ℕ → Option ℕ) (cycle : ℕ) (riding : Riding) : Type 0 where
   pub taken : HasTaken riding.queued.streams slot carried cycle (get_or riding.queued.next slot 0)
-  pub noted : (place release : ℕ) → carried release ≡ Some place → release < cycle → IsRequestTaken slot riding place release
+  pub noted : (place release : ℕ) → carried release ≡ Some place → release < cycle
+      → IsRequestTaken slot riding place release
   pub only : (place release : ℕ) → IsRequestTaken slot riding place release
       → (release < cycle) × (carried release ≡ Some place)
   pub latest : IfSome (get_or riding.latest slot None) (λ ride. carried ride.release ≡ Some ride.place)

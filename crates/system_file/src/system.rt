@@ -460,7 +460,8 @@ fn read_owners(alloc: Global, elements: &[Value], nodes: u8) -> Result<Vec<Owner
     ensures ok { OnOk result
         (from_place (ranges_among nodes (map id_of (map view elements.now))) 0 (map view elements.now) ≡ []) }
     ensures fault { IfErr result
-        (IsFirstSystemFault (from_place (ranges_among nodes (map id_of (map view elements.now))) 0 (map view elements.now))) }
+        (IsFirstSystemFault (from_place (ranges_among nodes (map id_of (map view elements.now))) 0
+        (map view elements.now))) }
 {
     let mut owners = Vec::new(alloc);
     for (index, element) in elements.iter().enumerate() {
@@ -482,7 +483,8 @@ fn layout_of(bus: BusNumbers) -> Result<Layout, SystemFault>
         }) }
     ensures known { IfOk result IsLayout }
     ensures ok { OnOk result (narrow_at (needed bus.turnaround bus.window bus.slots) bus.cycle ≡ []) }
-    ensures fault { IfErr result (IsFirstSystemFault (narrow_at (needed bus.turnaround bus.window bus.slots) bus.cycle)) }
+    ensures fault { IfErr result
+        (IsFirstSystemFault (narrow_at (needed bus.turnaround bus.window bus.slots) bus.cycle)) }
 {
     match Layout::new(bus.cycle, bus.turnaround, bus.window, bus.slots) {
         Ok(layout) => Ok(layout),

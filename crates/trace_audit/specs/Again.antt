@@ -39,7 +39,8 @@ pub record EndsNear (history : List Event) : Type 0 where
   pub near : IsEventNear event
 
 -- a cycle was opened and run: its window, in bit times, and its frames are those that the run has of the last cycle
-pub record IsRerunOpened (system : System) (requests : List Request) (trace : List TimedFrame) (old new : Rerun) : Type 0 where
+pub record IsRerunOpened (system : System) (requests : List Request) (trace : List TimedFrame)
+    (old new : Rerun) : Type 0 where
   pub cycle : ℕ
   pub mask : ℕ
   pub history : new.master.history ≡ old.master.history ++ Open cycle mask ∷ []

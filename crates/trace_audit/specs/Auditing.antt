@@ -116,7 +116,8 @@ pub record TakesWritten (steps : List Step) (old new : LogAudit) (text rest : Li
   pub line : LogRow
   pub later : List LogRow
   pub begins : BeginsWith text (line ∷ later) rest
-  pub hears : (system : System) (requests : List Request) (rows : List LogRow) → AreRowsHeard system steps requests rows old
+  pub hears : (system : System) (requests : List Request) (rows : List LogRow)
+      → AreRowsHeard system steps requests rows old
       → AreRowsHeard system steps requests (rows ++ line ∷ later) new
 
 -- the audit has heard rows of a log whose texts, one after the other, are the text up to this rest
