@@ -20,8 +20,8 @@ use Rattle.system_file.specs.SystemFile.{text_in, value_of}
 use Rattle.system_file.specs.SystemFile.{in_element, is_integer, is_text, is_table, is_array}
 use Rattle.system_file.specs.declared.system_fault.SystemFault.{SystemFault}
 use Rattle.system_file.specs.declared.system_fault.SystemFault.TheVariants as wrong
-use Rattle.system_file.specs.declared.system_sections.Kind.{Kind}
-use Rattle.system_file.specs.declared.system_sections.Kind.TheVariants as kinds
+use Rattle.system_file.specs.declared.system_sections.TomlKind.{TomlKind}
+use Rattle.system_file.specs.declared.system_sections.TomlKind.TheVariants as kinds
 use Rattle.system_file.specs.declared.system_sections.Place.{Place}
 use Rattle.system_file.specs.declared.system_sections.Place.TheVariants as places
 
@@ -33,7 +33,7 @@ prefix_of places.Plan = codes "plan."
 prefix_of (places.Element index) = in_element index
 
 -- whether a value is of this kind
-abbrev pub is_kind : Kind → Data → Bool
+abbrev pub is_kind : TomlKind → Data → Bool
 is_kind kinds.Integer = is_integer
 is_kind kinds.Text = is_text
 is_kind kinds.Table = is_table

@@ -24,7 +24,7 @@ ghost use Rattle.system_file.specs.declared.system_sections.Place.TheVariants as
 
 use crate::owners::OwnerList;
 use crate::system_fault::{PathText, SystemFault};
-use crate::system_sections::{Kind, Place, Section};
+use crate::system_sections::{Place, Section, TomlKind};
 use admission_rules::Rules;
 use async_window::Owner;
 use cycle_layout::{Layout, LayoutFault};
@@ -183,11 +183,11 @@ fn check_bus(alloc: Global, document: &Table) -> Result<(), SystemFault>
         (IsFirstSystemFault (flat_map (kind_at (codes "bus.") (bus_of (table_view document.now))) bus_rows)) }
 {
     let bus = bus_of(document);
-    bus.check_kind(alloc, "cycle", Kind::Integer, true)?;
-    bus.check_kind(alloc, "turnaround", Kind::Integer, false)?;
-    bus.check_kind(alloc, "window", Kind::Integer, true)?;
-    bus.check_kind(alloc, "nodes", Kind::Integer, true)?;
-    bus.check_kind(alloc, "slots", Kind::Integer, false)
+    bus.check_kind(alloc, "cycle", TomlKind::Integer, true)?;
+    bus.check_kind(alloc, "turnaround", TomlKind::Integer, false)?;
+    bus.check_kind(alloc, "window", TomlKind::Integer, true)?;
+    bus.check_kind(alloc, "nodes", TomlKind::Integer, true)?;
+    bus.check_kind(alloc, "slots", TomlKind::Integer, false)
 }
 
 /// Tests that the keys of `plan` hold what they should, where they are there.
@@ -197,9 +197,9 @@ fn check_plan(alloc: Global, document: &Table) -> Result<(), SystemFault>
         (IsFirstSystemFault (flat_map (kind_at (codes "plan.") (plan_of (table_view document.now))) plan_rows)) }
 {
     let plan = plan_of(document);
-    plan.check_kind(alloc, "policy", Kind::Text, false)?;
-    plan.check_kind(alloc, "horizon", Kind::Integer, false)?;
-    plan.check_kind(alloc, "fill", Kind::Text, false)
+    plan.check_kind(alloc, "policy", TomlKind::Text, false)?;
+    plan.check_kind(alloc, "horizon", TomlKind::Integer, false)?;
+    plan.check_kind(alloc, "fill", TomlKind::Text, false)
 }
 
 /// Tests that an element of `async` is a table.
@@ -223,8 +223,8 @@ fn check_element(alloc: Global, index: usize, element: &Value) -> Result<(), Sys
 {
     check_is_table(alloc, index, element)?;
     let section = element_of(index, element);
-    section.check_kind(alloc, "id", Kind::Integer, true)?;
-    section.check_kind(alloc, "node", Kind::Integer, true)
+    section.check_kind(alloc, "id", TomlKind::Integer, true)?;
+    section.check_kind(alloc, "node", TomlKind::Integer, true)
 }
 
 /// Tests each element of `async`.
@@ -244,11 +244,11 @@ fn check_kinds(alloc: Global, document: &Table) -> Result<(), SystemFault>
     ensures fault { IfErr result (IsFirstSystemFault (kind_faults (table_view document.now))) }
 {
     let top = top_of(document);
-    top.check_kind(alloc, "bus", Kind::Table, true)?;
+    top.check_kind(alloc, "bus", TomlKind::Table, true)?;
     check_bus(alloc, document)?;
-    top.check_kind(alloc, "plan", Kind::Table, false)?;
+    top.check_kind(alloc, "plan", TomlKind::Table, false)?;
     check_plan(alloc, document)?;
-    top.check_kind(alloc, "async", Kind::Array, false)?;
+    top.check_kind(alloc, "async", TomlKind::Array, false)?;
     check_elements(alloc, elements_of(document))
 }
 

@@ -43,23 +43,23 @@ impl Place {
 
 /// What a key is to hold.
 #[derive(Clone, Copy)]
-pub(crate) enum Kind {
+pub(crate) enum TomlKind {
     Integer,
     Text,
     Table,
     Array,
 }
 
-impl Kind {
+impl TomlKind {
     /// Whether a value is of this kind.
     fn is(self, value: &Value) -> bool
         ensures kind { result ≡ is_kind self (view value.now) }
     {
         match self {
-            Kind::Integer => value.is_integer(),
-            Kind::Text => value.is_str(),
-            Kind::Table => value.is_table(),
-            Kind::Array => value.is_array(),
+            TomlKind::Integer => value.is_integer(),
+            TomlKind::Text => value.is_str(),
+            TomlKind::Table => value.is_table(),
+            TomlKind::Array => value.is_array(),
         }
     }
 }
@@ -147,7 +147,7 @@ impl<'a> Section<'a> {
         self,
         alloc: Global,
         key: &str,
-        kind: Kind,
+        kind: TomlKind,
         needed: bool,
     ) -> Result<(), SystemFault>
         ensures ok { OnOk result
