@@ -1,10 +1,9 @@
 -- The rows of a history, event by event, and what is known of each event at its place.
-use Rattle.std.proofs.Common.{◌≡◌, ℕ, suc, ◌+◌, ◌^◌, ◌<◌, ◌≤◌, Bool, true, false, cond, List, [], ◌∷◌, ◌++◌, All, map, take, drop, length, get_or, refl, sym, ap, subst, ◌∙◌, arith, append_assoc}
+use Rattle.std.proofs.Common.{◌≡◌, ℕ, suc, ◌+◌, ◌^◌, ◌<◌, ◌≤◌, Bool, true, false, cond, List, [], ◌∷◌, ◌++◌, All, take, drop, length, get_or, refl, sym, ap, subst, ◌∙◌, arith, append_assoc}
 use Rattle.std.proofs.lemmas.List.{append-nil, take_more, take-append-drop}
 use Rattle.std.proofs.Math.Seq.{drop-cons}
 use Rattle.std.proofs.lemmas.List.Elements.{All-append}
 use Rattle.std.proofs.lemmas.List.Sums.{fold-append, sum_by_push}
-use Rattle.std.specs.List.{flat_map}
 use Rattle.can_frame.specs.declared.data_frame.TimedFrame.{TimedFrame}
 use Rattle.requirement_table.specs.declared.entries.Placed.{Placed}
 use Rattle.bit_sets.specs.Sets.{has_bit}
@@ -17,12 +16,10 @@ use Rattle.admission.specs.Verdict.{IsRules, IsVerdict, bounds_by, is_accepted}
 use Rattle.master_core.specs.declared.event.Event.{Event}
 use Rattle.master_core.specs.declared.event.Event.TheVariants.{Submit, Look, Open}
 use Rattle.master_core.specs.History.{AllAfter, IsLegal, IsRight, is_open, next_of, placed_after, placed_of}
-use Rattle.bus_trace.specs.Log.{event_rows, events_rows, frame_row}
-use Rattle.bus_trace.specs.EventRows.{opened_row}
+use Rattle.bus_trace.specs.Log.{event_rows, events_rows}
 use Rattle.bus_trace.specs.Logged.{HasEntries, IsEventNear, IsFormed, IsFormedIn, IsInTurn, IsLeft, frames_of_event, rows_with, told_with}
-use Rattle.bus_trace.specs.LogRows.{event_told, events_told}
-use Rattle.log_reader.specs.Row.{IsLogRow}
-use Rattle.log_reader.specs.declared.row.LogRow.TheVariants as row
+use Rattle.bus_trace.specs.LogRows.{event_told, events_told, opened_told}
+use Rattle.log_reader.specs.Row.{IsLogRow, text_of_rows}
 use Rattle.bus_trace.proofs.Width.{width-same}
 
 -- Rows
@@ -35,22 +32,19 @@ width-left before cycle mask next placed left entries turn =
     ∙ ap (λ l. width_in l cycle (has_bit mask)) entries.all
 
 -- the rows of an event by these entries
-rows_with-event : (trace : List TimedFrame) (before : List Event) (event : Event) (next : ℕ) (placed left : List Placed)
-    → HasEntries (placed_of before) next placed left → IsInTurn next event
-    → rows_with left (frames_of_event trace event) event ≡ event_rows trace before event
-rows_with-event trace before (Submit caller change from verdict trail) next placed left entries turn = refl
-rows_with-event trace before (Look caller looked) next placed left entries turn = refl
-rows_with-event trace before (Open cycle mask) next placed left entries turn =
-    ap (λ w. opened_row cycle mask w ++ flat_map frame_row (frames_of_event trace (Open cycle mask))) (width-left before cycle mask next placed left entries turn)
-
--- and as values
 told_with-event : (trace : List TimedFrame) (before : List Event) (event : Event) (next : ℕ) (placed left : List Placed)
     → HasEntries (placed_of before) next placed left → IsInTurn next event
     → told_with left (frames_of_event trace event) event ≡ event_told trace before event
 told_with-event trace before (Submit caller change from verdict trail) next placed left entries turn = refl
 told_with-event trace before (Look caller looked) next placed left entries turn = refl
 told_with-event trace before (Open cycle mask) next placed left entries turn =
-    ap (λ w. row.Open cycle mask w ∷ map row.Frame (frames_of_event trace (Open cycle mask))) (width-left before cycle mask next placed left entries turn)
+    ap (λ w. opened_told cycle mask w (frames_of_event trace (Open cycle mask))) (width-left before cycle mask next placed left entries turn)
+
+-- and their text
+rows_with-event : (trace : List TimedFrame) (before : List Event) (event : Event) (next : ℕ) (placed left : List Placed)
+    → HasEntries (placed_of before) next placed left → IsInTurn next event
+    → rows_with left (frames_of_event trace event) event ≡ event_rows trace before event
+rows_with-event trace before event next placed left entries turn = ap text_of_rows (told_with-event trace before event next placed left entries turn)
 
 -- the rows of later events come behind, and those of the last event last
 pub events_rows-append : (trace : List TimedFrame) (before events later : List Event)

@@ -4,35 +4,38 @@ use Rattle.std.specs.Prelude.{OnOk, OnErr}
 use Rattle.std.specs.Fmt.{decimal}
 use Rattle.std.specs.List.{flat_map}
 use Rattle.std.proofs.lemmas.Grind.{flat_map-append}
-use Rattle.std.proofs.lemmas.List.{append-nil, drop_all, map-append}
+use Rattle.std.proofs.lemmas.List.{drop_all, map-append}
 use Rattle.std.proofs.lemmas.List.Elements.{All-append, All-cons}
 use Rattle.std.proofs.Math.Seq.{drop-cons}
 use Rattle.ftt_io.specs.Puts.{Puts, PutsPrefix}
 use Rattle.ftt_io.proofs.Shared.{Puts-append, PutsPrefix-append, PutsPrefix-longer}
 use Rattle.can_frame.specs.declared.data_frame.TimedFrame.{TimedFrame}
-use Rattle.bus_trace.specs.Log.{frame_row, hex_digits, plan_row, plan_rows}
-use Rattle.log_reader.specs.Row.{IsLogRow}
+use Rattle.bus_trace.specs.Log.{hex_digits}
+use Rattle.bus_trace.specs.LogRows.{plan_told}
+use Rattle.log_reader.specs.Row.{IsLogRow, row_text, text_of_rows}
 use Rattle.log_reader.specs.declared.row.LogRow.{LogRow}
-use Rattle.log_reader.specs.declared.row.LogRow.TheVariants.{Frame}
+use Rattle.log_reader.specs.declared.row.LogRow.TheVariants.{Frame, Plan}
+use Rattle.log_reader.proofs.Shared.{frame-text}
 
 -- the rows from a place on begin with the row at the place
 pub frame_rows-at : (frames : List TimedFrame) (place : ℕ) (d sent : TimedFrame) → place < length frames → get_or frames place d ≡ sent
-    → flat_map frame_row (drop place frames) ≡ frame_row sent ++ flat_map frame_row (drop (place + 1) frames)
+    → text_of_rows (map Frame (drop place frames)) ≡ row_text (Frame sent) ++ text_of_rows (map Frame (drop (place + 1) frames))
 frame_rows-at frames place d sent within is =
     let next : place + 1 ≡ suc place = omega arith in
-    ap (flat_map frame_row) (drop-cons frames place d within)
-    ∙ ap (λ s. frame_row s ++ flat_map frame_row (drop (suc place) frames)) is
-    ∙ ap (λ n. frame_row sent ++ flat_map frame_row (drop n frames)) (sym next)
+    ap (λ l. text_of_rows (map Frame l)) (drop-cons frames place d within)
+    ∙ ap (λ s. row_text (Frame s) ++ text_of_rows (map Frame (drop (suc place) frames))) is
+    ∙ ap (λ n. row_text (Frame sent) ++ text_of_rows (map Frame (drop n frames))) (sym next)
 
 pub plan_rows-at : (from : ℕ) (masks : List ℕ) (place d mask : ℕ) → place < length masks → get_or masks place d ≡ mask
-    → plan_rows (from + place) (drop place masks) ≡ plan_row (from + place) mask ++ plan_rows (from + (place + 1)) (drop (place + 1) masks)
+    → text_of_rows (plan_told (from + place) (drop place masks))
+    ≡ row_text (Plan (from + place) mask) ++ text_of_rows (plan_told (from + (place + 1)) (drop (place + 1) masks))
 plan_rows-at from masks place d mask within is =
     let next : place + 1 ≡ suc place = omega arith in
     let later : from + place + 1 ≡ from + (place + 1) = omega arith in
-    ap (plan_rows (from + place)) (drop-cons masks place d within)
-    ∙ ap (λ m. plan_row (from + place) m ++ plan_rows (from + place + 1) (drop (suc place) masks)) is
-    ∙ ap (λ n. plan_row (from + place) mask ++ plan_rows n (drop (suc place) masks)) later
-    ∙ ap (λ n. plan_row (from + place) mask ++ plan_rows (from + (place + 1)) (drop n masks)) (sym next)
+    ap (λ l. text_of_rows (plan_told (from + place) l)) (drop-cons masks place d within)
+    ∙ ap (λ m. row_text (Plan (from + place) m) ++ text_of_rows (plan_told (from + place + 1) (drop (suc place) masks))) is
+    ∙ ap (λ n. row_text (Plan (from + place) mask) ++ text_of_rows (plan_told n (drop (suc place) masks))) later
+    ∙ ap (λ n. row_text (Plan (from + place) mask) ++ text_of_rows (plan_told (from + (place + 1)) (drop n masks))) (sym next)
 
 -- with the frame at a place the rows from it on are in range
 pub frames_told-at : (frames : List TimedFrame) (place : ℕ) (d sent : TimedFrame) → place < length frames → get_or frames place d ≡ sent
@@ -43,11 +46,12 @@ frames_told-at frames place d sent within is later here =
     subst (λ l. All IsLogRow (map Frame l)) (sym whole) (All-cons IsLogRow (Frame sent) (map Frame (drop (place + 1) frames)) here later)
 
 -- the rows of some frames, and behind them those of the others
-pub rows-split : (left some later : List TimedFrame) → left ≡ some ++ later → flat_map frame_row left ≡ flat_map frame_row some ++ flat_map frame_row later
-rows-split left some later is = ap (flat_map frame_row) is ∙ flat_map-append frame_row some later
-
 pub told-split : (left some later : List TimedFrame) → left ≡ some ++ later → map Frame left ≡ map Frame some ++ map Frame later
 told-split left some later is = ap (map Frame) is ∙ map-append Frame some later
+
+pub rows-split : (left some later : List TimedFrame) → left ≡ some ++ later
+    → text_of_rows (map Frame left) ≡ text_of_rows (map Frame some) ++ text_of_rows (map Frame later)
+rows-split left some later is = ap text_of_rows (told-split left some later is) ∙ flat_map-append row_text (map Frame some) (map Frame later)
 
 pub told-joined : (left some later : List TimedFrame) → left ≡ some ++ later → All IsLogRow (map Frame some) → All IsLogRow (map Frame later) → All IsLogRow (map Frame left)
 told-joined left some later is first rest =
@@ -64,10 +68,9 @@ pub lone-is : (frames : List TimedFrame) (d sent : TimedFrame) → length frames
 lone-is frames d sent one is =
     drop-cons frames 0 d (omega arith) ∙ ap (λ s. s ∷ drop 1 frames) is ∙ ap (λ l. sent ∷ l) (drop_all 1 frames (omega arith))
 
-pub lone-rows : (row : List ℕ) (frames : List TimedFrame) (d sent : TimedFrame) → length frames ≡ 1 → get_or frames 0 d ≡ sent
-    → row ++ frame_row sent ≡ row ++ flat_map frame_row frames
-lone-rows row frames d sent one is =
-    ap (λ l. row ++ l) (sym (ap (flat_map frame_row) (lone-is frames d sent one is) ∙ append-nil (frame_row sent)))
+pub lone-rows : (row : LogRow) (frames : List TimedFrame) (d sent : TimedFrame) → length frames ≡ 1 → get_or frames 0 d ≡ sent
+    → text_of_rows (row ∷ Frame sent ∷ []) ≡ text_of_rows (row ∷ map Frame frames)
+lone-rows row frames d sent one is = ap (λ l. text_of_rows (row ∷ map Frame l)) (sym (lone-is frames d sent one is))
 
 pub lone-told : (row : LogRow) (frames : List TimedFrame) (d sent : TimedFrame) → length frames ≡ 1 → get_or frames 0 d ≡ sent
     → All IsLogRow (row ∷ Frame sent ∷ []) → All IsLogRow (row ∷ map Frame frames)
@@ -78,22 +81,13 @@ ok-always (Ok x) p = p
 ok-always (Err e) p = tt
 
 -- the parts of the row of a frame, each put before what stands
-pub frame-parts : (w a k b h d n xs : List ℕ)
-    → w ++ (a ++ (k ++ (b ++ (k ++ (h ++ (k ++ (d ++ (n ++ xs)))))))) ≡ w ++ a ++ k ++ b ++ k ++ h ++ k ++ d ++ n ++ xs
-frame-parts w a k b h d n xs =
-    sym (append_assoc w a _) ∙ sym (append_assoc (w ++ a) k _) ∙ sym (append_assoc (w ++ a ++ k) b _)
-    ∙ sym (append_assoc (w ++ a ++ k ++ b) k _) ∙ sym (append_assoc (w ++ a ++ k ++ b ++ k) h _)
-    ∙ sym (append_assoc (w ++ a ++ k ++ b ++ k ++ h) k _) ∙ sym (append_assoc (w ++ a ++ k ++ b ++ k ++ h ++ k) d _)
-    ∙ sym (append_assoc (w ++ a ++ k ++ b ++ k ++ h ++ k ++ d) n xs)
-
 pub frame-put : (sent : TimedFrame) (row later after xs : List ℕ) → row ≡ codes "frame," ++ later → later ≡ decimal sent.start ++ after
     → after ≡ codes "," ++ (decimal sent.len ++ (codes "," ++ (hex_digits 3 sent.frame.identifier ++ (codes ","
     ++ (flat_map (hex_digits 2) sent.frame.bytes ++ (codes "\n" ++ xs))))))
-    → row ≡ frame_row sent ++ xs
+    → row ≡ row_text (Frame sent) ++ xs
 frame-put sent row later after xs word start rest =
     word ∙ ap (λ l. codes "frame," ++ l) (start ∙ ap (λ l. decimal sent.start ++ l) rest)
-    ∙ frame-parts (codes "frame,") (decimal sent.start) (codes ",") (decimal sent.len) (hex_digits 3 sent.frame.identifier)
-    (flat_map (hex_digits 2) sent.frame.bytes) (codes "\n") xs
+    ∙ sym (frame-text (decimal sent.start) (decimal sent.len) (hex_digits 3 sent.frame.identifier) (flat_map (hex_digits 2) sent.frame.bytes) xs)
 
 -- rows behind others
 pub all-behind : {T E : Type 0} (result : Result T E) (old between new : Option (List ℕ)) (first second : List ℕ) → Puts old between first
@@ -107,21 +101,22 @@ prefix-behind (Ok x) old between new first second p q = tt
 prefix-behind (Err e) old between new first second p q = PutsPrefix-append old between new first p q
 
 -- The rows of a cycle: one call puts its own row and those of some frames, and the next one those of the others.
-module _ (row first : List ℕ) (left some later : List TimedFrame) (is : left ≡ some ++ later) (first-is : first ≡ row ++ flat_map frame_row some) where
-  cycle-split : first ++ flat_map frame_row later ≡ row ++ flat_map frame_row left
+module _ (row : LogRow) (first : List ℕ) (left some later : List TimedFrame) (is : left ≡ some ++ later)
+    (first-is : first ≡ text_of_rows (row ∷ map Frame some)) where
+  cycle-split : first ++ text_of_rows (map Frame later) ≡ text_of_rows (row ∷ map Frame left)
   cycle-split =
-      ap (λ l. l ++ flat_map frame_row later) first-is ∙ append_assoc row (flat_map frame_row some) (flat_map frame_row later)
-      ∙ ap (λ l. row ++ l) (sym (rows-split left some later is))
+      ap (λ l. l ++ text_of_rows (map Frame later)) first-is ∙ append_assoc (row_text row) (text_of_rows (map Frame some)) (text_of_rows (map Frame later))
+      ∙ ap (λ l. row_text row ++ l) (sym (rows-split left some later is))
 
-  pub cycle-stopped : {old new : Option (List ℕ)} → PutsPrefix old new first → PutsPrefix old new (row ++ flat_map frame_row left)
-  cycle-stopped {old = old} {new = new} p = subst (PutsPrefix old new) cycle-split (PutsPrefix-longer (flat_map frame_row later) p)
+  pub cycle-stopped : {old new : Option (List ℕ)} → PutsPrefix old new first → PutsPrefix old new (text_of_rows (row ∷ map Frame left))
+  cycle-stopped {old = old} {new = new} p = subst (PutsPrefix old new) cycle-split (PutsPrefix-longer (text_of_rows (map Frame later)) p)
 
   pub cycle-all : {T E : Type 0} (result : Result T E) (old between new : Option (List ℕ)) → Puts old between first
-      → OnOk result (Puts between new (flat_map frame_row later)) → OnOk result (Puts old new (row ++ flat_map frame_row left))
+      → OnOk result (Puts between new (text_of_rows (map Frame later))) → OnOk result (Puts old new (text_of_rows (row ∷ map Frame left)))
   cycle-all result old between new p q =
-      subst (λ bytes. OnOk result (Puts old new bytes)) cycle-split (all-behind result old between new first (flat_map frame_row later) p q)
+      subst (λ bytes. OnOk result (Puts old new bytes)) cycle-split (all-behind result old between new first (text_of_rows (map Frame later)) p q)
 
   pub cycle-prefix : {T E : Type 0} (result : Result T E) (old between new : Option (List ℕ)) → Puts old between first
-      → OnErr result (PutsPrefix between new (flat_map frame_row later)) → OnErr result (PutsPrefix old new (row ++ flat_map frame_row left))
+      → OnErr result (PutsPrefix between new (text_of_rows (map Frame later))) → OnErr result (PutsPrefix old new (text_of_rows (row ∷ map Frame left)))
   cycle-prefix result old between new p q =
-      subst (λ bytes. OnErr result (PutsPrefix old new bytes)) cycle-split (prefix-behind result old between new first (flat_map frame_row later) p q)
+      subst (λ bytes. OnErr result (PutsPrefix old new bytes)) cycle-split (prefix-behind result old between new first (text_of_rows (map Frame later)) p q)

@@ -1,15 +1,14 @@
 -- The rows of one event, by the frames that follow it.
-use Rattle.std.specs.Prelude.{◌≡◌, ◌≢◌, ℕ, ◌^◌, ◌<◌, ◌≤◌, List, [], ◌∷◌, ◌++◌, All, codes, length, map}
-use Rattle.std.specs.Fmt.{decimal}
-use Rattle.std.specs.List.{flat_map}
+use Rattle.std.specs.Prelude.{◌≡◌, ◌≢◌, ℕ, ◌^◌, ◌<◌, ◌≤◌, List, [], ◌∷◌, All, length}
 use Rattle.can_frame.specs.declared.data_frame.TimedFrame.{TimedFrame}
 use Rattle.trigger_codec.specs.Bytes.{trigger_frame, width_told}
 use Rattle.requirement_table.specs.Opening.{width_of}
 use Rattle.master_core.specs.declared.event.Event.{Event}
 use Rattle.master_core.specs.declared.event.Event.TheVariants.{Submit, Look, Open}
 use Rattle.master_core.specs.History.{placed_of}
-use Rattle.bus_trace.specs.Log.{frame_row, look_row, mask_digits, plan_rows, started_in, submit_row}
-use Rattle.bus_trace.specs.LogRows.{plan_told, verdict_told}
+use Rattle.bus_trace.specs.LogRows.{opened_told, plan_told, verdict_told}
+use Rattle.bus_trace.specs.Started.{started_in}
+use Rattle.log_reader.specs.Row.{text_of_rows}
 use Rattle.log_reader.specs.declared.row.LogRow.{LogRow}
 use Rattle.log_reader.specs.declared.row.LogRow.TheVariants as row
 
@@ -35,32 +34,25 @@ abbrev pub width_told_in : List TimedFrame → ℕ
 width_told_in [] = 0
 width_told_in (trigger ∷ later) = width_told trigger.frame.bytes
 
--- the row of an opened cycle, with the length of its synchronous window
-abbrev pub opened_row : ℕ → ℕ → ℕ → List ℕ
-opened_row cycle mask width =
-    codes "open," ++ decimal cycle ++ codes "," ++ mask_digits mask ++ codes "," ++ decimal width ++ codes "\n"
-
 -- the rows of an event and of these frames, where the synchronous window of the cycle that it opens has this length: a
 -- change that is refused for a miss is followed by its plan up to the miss
-abbrev pub rows_at : ℕ → Event → List TimedFrame → List ℕ
-rows_at width (Submit caller change from verdict trail) frames = submit_row caller from verdict ++ plan_rows from trail
-rows_at width (Look caller next) frames = look_row caller next
-rows_at width (Open cycle mask) frames = opened_row cycle mask width ++ flat_map frame_row frames
-
--- the same rows as values
 abbrev pub told_at : ℕ → Event → List TimedFrame → List LogRow
 told_at width (Submit caller change from verdict trail) frames =
     row.Submit caller from (verdict_told verdict) ∷ plan_told from trail
 told_at width (Look caller next) frames = row.Look caller next ∷ []
-told_at width (Open cycle mask) frames = row.Open cycle mask width ∷ map row.Frame frames
+told_at width (Open cycle mask) frames = opened_told cycle mask width frames
+
+-- their text
+abbrev pub rows_at : ℕ → Event → List TimedFrame → List ℕ
+rows_at width event frames = text_of_rows (told_at width event frames)
 
 -- the rows of an event and of the frames that follow it
-abbrev pub rows_of_event : Event → List TimedFrame → List ℕ
-rows_of_event event frames = rows_at (width_told_in frames) event frames
-
--- the same rows as values
 abbrev pub told_of_event : Event → List TimedFrame → List LogRow
 told_of_event event frames = told_at (width_told_in frames) event frames
+
+-- their text
+abbrev pub rows_of_event : Event → List TimedFrame → List ℕ
+rows_of_event event frames = text_of_rows (told_of_event event frames)
 
 -- after the events before it, the trigger of the cycle that the event opens says the length of the cycle's synchronous
 -- window

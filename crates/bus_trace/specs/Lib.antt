@@ -5,3 +5,4 @@ pub mod Log
 pub mod LogRows
 pub mod Logged
 pub mod Recent
+pub mod Started

@@ -13,8 +13,8 @@ use Rattle.change_protocol.specs.Malformed.{Bounds, IsWellFormed}
 use Rattle.admission.specs.Verdict.{is_accepted}
 use Rattle.master_core.specs.declared.event.Event.{Event}
 use Rattle.master_core.specs.declared.event.Event.TheVariants.{Submit, Look, Open}
-use Rattle.bus_trace.specs.Log.{started_in}
 use Rattle.bus_trace.specs.EventRows.{rows_at, told_at}
+use Rattle.bus_trace.specs.Started.{started_in}
 use Rattle.log_reader.specs.declared.row.LogRow.{LogRow}
 
 -- The frames
@@ -61,12 +61,12 @@ width_with placed (Look caller next) = 0
 width_with placed (Open cycle mask) = width_in placed cycle (has_bit mask)
 
 -- the rows of an event and of these frames, by these entries
-abbrev pub rows_with : List Placed → List TimedFrame → Event → List ℕ
-rows_with placed frames event = rows_at (width_with placed event) event frames
-
--- the same rows as values
 abbrev pub told_with : List Placed → List TimedFrame → Event → List LogRow
 told_with placed frames event = told_at (width_with placed event) event frames
+
+-- their text
+abbrev pub rows_with : List Placed → List TimedFrame → Event → List ℕ
+rows_with placed frames event = rows_at (width_with placed event) event frames
 
 -- The entries
 

@@ -17,5 +17,5 @@ pub use comparing::{behind_end, behind_event};
 pub use gathering::Gathered;
 pub use log::log_text;
 pub use recent::{Recent, last_from, least_rows, row_len};
-pub use rows::until_of;
+pub use rows::{open_told, until_of};
 pub use streaming::{event_rows, put_end_row, put_event_rows};

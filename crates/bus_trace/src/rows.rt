@@ -6,16 +6,15 @@ ghost use Rattle.std.specs.Fmt.{decimal};
 ghost use Rattle.std.specs.List.{flat_map};
 ghost use Rattle.can_frame.specs.DataFrame.{IsFrame};
 ghost use Rattle.text_fields.specs.Hexadecimal.{hex_digits};
-ghost use Rattle.bus_trace.specs.Log.{end_row, frame_row, last_field, look_row, plan_row};
-ghost use Rattle.bus_trace.specs.Log.{submit_row, until_of, verdict_fields};
-ghost use Rattle.bus_trace.specs.LogRows.{verdict_told};
-ghost use Rattle.bus_trace.specs.EventRows.{opened_row};
-ghost use Rattle.log_reader.specs.Row.{IsLogRow, IsLogVerdict};
+ghost use Rattle.bus_trace.specs.Log.{end_row, last_field, verdict_fields};
+ghost use Rattle.bus_trace.specs.LogRows.{open_told, until_of, verdict_told};
+ghost use Rattle.log_reader.specs.Row.{IsLogRow, IsLogVerdict, row_text, text_of_rows};
 ghost use Rattle.log_reader.specs.declared.row.LogRow.TheVariants.{Submit, Plan, Look, Open, Frame, End};
 
 use admission::Verdict;
 use can_frame::TimedFrame;
 use change_protocol::Why;
+use log_reader::OpenRow;
 use requirement_table::Mask;
 use text_fields::{
     HighDigits, ROOM, put_byte, put_data_bytes, put_decimal, put_field, put_first, put_identifier,
@@ -95,7 +94,7 @@ fn put_verdict(row: &mut [u8; ROOM], end: usize, verdict: &Verdict) -> usize
 
 /// Makes the row of a change that operator `caller` asked for, planned from the cycle `from` on.
 pub fn submit_row<'a>(row: &'a mut [u8; ROOM], caller: u8, from: u64, verdict: &Verdict) -> &'a [u8]
-    ensures row { result.now ≡ submit_row caller from verdict.now }
+    ensures row { result.now ≡ row_text (Submit caller from (verdict_told verdict.now)) }
     ensures in_range { IsLogRow (Submit caller from (verdict_told verdict.now)) }
 {
     let start = put_line_feed(row);
@@ -108,7 +107,7 @@ pub fn submit_row<'a>(row: &'a mut [u8; ROOM], caller: u8, from: u64, verdict: &
 
 /// Makes the row of a cycle that was planned and not opened, with the slots that are flagged in it.
 pub fn plan_row<'a>(row: &'a mut [u8; ROOM], cycle: u64, mask: Mask) -> &'a [u8]
-    ensures row { result.now ≡ plan_row cycle mask }
+    ensures row { result.now ≡ row_text (Plan cycle mask) }
     ensures in_range { IsLogRow (Plan cycle mask) }
 {
     let start = put_line_feed(row);
@@ -120,7 +119,7 @@ pub fn plan_row<'a>(row: &'a mut [u8; ROOM], cycle: u64, mask: Mask) -> &'a [u8]
 
 /// Makes the row of a look of operator `caller`, with the cycle that was to be opened next.
 pub fn look_row<'a>(row: &'a mut [u8; ROOM], caller: u8, next: u64) -> &'a [u8]
-    ensures row { result.now ≡ look_row caller next }
+    ensures row { result.now ≡ row_text (Look caller next) }
     ensures in_range { IsLogRow (Look caller next) }
 {
     let start = put_line_feed(row);
@@ -158,7 +157,7 @@ fn put_lone_frame(row: &mut [u8; ROOM], end: usize, sent: &TimedFrame) -> usize
     requires within { end ≤ 128 }
     ensures start { result ≤ end }
     ensures few { end ≤ result + 59 }
-    ensures row { drop result row.new ≡ frame_row sent.now ++ drop end row.old }
+    ensures row { drop result row.new ≡ row_text (Frame sent.now) ++ drop end row.old }
     ensures in_range { IsLogRow (Frame sent.now) }
 {
     let start = sent.start;
@@ -179,7 +178,7 @@ fn put_frame(
     requires within { end ≤ 1024 }
     ensures start { result ≤ end }
     ensures few { end ≤ result + 59 }
-    ensures row { drop result rows.new ≡ frame_row sent.now ++ drop end rows.old }
+    ensures row { drop result rows.new ≡ row_text (Frame sent.now) ++ drop end rows.old }
     ensures in_range { IsLogRow (Frame sent.now) }
 {
     let start = sent.start;
@@ -193,7 +192,7 @@ fn put_frames(rows: &mut [u8; ROWS_ROOM], frames: &[TimedFrame]) -> usize
     requires few { length frames.now ≤ 16 }
     ensures within { result ≤ 1024 }
     ensures room { 80 ≤ result }
-    ensures rows { drop result rows.new ≡ flat_map frame_row frames.now }
+    ensures rows { drop result rows.new ≡ text_of_rows (map Frame frames.now) }
     ensures in_range { All IsLogRow (map Frame frames.now) }
 {
     let mut starts = HighDigits::new();
@@ -207,66 +206,59 @@ fn put_frames(rows: &mut [u8; ROWS_ROOM], frames: &[TimedFrame]) -> usize
 /// Makes the rows of frames.
 pub fn frame_rows<'a>(rows: &'a mut [u8; ROWS_ROOM], frames: &[TimedFrame]) -> &'a [u8]
     requires few { length frames.now ≤ 16 }
-    ensures rows { result.now ≡ flat_map frame_row frames.now }
+    ensures rows { result.now ≡ text_of_rows (map Frame frames.now) }
     ensures in_range { All IsLogRow (map Frame frames.now) }
 {
     let place = put_frames(rows, frames);
     row_from(rows, place)
 }
 
-/// Puts the row of an opened cycle, with its flagged slots and the length of its synchronous window in bit times.
-fn put_open<const N: usize>(
-    rows: &mut [u8; N],
-    end: usize,
-    cycle: u64,
-    mask: Mask,
-    width: u32,
-) -> usize
+/// An opened cycle, as a row tells it, with its flagged slots and the length of its synchronous window in bit times.
+pub fn open_told(cycle: u64, mask: Mask, width: u32) -> OpenRow
+    ensures told { result ≡ open_told cycle mask width }
+{
+    OpenRow { cycle, mask, width }
+}
+
+/// Puts the row of an opened cycle.
+fn put_open<const N: usize>(rows: &mut [u8; N], end: usize, opened: &OpenRow) -> usize
     requires room { 62 ≤ end }
     requires within { end ≤ N }
     ensures start { result ≤ end }
-    ensures row { drop result rows.new ≡ opened_row cycle mask width ++ drop end rows.old }
-    ensures in_range { IsLogRow (Open cycle mask width) }
+    ensures row { drop result rows.new ≡ row_text (Open opened.now) ++ drop end rows.old }
+    ensures in_range { IsLogRow (Open opened.now) }
 {
     let place = put_byte(rows, end, b'\n');
-    let place = put_length(rows, place, width);
+    let place = put_length(rows, place, opened.width);
     let place = put_byte(rows, place, b',');
-    let place = put_mask(rows, place, mask.bits());
+    let place = put_mask(rows, place, opened.mask.bits());
     let place = put_byte(rows, place, b',');
-    let place = put_decimal(rows, place, cycle);
+    let place = put_decimal(rows, place, opened.cycle);
     put_word(rows, place, b"open,")
 }
 
 /// Makes the row of an opened cycle, and those of the first frames that were sent in it.
 pub fn opened_rows<'a>(
     rows: &'a mut [u8; ROWS_ROOM],
-    cycle: u64,
-    mask: Mask,
-    width: u32,
+    opened: &OpenRow,
     frames: &[TimedFrame],
 ) -> &'a [u8]
     requires few { length frames.now ≤ 16 }
-    ensures rows { result.now ≡ opened_row cycle mask width ++ flat_map frame_row frames.now }
-    ensures in_range { All IsLogRow (Open cycle mask width ∷ map Frame frames.now) }
+    ensures rows { result.now ≡ text_of_rows (Open opened.now ∷ map Frame frames.now) }
+    ensures in_range { All IsLogRow (Open opened.now ∷ map Frame frames.now) }
 {
     let place = put_frames(rows, frames);
-    let place = put_open(rows, place, cycle, mask, width);
+    let place = put_open(rows, place, opened);
     row_from(rows, place)
 }
 
 /// Makes the row of an opened cycle, and that of the one frame that was sent in it.
-pub fn lone_rows<'a>(
-    row: &'a mut [u8; ROOM],
-    cycle: u64,
-    mask: Mask,
-    width: u32,
-    sent: &TimedFrame,
-) -> &'a [u8]
-    ensures rows { result.now ≡ opened_row cycle mask width ++ frame_row sent.now }
-    ensures in_range { All IsLogRow (Open cycle mask width ∷ Frame sent.now ∷ []) }
+pub fn lone_rows<'a>(row: &'a mut [u8; ROOM], opened: &OpenRow, sent: &TimedFrame) -> &'a [u8]
+    ensures rows { result.now ≡ text_of_rows (Open opened.now ∷ Frame sent.now ∷ []) }
+    ensures in_range { All IsLogRow (Open opened.now ∷ Frame sent.now ∷ []) }
 {
     let place = put_lone_frame(row, ROOM, sent);
-    let place = put_open(row, place, cycle, mask, width);
+    let place = put_open(row, place, opened);
     row_from(row, place)
 }
 

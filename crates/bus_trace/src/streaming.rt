@@ -1,25 +1,25 @@
 //! The rows of one event: put to a sink, as of a log that is written while the run goes on, or appended to a text.
 
 ghost use Rattle.std.specs.Prelude.{◌≡◌, ◌^◌, ◌<◌, ◌≤◌, ◌++◌, ◌∷◌, All, length, map, OnOk, OnErr};
-ghost use Rattle.std.specs.List.{flat_map};
 ghost use Rattle.ftt_io.specs.Counts.{Rose};
 ghost use Rattle.ftt_io.specs.Puts.{Puts, PutsPrefix};
 ghost use Rattle.trigger_codec.specs.Bytes.{width_told};
 ghost use Rattle.bus_trace.specs.EventRows.{HasItsFrames, HasWidth, rows_at, rows_of_event, told_at, told_of_event};
-ghost use Rattle.bus_trace.specs.EventRows.{opened_row, width_told_in};
-ghost use Rattle.bus_trace.specs.Log.{end_row, frame_row, plan_rows};
+ghost use Rattle.bus_trace.specs.EventRows.{width_told_in};
+ghost use Rattle.bus_trace.specs.Log.{end_row};
 ghost use Rattle.bus_trace.specs.LogRows.{plan_told};
 ghost use Rattle.bus_trace.specs.Logged.{IsEventNear};
-ghost use Rattle.log_reader.specs.Row.{IsLogRow};
-ghost use Rattle.log_reader.specs.declared.row.LogRow.TheVariants.{Frame as FrameRow, Open as OpenRow, End};
+ghost use Rattle.log_reader.specs.Row.{IsLogRow, text_of_rows};
+ghost use Rattle.log_reader.specs.declared.row.LogRow.TheVariants.{Frame as FrameRow, Open, End};
 
 use crate::gathering::Gathered;
 use crate::rows::{
-    FRAMES_TOGETHER, ROWS_ROOM, end_row, frame_rows, lone_rows, look_row, opened_rows, plan_row,
-    submit_row,
+    FRAMES_TOGETHER, ROWS_ROOM, end_row, frame_rows, lone_rows, look_row, open_told, opened_rows,
+    plan_row, submit_row,
 };
 use can_frame::{Frame, TimedFrame};
 use ftt_io::{Failed, Sink, write_all};
+use log_reader::OpenRow;
 use master_core::Event;
 use requirement_table::Mask;
 use std::alloc::{AllocError, Global};
@@ -83,10 +83,10 @@ pub fn event_rows(
 fn put_plan_rows<O: Sink>(out: &mut O, from: u64, masks: &[Mask]) -> Result<(), Failed>
     requires from { from < 2 ^ 63 }
     ensures faults_never_fall { O.faults out.old ≤ O.faults out.new }
-    ensures all { OnOk result (Puts (O.told_bytes out.old) (O.told_bytes out.new) (plan_rows from masks.now)) }
+    ensures all { OnOk result (Puts (O.told_bytes out.old) (O.told_bytes out.new) (text_of_rows (plan_told from masks.now))) }
     ensures failed { OnErr result (Rose (O.faults out.old) (O.faults out.new)) }
     ensures prefix { OnErr result
-        (PutsPrefix (O.told_bytes out.old) (O.told_bytes out.new) (plan_rows from masks.now)) }
+        (PutsPrefix (O.told_bytes out.old) (O.told_bytes out.new) (text_of_rows (plan_told from masks.now))) }
     ensures in_range { OnOk result (All IsLogRow (plan_told from masks.now)) }
 {
     let mut row = [0; ROOM];
@@ -103,10 +103,11 @@ fn put_frame_rows<O: Sink>(
     frames: &[TimedFrame],
 ) -> Result<(), Failed>
     ensures faults_never_fall { O.faults out.old ≤ O.faults out.new }
-    ensures all { OnOk result (Puts (O.told_bytes out.old) (O.told_bytes out.new) (flat_map frame_row frames.now)) }
+    ensures all { OnOk result
+        (Puts (O.told_bytes out.old) (O.told_bytes out.new) (text_of_rows (map FrameRow frames.now))) }
     ensures failed { OnErr result (Rose (O.faults out.old) (O.faults out.new)) }
     ensures prefix { OnErr result
-        (PutsPrefix (O.told_bytes out.old) (O.told_bytes out.new) (flat_map frame_row frames.now)) }
+        (PutsPrefix (O.told_bytes out.old) (O.told_bytes out.new) (text_of_rows (map FrameRow frames.now))) }
     ensures in_range { OnOk result (All IsLogRow (map FrameRow frames.now)) }
 {
     let mut left = frames;
@@ -120,30 +121,24 @@ fn put_frame_rows<O: Sink>(
 
 /// Puts the row of an opened cycle and those of the frames that were sent in it, its own and up to 16 of theirs by a
 /// call. Many cycles have one frame alone.
-fn put_cycle<O: Sink>(
-    out: &mut O,
-    cycle: u64,
-    mask: Mask,
-    width: u32,
-    frames: &[TimedFrame],
-) -> Result<(), Failed>
+fn put_cycle<O: Sink>(out: &mut O, opened: &OpenRow, frames: &[TimedFrame]) -> Result<(), Failed>
     ensures faults_never_fall { O.faults out.old ≤ O.faults out.new }
     ensures all { OnOk result
         (Puts (O.told_bytes out.old) (O.told_bytes out.new)
-        (opened_row cycle mask width ++ flat_map frame_row frames.now)) }
+        (text_of_rows (Open opened.now ∷ map FrameRow frames.now))) }
     ensures failed { OnErr result (Rose (O.faults out.old) (O.faults out.new)) }
     ensures prefix { OnErr result
         (PutsPrefix (O.told_bytes out.old) (O.told_bytes out.new)
-        (opened_row cycle mask width ++ flat_map frame_row frames.now)) }
-    ensures in_range { OnOk result (All IsLogRow (OpenRow cycle mask width ∷ map FrameRow frames.now)) }
+        (text_of_rows (Open opened.now ∷ map FrameRow frames.now))) }
+    ensures in_range { OnOk result (All IsLogRow (Open opened.now ∷ map FrameRow frames.now)) }
 {
     if let [sent] = frames {
         let mut row = [0; ROOM];
-        return write_all(out, lone_rows(&mut row, cycle, mask, width, sent));
+        return write_all(out, lone_rows(&mut row, opened, sent));
     }
     let mut rows = [0; ROWS_ROOM];
     let (first, later) = frames.split_at(frames.len().min(FRAMES_TOGETHER));
-    write_all(out, opened_rows(&mut rows, cycle, mask, width, first))?;
+    write_all(out, opened_rows(&mut rows, opened, first))?;
     put_frame_rows(out, &mut rows, later)
 }
 
@@ -180,7 +175,7 @@ pub fn put_rows<O: Sink>(
             let mut row = [0; ROOM];
             write_all(out, look_row(&mut row, *caller, *next))
         }
-        Event::Open { cycle, mask } => put_cycle(out, *cycle, *mask, width, frames),
+        Event::Open { cycle, mask } => { put_cycle(out, &open_told(*cycle, *mask, width), frames) }
     }
 }
 

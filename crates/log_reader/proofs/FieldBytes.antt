@@ -133,7 +133,8 @@ identifier-behind (high ∷ middle ∷ low ∷ later) rest enough least most sec
 
 -- Rows
 
-frame-text : (a b c d rest : List ℕ) → (join_with_byte 44 (codes "frame" ∷ a ∷ b ∷ c ∷ d ∷ []) ++ 10 ∷ []) ++ rest
+-- the text of a row, and what stands behind it, by its fields
+pub frame-text : (a b c d rest : List ℕ) → (join_with_byte 44 (codes "frame" ∷ a ∷ b ∷ c ∷ d ∷ []) ++ 10 ∷ []) ++ rest
     ≡ codes "frame," ++ (a ++ 44 ∷ (b ++ 44 ∷ (c ++ 44 ∷ (d ++ 10 ∷ rest))))
 frame-text a b c d rest =
     append_assoc (join_with_byte 44 (codes "frame" ∷ a ∷ b ∷ c ∷ d ∷ [])) (10 ∷ []) rest
@@ -141,14 +142,14 @@ frame-text a b c d rest =
     ∙ ap (λ l. a ++ 44 ∷ l) (append_assoc b (44 ∷ (c ++ 44 ∷ d)) (10 ∷ rest)
     ∙ ap (λ l. b ++ 44 ∷ l) (append_assoc c (44 ∷ d) (10 ∷ rest))))
 
-open-text : (a b c rest : List ℕ) → (join_with_byte 44 (codes "open" ∷ a ∷ b ∷ c ∷ []) ++ 10 ∷ []) ++ rest
+pub open-text : (a b c rest : List ℕ) → (join_with_byte 44 (codes "open" ∷ a ∷ b ∷ c ∷ []) ++ 10 ∷ []) ++ rest
     ≡ codes "open," ++ (a ++ 44 ∷ (b ++ 44 ∷ (c ++ 10 ∷ rest)))
 open-text a b c rest =
     append_assoc (join_with_byte 44 (codes "open" ∷ a ∷ b ∷ c ∷ [])) (10 ∷ []) rest
     ∙ ap (λ l. codes "open," ++ l) (append_assoc a (44 ∷ (b ++ 44 ∷ c)) (10 ∷ rest)
     ∙ ap (λ l. a ++ 44 ∷ l) (append_assoc b (44 ∷ c) (10 ∷ rest)))
 
-plan-text : (a b rest : List ℕ) → (join_with_byte 44 (codes "plan" ∷ a ∷ b ∷ []) ++ 10 ∷ []) ++ rest
+pub plan-text : (a b rest : List ℕ) → (join_with_byte 44 (codes "plan" ∷ a ∷ b ∷ []) ++ 10 ∷ []) ++ rest
     ≡ codes "plan," ++ (a ++ 44 ∷ (b ++ 10 ∷ rest))
 plan-text a b rest =
     append_assoc (join_with_byte 44 (codes "plan" ∷ a ∷ b ∷ [])) (10 ∷ []) rest
@@ -225,13 +226,13 @@ pub frame-begun : (bytes body rest : List ℕ)
 frame-begun bytes body rest (start, early, one) is =
     subst (λ b. BeginsWithRow b rest) (sym one) (frame-row (decimal start ++ 44 ∷ body) body rest (start, early, refl) is)
 
-pub open-row : (bytes slots width rest : List ℕ) → IsNumberBehind 16 44 bytes slots → IsMaskBehind 44 slots width
-    → IsNumberBehind 9 10 width rest → BeginsWithRow (codes "open," ++ bytes) rest
-open-row bytes slots width rest (cycle, early, one) (mask, wide, two) (l, short, three) = record {
-  row = row.Open cycle mask l;
+pub open-row : (bytes slots length rest : List ℕ) → IsNumberBehind 16 44 bytes slots → IsMaskBehind 44 slots length
+    → IsNumberBehind 9 10 length rest → BeginsWithRow (codes "open," ++ bytes) rest
+open-row bytes slots length rest (cycle, early, one) (mask, wide, two) (width, short, three) = record {
+  row = row.Open (record { cycle = cycle; mask = mask; width = width });
   legal = (omega (arith, early), wide, omega (arith, short));
   written = ap (λ x. codes "open," ++ x) (one ∙ ap (λ x. decimal cycle ++ 44 ∷ x) (two ∙ ap (λ x. mask_digits mask ++ 44 ∷ x) three))
-      ∙ sym (open-text (decimal cycle) (mask_digits mask) (decimal l) rest);
+      ∙ sym (open-text (decimal cycle) (mask_digits mask) (decimal width) rest);
 }
 
 pub plan-row : (bytes slots rest : List ℕ) → IsNumberBehind 16 44 bytes slots → IsMaskBehind 10 slots rest

@@ -17,5 +17,5 @@ mod written;
 pub use log_fault::LogFault;
 pub use log_reading::{check_log, read_log};
 pub use reader::LogReader;
-pub use row::{LogRow, LogVerdict};
+pub use row::{LogRow, LogVerdict, OpenRow};
 pub use written::strip_prefix;

@@ -19,6 +19,17 @@ pub enum LogVerdict {
     Horizon { from: u64, walked: u64 },
 }
 
+/// The row of an opened cycle.
+#[derive(Clone, Copy, PartialEq, Eq, Debug)]
+pub struct OpenRow {
+    /// The number of the cycle.
+    pub cycle: u64,
+    /// Its flagged slots.
+    pub mask: Mask,
+    /// The length of its synchronous window, in bit times.
+    pub width: u32,
+}
+
 /// A row of a log.
 #[derive(Clone, Copy, PartialEq, Eq, Debug)]
 pub enum LogRow {
@@ -38,11 +49,9 @@ pub enum LogRow {
         caller: u8,
         next: u64,
     },
-    /// An opened cycle, its flagged slots, and the length of its synchronous window in bit times.
+    /// An opened cycle.
     Open {
-        cycle: u64,
-        mask: Mask,
-        l: u32,
+        opened: OpenRow,
     },
     /// A frame on the bus.
     Frame {

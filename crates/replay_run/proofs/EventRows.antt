@@ -1,6 +1,5 @@
 -- The rows of a history with one event more.
 use Rattle.std.proofs.Common.{◌≡◌, ◌≢◌, ℕ, ◌+◌, ◌≤◌, ◌⊎◌, false, cond, eqb, List, [], ◌∷◌, ◌++◌, fold, get_or, All, inl, inr, refl, subst, sym, ap, ◌∙◌, arith, append_assoc}
-use Rattle.std.specs.List.{flat_map}
 use Rattle.std.proofs.lemmas.Bool.{ne_eqb, eq-eqb, cond-true, cond-false}
 use Rattle.std.proofs.lemmas.List.{append-nil}
 use Rattle.std.proofs.lemmas.List.Elements.{All-append, All-head, All-tail}
@@ -16,8 +15,8 @@ use Rattle.master_core.specs.declared.event.Event.{Event}
 use Rattle.master_core.specs.declared.event.Event.TheVariants.{Submit, Look, Open}
 use Rattle.master_core.specs.History.{AllAfter, IsRight, is_open, next_of, placed_of}
 use Rattle.kept_run.proofs.Shared.{next_of-push, second_identifiers}
-use Rattle.bus_trace.specs.EventRows.{BeginsCycle, opened_row, rows_of_event, width_told_in}
-use Rattle.bus_trace.specs.Log.{event_rows, events_rows, frame_row, open_row, started_in, trigger_count_with, triggers_in}
+use Rattle.bus_trace.specs.EventRows.{BeginsCycle, rows_at, rows_of_event, width_told_in}
+use Rattle.bus_trace.specs.Log.{event_rows, events_rows, started_in, trigger_count_with, triggers_in}
 use Rattle.bus_trace.proofs.Shared.{events_rows-push, started_in-later, starts-elsewhere, trigger_count_with-le, trigger_count_with-trigger}
 
 -- Counting triggers
@@ -103,7 +102,7 @@ event-stays rules trace sent later before (Open cycle mask) trigger right few =
     started-append cycle 0 trace (sent ∷ later)
     ∙ ap (λ l. started_in cycle 0 trace ++ l) (started_in-later cycle (triggers_in trace) (sent ∷ later) trigger (omega arith))
     ∙ append-nil (started_in cycle 0 trace) in
-    ap (λ l. open_row (record { cycle = cycle; mask = mask; placed = placed_of before }) ++ flat_map frame_row l) same
+    ap (λ l. rows_at (width_of (record { cycle = cycle; mask = mask; placed = placed_of before })) (Open cycle mask) l) same
 
 -- frames of a later cycle change no rows before it
 pub rows-stay : (rules : Rules) (trace : List TimedFrame) (sent : TimedFrame) (later : List TimedFrame) (before events : List Event)
@@ -128,8 +127,8 @@ opened-rows rules trace sent later history cycle mask legal so_far now trigger o
     let started = started-next trace cycle sent later (so_far ∙ sym now) trigger others in
     events_rows-push (trace ++ frames) [] history (Open cycle mask)
     ∙ ap (λ l. l ++ event_rows (trace ++ frames) history (Open cycle mask)) (rows-stay rules trace sent later [] history trigger legal (omega arith))
-    ∙ ap (λ l. events_rows trace [] history ++ (open_row (record { cycle = cycle; mask = mask; placed = placed_of history }) ++ flat_map frame_row l)) started
-    ∙ ap (λ w. events_rows trace [] history ++ (opened_row cycle mask w ++ flat_map frame_row frames)) (sym width)
+    ∙ ap (λ l. events_rows trace [] history ++ rows_at (width_of (record { cycle = cycle; mask = mask; placed = placed_of history })) (Open cycle mask) l) started
+    ∙ ap (λ w. events_rows trace [] history ++ rows_at w (Open cycle mask) frames) (sym width)
 
 -- a change or a look adds its own
 pub called-rows : (trace : List TimedFrame) (history : List Event) (event : Event) → is_open event ≡ false

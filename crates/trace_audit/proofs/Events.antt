@@ -2,6 +2,7 @@
 use Rattle.std.proofs.Common.{◌≡◌, ◌+◌, ◌<◌, ◌≤◌, ◌++◌, ℕ, Bool, true, false, List, [], ◌∷◌, All, Option, None, Some, drop, map, refl, sym, ap, ◌∙◌, subst, arith}
 use Rattle.std.specs.Prelude.{count_by, slice_get, sum_by}
 use Rattle.std.proofs.lemmas.List.Elements.{All-cons, All-nil}
+use Rattle.std.proofs.lemmas.Option.{same_Some}
 use Rattle.can_frame.specs.declared.data_frame.TimedFrame.{TimedFrame}
 use Rattle.change_protocol.specs.declared.operations.Act.{Act}
 use Rattle.change_protocol.specs.declared.operations.Act.TheVariants as act
@@ -22,6 +23,7 @@ use Rattle.bus_trace.specs.EventRows.{told_at}
 use Rattle.bus_trace.specs.LogRows.{plan_told, verdict_told}
 use Rattle.log_reader.specs.declared.row.LogRow.{LogRow}
 use Rattle.log_reader.specs.declared.row.LogRow.TheVariants as row
+use Rattle.log_reader.specs.declared.row.OpenRow.{OpenRow}
 use Rattle.log_reader.specs.declared.row.LogVerdict.{LogVerdict}
 use Rattle.trace_audit.specs.Again.{Asks}
 use Rattle.trace_audit.specs.Auditing.{is_inner}
@@ -78,11 +80,11 @@ module _ (rules : Rules) (steps : List Step) (before : List Event) where
         cc
     same-as_look caller next (Open cycle mask) right asks right2 = absurd asks
 
-    same-as_opening : (cycle mask l : ℕ) (one : Event) → IsRight rules before (Open cycle mask)
-        → Asks steps before (row.Open cycle mask l) one → IsRight rules before one → Open cycle mask ≡ one
-    same-as_opening cycle mask l (Submit number change since verdict trail) right asks right2 = absurd asks
-    same-as_opening cycle mask l (Look number next) right asks right2 = absurd asks
-    same-as_opening cycle mask l (Open later slots) right asks right2 =
+    same-as_opening : (cycle mask : ℕ) (opened : OpenRow) (one : Event) → IsRight rules before (Open cycle mask)
+        → Asks steps before (row.Open opened) one → IsRight rules before one → Open cycle mask ≡ one
+    same-as_opening cycle mask opened (Submit number change since verdict trail) right asks right2 = absurd asks
+    same-as_opening cycle mask opened (Look number next) right asks right2 = absurd asks
+    same-as_opening cycle mask opened (Open later slots) right asks right2 =
         let cycle_is : cycle ≡ later = right.0 ∙ sym right2.0 in
         let mask_is : mask ≡ slots = right.1 ∙ ap (mask_at (plan_of rules (placed_of before))) cycle_is ∙ sym right2.1 in
         cc
@@ -98,6 +100,11 @@ module _ (rules : Rules) (steps : List Step) (before : List Event) where
     same-event line one (Open cycle mask) asks right read right2 =
         same-as_opening cycle mask read.0 one right2 (subst (λ l. Asks steps before l one) read.1 asks) right
 
+  -- the first row of an opened cycle
+  opened-first : (cycle mask width : ℕ) (frames : List TimedFrame) (line : LogRow)
+      → slice_get (told_at width (Open cycle mask) frames) 0 ≡ Some line → IsReadFrom rules steps before line (Open cycle mask)
+  opened-first cycle mask width frames line first = (_, sym (same_Some _ line first), refl, refl)
+
   -- a right event that the row asks for, and whose first row is the row, is read from it
   pub asked-read : (line : LogRow) (event : Event) (width : ℕ) (frames : List TimedFrame) → Asks steps before line event
       → IsRight rules before event → slice_get (told_at width event frames) 0 ≡ Some line → IsReadFrom rules steps before line event
@@ -107,9 +114,7 @@ module _ (rules : Rules) (steps : List Step) (before : List Event) where
   asked-read line (Look caller next) width frames asks right first =
       let is : line ≡ row.Look caller next = cc in
       (is, (subst (λ l. Asks steps before l (Look caller next)) is asks).1)
-  asked-read line (Open cycle mask) width frames asks right first =
-      let is : line ≡ row.Open cycle mask width = cc in
-      (width, is)
+  asked-read line (Open cycle mask) width frames asks right first = opened-first cycle mask width frames line first
 
 -- The rows of an event
 
@@ -139,7 +144,7 @@ told-head width (Submit caller change from verdict trail) frames =
 told-head width (Look caller next) frames =
     record { head = row.Look caller next; rest = []; are = refl; inner = All-nil (λ line. is_inner line ≡ true) }
 told-head width (Open cycle mask) frames =
-    record { head = row.Open cycle mask width; rest = map row.Frame frames; are = refl; inner = inner-frames frames }
+    record { head = _; rest = map row.Frame frames; are = refl; inner = inner-frames frames }
 
 -- what follows the first row of an event
 pub told-later : (width : ℕ) (event : Event) (frames : List TimedFrame) (line : LogRow) (later : List LogRow)
@@ -157,7 +162,7 @@ asks-next steps before (row.Submit caller from told) number change since verdict
     subst (λ n. IsNextAct steps before n (act.Ask change)) (sym asks.0) asks.2
 asks-next steps before (row.Plan cycle mask) number change since verdict trail asks = absurd asks
 asks-next steps before (row.Look caller next) number change since verdict trail asks = absurd asks
-asks-next steps before (row.Open cycle mask l) number change since verdict trail asks = absurd asks
+asks-next steps before (row.Open opened) number change since verdict trail asks = absurd asks
 asks-next steps before (row.Frame timed) number change since verdict trail asks = absurd asks
 asks-next steps before (row.End next) number change since verdict trail asks = absurd asks
 
@@ -167,7 +172,7 @@ asks-look steps before (row.Submit caller from told) number cycle asks = absurd 
 asks-look steps before (row.Plan planned mask) number cycle asks = absurd asks
 asks-look steps before (row.Look caller next) number cycle asks =
     subst (λ n. IsNextAct steps before n act.Look) (sym asks.0) asks.1
-asks-look steps before (row.Open opened mask l) number cycle asks = absurd asks
+asks-look steps before (row.Open opened) number cycle asks = absurd asks
 asks-look steps before (row.Frame timed) number cycle asks = absurd asks
 asks-look steps before (row.End next) number cycle asks = absurd asks
 
@@ -176,7 +181,7 @@ asks-opening : (steps : List Step) (before : List Event) (line : LogRow) (cycle 
 asks-opening steps before (row.Submit caller from told) cycle mask asks = absurd asks
 asks-opening steps before (row.Plan planned slots) cycle mask asks = absurd asks
 asks-opening steps before (row.Look caller next) cycle mask asks = absurd asks
-asks-opening steps before (row.Open opened slots l) cycle mask asks = asks
+asks-opening steps before (row.Open opened) cycle mask asks = asks
 asks-opening steps before (row.Frame timed) cycle mask asks = absurd asks
 asks-opening steps before (row.End next) cycle mask asks = absurd asks
 
@@ -191,15 +196,14 @@ own-asks steps before asked (Look caller next) width frames line asks first =
     let is : line ≡ row.Look caller next = cc in
     subst (λ l. Asks steps before l (Look caller next)) (sym is) (refl, asks-look steps before asked caller next asks)
 own-asks steps before asked (Open cycle mask) width frames line asks first =
-    let is : line ≡ row.Open cycle mask width = cc in
-    subst (λ l. Asks steps before l (Open cycle mask)) (sym is) (asks-opening steps before asked cycle mask asks)
+    subst (λ l. Asks steps before l (Open cycle mask)) (same_Some _ line first) (asks-opening steps before asked cycle mask asks)
 
 -- such a row is not that of an event, nor the last one of a log
 pub inner-no_event : (line : LogRow) → is_inner line ≡ true → is_event_row line ≡ false
 inner-no_event (row.Submit caller from verdict) is = absurd (cc)
 inner-no_event (row.Plan cycle mask) is = refl
 inner-no_event (row.Look caller next) is = absurd (cc)
-inner-no_event (row.Open cycle mask l) is = absurd (cc)
+inner-no_event (row.Open opened) is = absurd (cc)
 inner-no_event (row.Frame timed) is = refl
 inner-no_event (row.End next) is = refl
 

@@ -7,11 +7,10 @@ use Rattle.can_frame.specs.declared.data_frame.TimedFrame.{TimedFrame}
 use Rattle.async_window.specs.declared.request.Request.{Request}
 use Rattle.admission_rules.specs.declared.Rules.{Rules}
 use Rattle.bus_line.specs.Trace.{started_before}
-use Rattle.requirement_table.specs.Opening.{width_of}
 use Rattle.requirement_table.specs.Instance.{bytes_of}
 use Rattle.master_core.specs.declared.event.Event.{Event}
 use Rattle.master_core.specs.declared.event.Event.TheVariants.{Submit, Look, Open}
-use Rattle.master_core.specs.History.{IsLegal, IsRight, next_of, placed_of}
+use Rattle.master_core.specs.History.{IsLegal, IsRight, next_of}
 use Rattle.master_core.specs.Openings.{openings_of}
 use Rattle.cycle_engine.specs.Offered.{IsCanTrace}
 use Rattle.kept_run.specs.Setting.{IsSetting, Setting}
@@ -61,14 +60,13 @@ begins-event trace before (Submit caller change from verdict trail) = record {
 begins-event trace before (Look caller next) =
     record { head = row.Look caller next; rest = []; are = refl; is_event = refl; one = refl }
 begins-event trace before (Open cycle mask) =
-    let width = width_of (record { cycle = cycle; mask = mask; placed = placed_of before }) in
     let frames : List TimedFrame = started_in cycle 0 trace in
     record {
-      head = row.Open cycle mask width;
+      head = _;
       rest = map row.Frame frames;
       are = refl;
       is_event = refl;
-      one = ap (λ (l : List LogRow). length (row.Open cycle mask width ∷ l)) (no-event_row (map row.Frame frames) (inner-frames frames));
+      one = ap (λ (l : List LogRow). suc (length l)) (no-event_row (map row.Frame frames) (inner-frames frames));
     }
 
 -- so there are as many of these rows as events

@@ -1,12 +1,11 @@
 -- A log and the steps have one run.
-use Rattle.std.proofs.Common.{◌≡◌, ◌≤◌, ◌++◌, ℕ, zero, suc, Bool, false, true, List, [], ◌∷◌, All, Option, None, Some, eqb, filter, length, map, refl, sym, ap, ◌∙◌, subst, arith, inl, inr, append_assoc, append-nil}
+use Rattle.std.proofs.Common.{◌≡◌, ◌≤◌, ◌++◌, ℕ, zero, suc, Bool, false, true, List, [], ◌∷◌, All, Option, None, Some, eqb, filter, get_or, length, map, refl, sym, ap, ◌∙◌, subst, arith, inl, inr, append_assoc, append-nil}
 use Rattle.std.specs.Prelude.{count_by, option_map, slice_get, sum_by}
 use Rattle.std.proofs.lemmas.Bool.{cases_lt, cond-false, cond-true, eq-eqb, ne_eqb}
 use Rattle.std.proofs.lemmas.List.{length-map, map-append}
 use Rattle.std.proofs.lemmas.List.Elements.{All-head, All-tail, filter-append}
 use Rattle.std.proofs.lemmas.List.Sums.{length-filter}
 use Rattle.std.proofs.lemmas.Option.{slice_get-map}
-use Rattle.requirement_table.specs.Opening.{width_of}
 use Rattle.can_frame.specs.declared.data_frame.TimedFrame.{TimedFrame}
 use Rattle.async_window.specs.declared.request.Request.{Request}
 use Rattle.change_protocol.specs.declared.operations.Act.{Act}
@@ -15,7 +14,7 @@ use Rattle.admission_rules.specs.declared.Rules.{Rules}
 use Rattle.master_core.specs.Calls.{Call, asked, call_of}
 use Rattle.master_core.specs.declared.event.Event.{Event}
 use Rattle.master_core.specs.declared.event.Event.TheVariants.{Submit, Look, Open}
-use Rattle.master_core.specs.History.{AllAfter, IsLegal, IsRight, next_of, placed_of}
+use Rattle.master_core.specs.History.{AllAfter, IsLegal, IsRight, next_of}
 use Rattle.master_core.proofs.Shared.{OneVerdict}
 use Rattle.live_master.specs.Callers.{is_called_by, number_of, operator_number}
 use Rattle.live_steps.specs.Live.{AnswersOperators, IsLive, acts_of}
@@ -77,35 +76,32 @@ takes-next steps before later event caller taken begins own call =
 
 -- The rows of events in a log
 
--- the row of an event
-abbrev row-of : List Event → Event → LogRow
-row-of before (Submit caller change from verdict trail) = row.Submit caller from (verdict_told verdict)
-row-of before (Look caller next) = row.Look caller next
-row-of before (Open cycle mask) = row.Open cycle mask (width_of (record { cycle = cycle; mask = mask; placed = placed_of before }))
+-- the row of an event is the first of its rows
+abbrev row-of : List TimedFrame → List Event → Event → LogRow
+row-of trace before event = get_or (event_told trace before event) 0 (row.End 0)
 
 one-row : (trace : List TimedFrame) (before : List Event) (event : Event)
-    → filter is_event_row (event_told trace before event) ≡ row-of before event ∷ []
+    → filter is_event_row (event_told trace before event) ≡ row-of trace before event ∷ []
 one-row trace before (Submit caller change from verdict trail) =
     ap (λ l. row.Submit caller from (verdict_told verdict) ∷ l) (no-event_row (plan_told from trail) (inner-plan from trail))
 one-row trace before (Look caller next) = refl
 one-row trace before (Open cycle mask) =
     let frames : List TimedFrame = started_in cycle 0 trace in
-    ap (λ l. row.Open cycle mask (width_of (record { cycle = cycle; mask = mask; placed = placed_of before })) ∷ l)
+    ap (λ l. row-of trace before (Open cycle mask) ∷ l)
     (no-event_row (map row.Frame frames) (inner-frames frames))
 
 module _ (rules : Rules) (steps : List Step) where
   -- an event of a run is read from its row
-  read-own : (before later : List Event) (event : Event) → IsRight rules before event → BeginsActs steps (before ++ event ∷ later)
-      → IsReadFrom rules steps before (row-of before event) event
-  read-own before later (Submit caller change from verdict trail) right begins = (
+  read-own : (trace : List TimedFrame) (before later : List Event) (event : Event) → IsRight rules before event → BeginsActs steps (before ++ event ∷ later)
+      → IsReadFrom rules steps before (row-of trace before event) event
+  read-own trace before later (Submit caller change from verdict trail) right begins = (
     refl,
     takes-next steps before later (Submit caller change from verdict trail) caller (act.Ask change) begins (eq-eqb caller caller refl) refl,
     right.plan,
   )
-  read-own before later (Look caller next) right begins =
+  read-own trace before later (Look caller next) right begins =
       (refl, takes-next steps before later (Look caller next) caller act.Look begins (eq-eqb caller caller refl) refl)
-  read-own before later (Open cycle mask) right begins =
-      (width_of (record { cycle = cycle; mask = mask; placed = placed_of before }), refl)
+  read-own trace before later (Open cycle mask) right begins = (_, refl, refl, refl)
 
   reads-own : (trace : List TimedFrame) (before events : List Event) → AllAfter (IsRight rules) before events
       → BeginsActs steps (before ++ events) → AreReadFrom rules steps before (filter is_event_row (events_told trace before events)) events
@@ -113,11 +109,11 @@ module _ (rules : Rules) (steps : List Step) where
   reads-own trace before (event ∷ events) right begins =
       let told : List LogRow = event_told trace before event in
       let others : List LogRow = events_told trace (before ++ event ∷ []) events in
-      let rows : filter is_event_row (told ++ others) ≡ row-of before event ∷ filter is_event_row others =
+      let rows : filter is_event_row (told ++ others) ≡ row-of trace before event ∷ filter is_event_row others =
       filter-append is_event_row told others ∙ ap (λ l. l ++ filter is_event_row others) (one-row trace before event) in
       let rest = reads-own trace (before ++ event ∷ []) events right.1
       (subst (BeginsActs steps) (sym (append_assoc before (event ∷ []) events)) begins) in
-      subst (λ l. AreReadFrom rules steps before l (event ∷ events)) (sym rows) (read-own before events event right.0 begins, rest)
+      subst (λ l. AreReadFrom rules steps before l (event ∷ events)) (sym rows) (read-own trace before events event right.0 begins, rest)
 
   -- the history of a run is that of the rows of its log
   pub reads-log : (history : List Event) (trace : List TimedFrame) → IsLegal rules history → BeginsActs steps history

@@ -18,7 +18,7 @@ use Rattle.kept_run.specs.Setting.{IsSetting, Setting}
 use Rattle.kept_run.proofs.Shared.{next_of-push}
 use Rattle.bus_trace.specs.EventRows.{told_at}
 use Rattle.bus_trace.specs.Log.{started_in}
-use Rattle.bus_trace.specs.LogRows.{event_told, events_told, log_rows}
+use Rattle.bus_trace.specs.LogRows.{event_told, events_told, log_rows, opened_told}
 use Rattle.log_reader.specs.declared.row.LogRow.TheVariants as row
 
 -- The rows of more events
@@ -120,7 +120,7 @@ module _ (laws : TraceLaws) (setting : Setting) (known : IsSetting setting)
   event-same before (Open cycle mask) right few =
       let more = next_of-push before (Open cycle mask) in
       let now = right.0 in
-      ap (λ l. row.Open cycle mask (width_of (record { cycle = cycle; mask = mask; placed = placed_of before })) ∷ map row.Frame l)
+      ap (λ l. opened_told cycle mask (width_of (record { cycle = cycle; mask = mask; placed = placed_of before })) l)
       (same-started cycle (omega (arith, more, now, few)))
 
   events-same : (before events : List Event) → AllAfter (IsRight setting.rules) before events
@@ -195,7 +195,7 @@ module _ (laws : TraceLaws) (setting : Setting) (known : IsSetting setting) (his
       events_told-push (trace ++ frames) history (Open cycle mask)
       ∙ ap (λ l. l ++ event_told (trace ++ frames) history (Open cycle mask)) (rows-under-way (Open cycle mask ∷ []) (trace ++ frames) new)
       ∙ ap (λ l. events_told trace [] history
-      ++ row.Open cycle mask (width_of (record { cycle = cycle; mask = mask; placed = placed_of history })) ∷ map row.Frame l) started
+      ++ opened_told cycle mask (width_of (record { cycle = cycle; mask = mask; placed = placed_of history })) l) started
 
 -- a change or a look adds its own
 pub called-told : (trace : List TimedFrame) (history : List Event) (event : Event) (width : ℕ) (frames : List TimedFrame) → is_open event ≡ false

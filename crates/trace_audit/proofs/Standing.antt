@@ -53,7 +53,7 @@ asks-is_event : (steps : List Step) (before : List Event) (line : LogRow) (event
 asks-is_event steps before (row.Submit caller from told) event asks = refl
 asks-is_event steps before (row.Plan cycle mask) event asks = absurd asks
 asks-is_event steps before (row.Look caller next) event asks = refl
-asks-is_event steps before (row.Open cycle mask l) event asks = refl
+asks-is_event steps before (row.Open opened) event asks = refl
 asks-is_event steps before (row.Frame timed) event asks = absurd asks
 asks-is_event steps before (row.End next) event asks = absurd asks
 
@@ -63,7 +63,7 @@ still-few : (steps : List Step) (before : List Event) (line : LogRow) (event : E
 still-few steps before line (Submit caller change from verdict trail) asks few =
     let more = next_of-push before (Submit caller change from verdict trail) in omega (arith, more, few)
 still-few steps before line (Look caller next) asks few = let more = next_of-push before (Look caller next) in omega (arith, more, few)
-still-few steps before (row.Open number slots l) (Open cycle mask) asks few =
+still-few steps before (row.Open opened) (Open cycle mask) asks few =
     let more = next_of-push before (Open cycle mask) in omega (arith, more, asks)
 still-few steps before (row.Submit caller from told) (Open cycle mask) asks few = absurd asks
 still-few steps before (row.Plan number slots) (Open cycle mask) asks few = absurd asks

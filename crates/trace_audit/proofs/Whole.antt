@@ -120,7 +120,7 @@ pub not-end_row : (line : LogRow) → ((next : ℕ) → line ≡ row.End next �
 not-end_row (row.Submit caller from verdict) other = refl
 not-end_row (row.Plan cycle mask) other = refl
 not-end_row (row.Look caller next) other = refl
-not-end_row (row.Open cycle mask l) other = refl
+not-end_row (row.Open opened) other = refl
 not-end_row (row.Frame timed) other = refl
 not-end_row (row.End next) other = absurd (other next refl)
 
@@ -129,7 +129,7 @@ pub inner-not_end : (line : LogRow) → is_inner line ≡ true → is_end line �
 inner-not_end (row.Submit caller from verdict) inner = refl
 inner-not_end (row.Plan cycle mask) inner = refl
 inner-not_end (row.Look caller next) inner = refl
-inner-not_end (row.Open cycle mask l) inner = refl
+inner-not_end (row.Open opened) inner = refl
 inner-not_end (row.Frame timed) inner = refl
 inner-not_end (row.End next) inner = absurd (cc)
 

@@ -72,7 +72,7 @@ told-not_end width (Look caller next) frames =
     All-cons (λ l. is_end l ≡ false) (row.Look caller next) [] refl (All-nil (λ l. is_end l ≡ false))
 told-not_end width (Open cycle mask) frames =
     let later = inner-frames frames in
-    All-cons (λ l. is_end l ≡ false) (row.Open cycle mask width) _ refl (not-end _ later)
+    All-cons (λ l. is_end l ≡ false) _ _ refl (not-end _ later)
 
 -- The rows of an event, all at once
 

@@ -55,7 +55,7 @@ abbrev pub Asks : List Step → List Event → LogRow → Event → Type 0
 Asks steps before (row.Submit caller from told) (Submit number change since verdict trail) =
     (number ≡ caller) × (since ≡ from) × IsNextAct steps before caller (act.Ask change)
 Asks steps before (row.Look caller next) (Look number cycle) = (number ≡ caller) × IsNextAct steps before caller act.Look
-Asks steps before (row.Open number slots l) (Open cycle mask) = next_of before < sum_by count_of steps
+Asks steps before (row.Open opened) (Open cycle mask) = next_of before < sum_by count_of steps
 Asks steps before line event = ⊥
 
 -- the run has one event more, which the row asks for and the steps no longer have before it. The rows of the event can be

@@ -26,7 +26,7 @@ abbrev pub is_inner : LogRow → Bool
 is_inner (row.Submit caller from verdict) = false
 is_inner (row.Plan cycle mask) = true
 is_inner (row.Look caller next) = false
-is_inner (row.Open cycle mask l) = false
+is_inner (row.Open opened) = false
 is_inner (row.Frame timed) = true
 is_inner (row.End next) = false
 
@@ -67,7 +67,7 @@ abbrev pub is_end : LogRow → Bool
 is_end (row.Submit caller from verdict) = false
 is_end (row.Plan cycle mask) = false
 is_end (row.Look caller next) = false
-is_end (row.Open cycle mask l) = false
+is_end (row.Open opened) = false
 is_end (row.Frame timed) = false
 is_end (row.End next) = true
 

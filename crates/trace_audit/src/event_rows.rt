@@ -8,7 +8,7 @@ ghost use Rattle.log_reader.specs.declared.row.LogRow.TheVariants as row;
 
 use crate::same_rows::same_row;
 use admission::Verdict;
-use bus_trace::until_of;
+use bus_trace::{open_told, until_of};
 use can_frame::TimedFrame;
 use log_reader::{LogRow, LogVerdict};
 use master_core::Event;
@@ -125,9 +125,7 @@ pub fn rows_of(
         }
         Event::Open { cycle, mask } => {
             let first = LogRow::Open {
-                cycle: *cycle,
-                mask: *mask,
-                l: width,
+                opened: open_told(*cycle, *mask, width),
             };
             rows_of_cycle(alloc, first, frames)
         }

@@ -19,6 +19,7 @@ ghost use Rattle.bus_trace.specs.Logged.{IsEventNear};
 ghost use Rattle.log_reader.specs.declared.row.LogRow.{LogRow};
 ghost use Rattle.log_reader.specs.declared.row.LogRow.TheVariants as row;
 ghost use Rattle.log_reader.specs.declared.row.LogVerdict.{LogVerdict};
+ghost use Rattle.log_reader.specs.declared.row.OpenRow.{OpenRow};
 ghost use Rattle.trace_audit.specs.Ahead.{AreStepsAhead};
 ghost use Rattle.trace_audit.specs.Again.{Asks, CanGoOn, EndsNear, IsAgain, IsRerunBroughtOn, IsRerunOpened};
 ghost use Rattle.cycle_engine.specs.Nodes.{CanLearn, states_of};
@@ -314,12 +315,12 @@ impl Rerun {
         requires going { CanGoOn self.old }
         requires ahead { AreStepsAhead steps.now self.old.master.history self.old.ahead }
         requires few { next_of self.old.master.history ≤ sum_by count_of steps.now }
-        ensures on { (system : System) (requests : List Request) (trace : List TimedFrame) (cycle mask l : ℕ)
+        ensures on { (system : System) (requests : List Request) (trace : List TimedFrame) (opened : OpenRow)
             → IsAgain system requests trace self.old → IfOk result (λ followed. followed ≡ true
-            → IsRerunBroughtOn system steps.now requests trace self.old (row.Open cycle mask l) self.new) }
-        ensures none { IfOk result (λ followed. followed ≡ false → ((cycle mask l : ℕ) (event : Event)
+            → IsRerunBroughtOn system steps.now requests trace self.old (row.Open opened) self.new) }
+        ensures none { IfOk result (λ followed. followed ≡ false → ((opened : OpenRow) (event : Event)
             → IsRight self.old.master.rules self.old.master.history event
-            → Asks steps.now self.old.master.history (row.Open cycle mask l) event → ⊥)) }
+            → Asks steps.now self.old.master.history (row.Open opened) event → ⊥)) }
     {
         if self.master.next() >= self.ahead.cycles {
             return Ok(false);

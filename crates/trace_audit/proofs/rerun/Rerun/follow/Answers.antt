@@ -20,4 +20,4 @@ pub returns-in-Open-clause-on : goal.returns-in-Open-clause-on
 returns-in-Open-clause-on c = λ system requests trace again.
     subst (λ (l : LogRow). IfOk c.follow_opening.result (λ followed. followed ≡ true
     → IsRerunBroughtOn system c.args.steps.now requests trace c.args.self.now l c.follow_opening.new.self))
-    (sym c.in-Open.is) (c.follow_opening.ensures.on system requests trace _ _ _ again)
+    (sym c.in-Open.is) (c.follow_opening.ensures.on system requests trace _ again)

@@ -8,12 +8,12 @@ use Rattle.trace_audit.proofs.Bringing.{opened-on}
 use Rattle.trace_audit.proofs.rerun.Rerun.follow_opening.Goals as goal
 
 pub returns-clause-on : goal.returns-clause-on
-returns-clause-on c = λ system requests trace cycle mask l again yes.
-    let opened = c.in_ok-open.ensures.opened system requests trace again in
+returns-clause-on c = λ system requests trace opened again yes.
+    let run = c.in_ok-open.ensures.opened system requests trace again in
     let history = c.args.self.now.master.history in
     let next = c.next.ensures.next in
     let sum = c.requires.ahead.cycles in
     let test = c.if-next-self.false in
     let few : next_of history < sum_by count_of c.args.steps.now = grind (arith, nat_tests) in
-    opened-on system c.args.steps.now requests trace c.args.self.now c.open.new.self (row.Open cycle mask l) opened few
+    opened-on system c.args.steps.now requests trace c.args.self.now c.open.new.self (row.Open opened) run few
     c.requires.ahead c.open.ensures.ahead
