@@ -18,7 +18,7 @@ use Rattle.planner_policies.proofs.DueSlots.{IsSplit, has_slot}
 use Rattle.planner_policies.proofs.EachLoop.{HasSlots}
 use Rattle.planner_policies.proofs.KeyOrder.{due_by-trans}
 use Rattle.planner_policies.proofs.Pairs.{pairs-head, pairs-tail}
-use Rattle.planner_policies.proofs.Rows.{IsLineOf, IsMore, line_of-more, line_of-none, line_of-start, whole_line-of}
+use Rattle.planner_policies.proofs.Rows.{IsLineOf, IsMore, line_of-more, line_of-none, whole_line-of}
 use Rattle.planner_policies.proofs.TakenEach.{cost_of}
 
 -- a filling takes all of what fits together, and leaves nothing
@@ -140,16 +140,6 @@ pub record IsGathered (plan : Planning) (c : ℕ) (before : ℕ → Bool) (rows 
   pub slots : HasSlots mask line
   pub cost : width ≡ cost_of line
   pub fits : width ≤ plan.window
-
-pub gathered-start : (plan : Planning) (c : ℕ) (before : ℕ → Bool) (mask : ℕ) → ((slot : ℕ) → has_bit mask slot ≡ false)
-    → IsGathered plan c before [] mask 0
-gathered-start plan c before mask empty = record {
-  line = [];
-  found = line_of-start plan c before;
-  slots = empty;
-  cost = refl;
-  fits = omega arith;
-}
 
 pub gathered-more : (plan : Planning) (c : ℕ) (before : ℕ → Bool) (rows : List Placed) (k : ℕ) (d : Placed) (mask width with' : ℕ) (due : Due)
     → k < length rows → (so_far : IsGathered plan c before (take k rows) mask width) → IsMore plan c before rows k d so_far.line due

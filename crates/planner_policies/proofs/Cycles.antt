@@ -103,6 +103,3 @@ pub line-planned : (plan : Planning) (c : ℕ) (before : ℕ → Bool) (line : L
 line-planned plan c before line mask width next whole is =
     split-planned plan c before (taken_of plan.fill plan.window line) (left_of plan.fill plan.window line) (split-of plan c before line plan.fill refl whole)
     mask width next is.planned is.cost is.fits is.left is.none_missed
-
-pub miss-cycle : (c : ℕ) (xs : List Due) (miss : Miss) → IsLeastMissed c xs (Some miss) → miss.cycle ≡ c
-miss-cycle c xs miss least = ap (λ m. m.cycle) least.0.4.1 ∙ least.0.4.0

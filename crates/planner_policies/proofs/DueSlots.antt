@@ -4,7 +4,7 @@ use Rattle.std.specs.List.{list_any, sum_by}
 use Rattle.std.specs.Option.{option_map_or}
 use Rattle.std.proofs.lemmas.Bool.{eq-eqb, eqb-true}
 use Rattle.std.proofs.lemmas.List.{get_or-map, length-map}
-use Rattle.std.proofs.lemmas.List.Elements.{All-head, All-tail, All-weaker, Contains-get_or}
+use Rattle.std.proofs.lemmas.List.Elements.{All-head, All-tail, Contains-get_or}
 use Rattle.std.proofs.lemmas.List.Folds.{Any-from_list_any, list_any-from_Any}
 use Rattle.std.proofs.lemmas.List.Sums.{sum_by-cons}
 use Rattle.requirement_table.specs.Instance.{deadline_of, worst_of}
@@ -89,9 +89,6 @@ sum-costs plan c before (x ∷ xs) each =
 pub has-order : (slot : ℕ) (xs : List Due) → list_any (has_slot slot) xs ≡ has (order_of xs) slot
 has-order slot [] = refl
 has-order slot (x ∷ xs) = ap (λ b. nat_eq x.slot slot || b) (has-order slot xs)
-
-pub each-known : (plan : Planning) (c : ℕ) (before : ℕ → Bool) (xs : List Due) → All (IsDueIn plan c before) xs → All (λ due. due.slot < most_slots) xs
-each-known plan c before xs each = All-weaker (IsDueIn plan c before) (λ due. due.slot < most_slots) (λ due is. is.known) xs each
 
 -- what is planned of the instances that are pending in a cycle, and what is left of them
 pub record IsSplit (plan : Planning) (c : ℕ) (before : ℕ → Bool) (taken left : List Due) : Type 0 where

@@ -33,10 +33,6 @@ ranked-all policy rows next i j d before within =
         ap (λ k. is_ranked_by policy (get_or rows i d) (get_or rows k d)) at
         ∙ ranked-trans policy (get_or rows i d) (get_or rows (i + 1 + m) d) (get_or rows (i + 1 + m + 1) d) (along m (omega arith)) (next (i + 1 + m) d (omega arith))
 
--- of two neighbours the second one is not less
-last-number : (s s' : ℕ) → is_lt (nat_cmp s' s) ≡ false → nat_le s s' ≡ true
-last-number s s' not = grind (arith, nat_tests)
-
 pub two-numbers : (b b' s s' : ℕ) → is_lt (ordering_then (nat_cmp b' b) (nat_cmp s' s)) ≡ false → by_number b b' (nat_le s s') ≡ true
 two-numbers b b' s s' not = grind (arith, nat_tests)
 
