@@ -21,7 +21,7 @@ use Rattle.admission.proofs.Listed.{later_plan, masks-length, on-masks}
 use Rattle.admission.proofs.Once.{repeat-never}
 use Rattle.admission.proofs.Onward.{rounds-alike}
 use Rattle.admission.proofs.Reduced.{settled-by}
-use Rattle.admission.proofs.Row.{PlanLaws, row, row-length, row-taken}
+use Rattle.admission.proofs.Row.{row, row-length, row-taken}
 
 -- what is known of a certificate that was made
 pub record IsMade (rules : Rules) (placed : List Placed) (opened : List ℕ) (state : PlanState) (made : CertificateView) : Type 0 where
@@ -61,7 +61,7 @@ module _ (rules : Rules) (placed : List Placed) (cycle pending : ℕ) (left : pe
       subst (λ n. is_missed_at whole n slot ≡ false) at (whole-missed (m - cycle) slot known ∙ never (m - cycle) slot known))
       (cases_lt m cycle)
 
-  module _ (laws : PlanLaws) (opened planned : List ℕ) (b d : ℕ) (well : IsWellPlaced placed) (none : HasNoMiss whole cycle) (opened_is : opened ≡ masks_of whole cycle)
+  module _ (opened planned : List ℕ) (b d : ℕ) (well : IsWellPlaced placed) (none : HasNoMiss whole cycle) (opened_is : opened ≡ masks_of whole cycle)
       (number : ℕ) (at : b ≡ cycle + number) (planned_is : planned ≡ masks_of onward (number + d))
       (found : IsVerdictOnPlan rules.horizon onward (Accepted b d)) where
     recurrence : IsRecurrence onward b d
@@ -71,7 +71,7 @@ module _ (rules : Rules) (placed : List Placed) (cycle pending : ℕ) (left : pe
     some = recurrence.some_cycles
 
     never : NeverMisses whole
-    never = whole-never none (repeat-never laws.never_missed onward b d rules.horizon well recurrence found.2 found.0)
+    never = whole-never none (repeat-never onward b d rules.horizon well recurrence found.2 found.0)
 
     pub listed-whole : opened ++ planned ≡ masks_of whole (b + d)
     listed-whole =
@@ -111,24 +111,24 @@ module _ (rules : Rules) (placed : List Placed) (cycle pending : ℕ) (left : pe
     none-valid slot has = let none = has_bit-none slot in absurd (cc)
 
     row-is : (certificate : CertificateView) → certificate.from ≡ 0 → certificate.pending ≡ 0 → certificate.first ≡ b → certificate.masks ≡ opened ++ planned
-        → row laws rules placed 0 0 b d well none-valid some ≡ certificate
+        → row rules placed 0 0 b d well none-valid some ≡ certificate
     row-is certificate from pends first masks =
-        ap (λ (n : ℕ). record (row laws rules placed 0 0 b d well none-valid some) { from = n }) (sym from)
-        ∙ ap (λ (n : ℕ). record (row laws rules placed 0 0 b d well none-valid some) { from = certificate.from; pending = n }) (sym pends)
-        ∙ ap (λ (n : ℕ). record (row laws rules placed 0 0 b d well none-valid some) { from = certificate.from; pending = certificate.pending; first = n }) (zero-add b ∙ sym first)
+        ap (λ (n : ℕ). record (row rules placed 0 0 b d well none-valid some) { from = n }) (sym from)
+        ∙ ap (λ (n : ℕ). record (row rules placed 0 0 b d well none-valid some) { from = certificate.from; pending = n }) (sym pends)
+        ∙ ap (λ (n : ℕ). record (row rules placed 0 0 b d well none-valid some) { from = certificate.from; pending = certificate.pending; first = n }) (zero-add b ∙ sym first)
         ∙ ap (λ (list : List ℕ). record certificate { masks = list }) (sym (masks ∙ listed-whole))
 
     -- the certificate that is made of them
     module _ (certificate : CertificateView) (from : certificate.from ≡ 0) (pends : certificate.pending ≡ 0) (first : certificate.first ≡ b)
         (masks : certificate.masks ≡ opened ++ planned) where
-      same : row laws rules placed 0 0 b d well none-valid some ≡ certificate
+      same : row rules placed 0 0 b d well none-valid some ≡ certificate
       same = row-is certificate from pends first masks
 
       taken-is : IsTaken placed rules.window certificate
-      taken-is = subst (λ (c : CertificateView). IsTaken placed rules.window c) same (row-taken laws rules placed 0 0 b d well none-valid some (subst (λ n. All (RepeatsFrom n d) placed) (sym (zero-add b)) repeats) again never)
+      taken-is = subst (λ (c : CertificateView). IsTaken placed rules.window c) same (row-taken rules placed 0 0 b d well none-valid some (subst (λ n. All (RepeatsFrom n d) placed) (sym (zero-add b)) repeats) again never)
 
       length-is : length_of certificate ≡ d
-      length-is = ap length_of (sym same) ∙ row-length laws rules placed 0 0 b d well none-valid some
+      length-is = ap length_of (sym same) ∙ row-length rules placed 0 0 b d well none-valid some
 
       end-is : end_of certificate ≡ b + d
       end-is = let all = length-is in omega arith
@@ -158,7 +158,7 @@ module _ (rules : Rules) (placed : List Placed) (cycle pending : ℕ) (left : pe
         omega arith
 
 -- the certificate of a plan from a state on
-module _ (laws : PlanLaws) (rules : Rules) (placed : List Placed) (cycle pending first : ℕ) (masks : List ℕ) (well : IsWellPlaced placed)
+module _ (rules : Rules) (placed : List Placed) (cycle pending first : ℕ) (masks : List ℕ) (well : IsWellPlaced placed)
     (valid : IsValid placed cycle pending) (made : IsRepeated rules placed (record { cycle = cycle; pending = pending }) first masks) where
   abbrev going : Planning
   going = plan_from rules placed cycle pending
@@ -190,10 +190,10 @@ module _ (laws : PlanLaws) (rules : Rules) (placed : List Placed) (cycle pending
       (rounds-alike going again-at.period again-at.number (again-at.number + made.length) again-at.least_common.common (omega arith) again-at.alike)
 
   never-there : NeverMisses going
-  never-there = repeat-never laws.never_missed going first made.length rules.horizon well again-at made.repeats.2 made.repeats.0
+  never-there = repeat-never going first made.length rules.horizon well again-at made.repeats.2 made.repeats.0
 
   abbrev row-there : CertificateView
-  row-there = row laws rules placed cycle pending again-at.number made.length well valid again-at.some_cycles
+  row-there = row rules placed cycle pending again-at.number made.length well valid again-at.some_cycles
 
   module _ (certificate : CertificateView) (from_is : certificate.from ≡ cycle) (pending_is : certificate.pending ≡ pending) (first_is : certificate.first ≡ first)
       (masks_are : certificate.masks ≡ masks) where
@@ -207,12 +207,12 @@ module _ (laws : PlanLaws) (rules : Rules) (placed : List Placed) (cycle pending
     pub taken-from : IsTaken placed rules.window certificate
     taken-from =
         subst (λ (c : CertificateView). IsTaken placed rules.window c) row-made
-        (row-taken laws rules placed cycle pending again-at.number made.length well valid again-at.some_cycles rounds-there again-at.alike.pending never-there)
+        (row-taken rules placed cycle pending again-at.number made.length well valid again-at.some_cycles rounds-there again-at.alike.pending never-there)
 
     pub certificate-from : IsCertificateFrom rules placed (record { cycle = cycle; pending = pending }) certificate
     certificate-from =
         let length_is : length_of certificate ≡ made.length = ap length_of (sym row-made)
-        ∙ row-length laws rules placed cycle pending again-at.number made.length well valid again-at.some_cycles in
+        ∙ row-length rules placed cycle pending again-at.number made.length well valid again-at.some_cycles in
         let at = again-at.at in
         let behind : again-at.number + made.length ≡ end_of certificate - cycle = omega arith in
         record {

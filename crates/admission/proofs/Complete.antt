@@ -11,7 +11,8 @@ use Rattle.requirement_table.specs.Instance.{Instance, IsReleasedIn, MaySend, re
 use Rattle.requirement_table.specs.Table.{IsHeldFrom, IsInRange, IsWellPlaced, instance_in}
 use Rattle.requirement_table.proofs.Shared.{instance_in-sound}
 use Rattle.planner_policies.specs.Loop.{settled_at}
-use Rattle.planner_policies.specs.Plan.{HasNoMiss, IsValid, NeverMisses, Planning, pending_at, pending_before}
+use Rattle.planner_policies.specs.Plan.{IsValid, NeverMisses, Planning, pending_at, pending_before}
+use Rattle.planner_policies.proofs.Shared.{valid-along}
 use Rattle.admission.specs.Recurrence.{AllRelease, AreAlike, HasNoRecurrence, IsCommonPeriod, IsLeastCommonPeriod, bound_of}
 use Rattle.admission.proofs.Cycles.{agree-set}
 use Rattle.admission.proofs.Divided.{parts-of}
@@ -93,26 +94,21 @@ all-again placed c more common all i d within live =
       live-exists None release is = tt
       live-exists (Some e) release is = absurd (cc)
 
--- that a planning stays in valid states, as it is known of every planning
-abbrev pub StaysValid : Type 0
-StaysValid = (plan : Planning) (n : ℕ) → IsWellPlaced plan.placed → IsValid plan.placed plan.from plan.pending
-    → HasNoMiss plan n → IsValid plan.placed (plan.from + n) (pending_at plan n)
-
 -- a planning without a miss that has such a cycle has a recurrence
-pub recurs : StaysValid → (plan : Planning) (horizon : ℕ) → IsWellPlaced plan.placed → IsValid plan.placed plan.from plan.pending → NeverMisses plan
+pub recurs : (plan : Planning) (horizon : ℕ) → IsWellPlaced plan.placed → IsValid plan.placed plan.from plan.pending → NeverMisses plan
     → (c period : ℕ) → bound_of plan.from plan.placed ≤ c → AllRelease plan.placed c → IsLeastCommonPeriod plan.placed period
     → c + period ≤ plan.from + horizon → HasNoRecurrence plan horizon → ⊥
-recurs stays plan horizon well valid never c period settled all least within none =
+recurs plan horizon well valid never c period settled all least within none =
     let above = bound-above plan.from plan.placed in
     let one : ℕ = c - plan.from in
     let other : ℕ = one + period in
     let at_one : plan.from + one ≡ c = omega arith in
     let at_other : plan.from + other ≡ c + period = omega arith in
     let first : pending_at plan one ≡ 0 =
-    nothing-pending plan one well (stays plan one well valid (λ m slot below. never m slot)) (omega arith)
+    nothing-pending plan one well (valid-along plan one well valid (λ m slot below. never m slot)) (omega arith)
     (subst (AllRelease plan.placed) (sym at_one) all) in
     let second : pending_at plan other ≡ 0 =
-    nothing-pending plan other well (stays plan other well valid (λ m slot below. never m slot)) (omega arith)
+    nothing-pending plan other well (valid-along plan other well valid (λ m slot below. never m slot)) (omega arith)
     (subst (AllRelease plan.placed) (sym at_other) (all-again plan.placed c period least.common all)) in
     let some = least.common.positive in
     let alike : AreAlike plan period one other = record {

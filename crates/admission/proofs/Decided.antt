@@ -21,10 +21,10 @@ use Rattle.admission.specs.Recurrence.{HasNoRecurrence, bound_of}
 use Rattle.admission.specs.Verdict.{IsDecisionOnPlan, IsMissDecision, IsPlannedUpTo, IsSafe, IsTakenWhereDue, IsVerdictOnPlan, masks_of, placed_with, plan_from, ranking_by, trail_of}
 use Rattle.admission.specs.WalkLaws.{GoesOnAlike}
 use Rattle.admission.specs.Walked.{IsWalked}
-use Rattle.admission.proofs.Complete.{StaysValid, recurs}
+use Rattle.admission.proofs.Complete.{recurs}
 use Rattle.admission.proofs.Cycles.{IsLike, like-refl, same-masks}
 use Rattle.admission.proofs.Reduced.{decision-reduced, held-reduced, like-reduced, miss-reduced, repeating-reduced}
-use Rattle.admission.proofs.Repeats.{LoopsOnce, is-recurrence, never-after, no-recurrence, none-within}
+use Rattle.admission.proofs.Repeats.{is-recurrence, never-after, no-recurrence, none-within}
 use Rattle.admission.proofs.Same.{goes-on, held-tests}
 use Rattle.admission.proofs.States.{broken-missed, broken-none, came-to}
 
@@ -78,29 +78,29 @@ module _ (rules : Rules) (list : List Placed) (from pending : ℕ) (walked : Ran
   like n = like-reduced rules.policy list from n is.well
 
   -- a repeat
-  pub accepted-never : LoopsOnce → (one other : ℕ) → IsLeastRepeat walk one other → NeverMisses whole
-  accepted-never loops one other least =
+  pub accepted-never : (one other : ℕ) → IsLeastRepeat walk one other → NeverMisses whole
+  accepted-never one other least =
       let here = to-reduced (λ course. IsLeastRepeat course one other) least in
       never-after (ranking_of rules list from) list rules.window from pending bound rules.horizon period is.known like is.bound_is is.period_is
-      loops is.well one other here.repeats
+      is.well one other here.repeats
 
   -- what the repeat says of the planning
-  pub repeats-on : LoopsOnce → (number length : ℕ) → IsLeastRepeat walk number (number + length) → number + length ≤ rules.horizon
+  pub repeats-on : (number length : ℕ) → IsLeastRepeat walk number (number + length) → number + length ≤ rules.horizon
       → IsVerdictOnPlan rules.horizon whole (Accepted (from + number) length)
-  repeats-on loops number length least within =
+  repeats-on number length least within =
       let here = to-reduced (λ course. IsLeastRepeat course number (number + length)) least in
-      let never = accepted-never loops number (number + length) least in (
+      let never = accepted-never number (number + length) least in (
         (λ m slot below. never m slot),
         is-recurrence (ranking_of rules list from) list rules.window from pending bound rules.horizon period is.known like is.bound_is is.period_is
             never number length here,
         omega arith,
       )
 
-  pub accepted : LoopsOnce → (number length : ℕ) (decision : Decision) → IsLeastRepeat walk number (number + length) → number + length ≤ rules.horizon
+  pub accepted : (number length : ℕ) (decision : Decision) → IsLeastRepeat walk number (number + length) → number + length ≤ rules.horizon
       → decision.verdict ≡ Accepted (from + number) length → decision.placed ≡ Some list → decision.trail ≡ []
       → IsDecisionOnPlan rules.horizon whole decision
-  accepted loops number length decision least within verdict placed trail =
-      on-plan rules.horizon whole (Accepted (from + number) length) decision verdict (repeats-on loops number length least within) placed trail
+  accepted number length decision least within verdict placed trail =
+      on-plan rules.horizon whole (Accepted (from + number) length) decision verdict (repeats-on number length least within) placed trail
 
   -- nothing is missed up to it, and what is planned of the entries that are walked is the plan of all
   pub repeated-none : (one other : ℕ) → IsLeastRepeat walk one other → HasNoMiss walked_plan other
@@ -115,10 +115,10 @@ module _ (rules : Rules) (list : List Placed) (from pending : ℕ) (walked : Ran
       (to-reduced_plan (λ plan. IsPlannedUpTo plan number masks behind) planned).list
       ∙ same-masks (ranking_of rules list from) list rules.window from pending number (λ m below. like m)
 
-  pub safe : LoopsOnce → (one other : ℕ) (placed : List Placed) → placed ≡ list → IsLeastRepeat walk one other → IsSafe rules placed from pending
-  safe loops one other placed same least =
+  pub safe : (one other : ℕ) (placed : List Placed) → placed ≡ list → IsLeastRepeat walk one other → IsSafe rules placed from pending
+  safe one other placed same least =
       subst (λ l. IsSafe rules l from pending) (sym same)
-      (record { well_placed = is.well; held = is.valid; in_time = accepted-never loops one other least })
+      (record { well_placed = is.well; held = is.valid; in_time = accepted-never one other least })
 
   -- what is ranked of the list is what was walked
   pub ranked-from : (table : RankedTable) → table.placed ≡ list
@@ -153,10 +153,10 @@ module _ (rules : Rules) (list : List Placed) (from pending : ℕ) (walked : Ran
   refused number decision all stays verdict placed trail =
       on-plan rules.horizon whole (Horizon from number) decision verdict (stays-on number all stays) placed trail
 
-  pub refused-due : StaysValid → (number : ℕ) (verdict : Verdict) → number ≡ rules.horizon → StaysNew walk number → IsTakenWhereDue rules whole verdict
-  refused-due valid number verdict all stays never c period' settled releases least within =
+  pub refused-due : (number : ℕ) (verdict : Verdict) → number ≡ rules.horizon → StaysNew walk number → IsTakenWhereDue rules whole verdict
+  refused-due number verdict all stays never c period' settled releases least within =
       let here : StaysNew walk rules.horizon = subst (λ n. StaysNew walk n) all stays in
-      absurd (recurs valid whole rules.horizon is.well is.valid never c period' settled releases least within (no-recurrence-whole here))
+      absurd (recurs whole rules.horizon is.well is.valid never c period' settled releases least within (no-recurrence-whole here))
 
   -- a miss
   pub walked-none : (at : ℕ) → Breaks walk at → HasNoMiss walked_plan at

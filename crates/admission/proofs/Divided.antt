@@ -1,6 +1,6 @@
 -- Numbers that divide others.
-use Rattle.std.proofs.Common.{◌≡◌, ℕ, ◌+◌, ◌-◌, ◌*◌, ◌/◌, ◌%◌, ◌<◌, ◌≤◌, sym, ap, ◌∙◌, subst, arith, ⊎_elim}
-use Rattle.std.proofs.Math.Nat.{div-add-mod', dvd-mul_left, dvd-sub, mod-add-mod, mod-zero}
+use Rattle.std.proofs.Common.{◌≡◌, ℕ, ◌-◌, ◌*◌, ◌/◌, ◌%◌, ◌<◌, ◌≤◌, sym, ◌∙◌, subst, arith, ⊎_elim}
+use Rattle.std.proofs.Math.Nat.{div-add-mod', dvd-mul_left, dvd-sub, mod-zero}
 use Rattle.std.proofs.lemmas.Bool.{cases_eq}
 use Rattle.std.proofs.lemmas.Nat.Gcd.{dvd_of_mod-eq-zero, dvd_trans, mod-eq-zero_of_dvd}
 
@@ -33,8 +33,3 @@ divided-gap one other length order same =
 -- the multiple of a number that another one is
 pub parts-of : (n small : ℕ) → n % small ≡ 0 → n / small * small ≡ n
 parts-of n small divided = let whole = div-add-mod' n small in omega arith
-
--- the next numbers have the same rest
-pub same-next : (one other length : ℕ) → one % length ≡ other % length → (one + 1) % length ≡ (other + 1) % length
-same-next one other length same =
-    sym (mod-add-mod one length 1) ∙ ap (λ n. (n + 1) % length) same ∙ mod-add-mod other length 1

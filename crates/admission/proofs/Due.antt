@@ -14,14 +14,14 @@ use Rattle.admission.specs.declared.verdict.Verdict.{Verdict}
 use Rattle.admission.specs.declared.verdict.Verdict.TheVariants.{Malformed, Passed, Miss, Horizon, Accepted}
 use Rattle.admission.specs.Verdict.{IsInTime, IsRules, IsTakenWhereDue, IsVerdict, bounds_by, plan_from}
 use Rattle.admission.proofs.Changed.{held-changed}
-use Rattle.admission.proofs.Complete.{StaysValid, recurs}
+use Rattle.admission.proofs.Complete.{recurs}
 use Rattle.admission.proofs.Once.{no-fault}
 
 both-none : {A : Type 0} (xs ys : List A) → xs ++ ys ≡ [] → (xs ≡ []) × (ys ≡ [])
 both-none [] ys e = (refl, e)
 both-none (x ∷ xs) ys e = absurd (cc)
 
-module _ (valid : StaysValid) (rules : Rules) (ranges : IsRules rules) (placed : List Placed) (pending from next : ℕ) (change : Change) (well : IsWellPlaced placed)
+module _ (rules : Rules) (ranges : IsRules rules) (placed : List Placed) (pending from next : ℕ) (change : Change) (well : IsWellPlaced placed)
     (types : All HasTypes change.ops) (held : IsValid placed from pending) (opened : from ≤ next) (in_time : IsInTime rules placed next change) where
   applied-well : IsWellPlaced (applied placed change)
   applied-well =
@@ -46,6 +46,6 @@ module _ (valid : StaysValid) (rules : Rules) (ranges : IsRules rules) (placed :
       absurd (let both : true ≡ false = sym miss.missed ∙ not in cc)
   taken-due (Horizon first walked) is never c period settled releases least within =
       absurd
-      (recurs valid (plan_from rules (applied placed change) from pending) rules.horizon applied-well applied-held never c period settled releases least within
+      (recurs (plan_from rules (applied placed change) from pending) rules.horizon applied-well applied-held never c period settled releases least within
       is.1.1)
   taken-due (Accepted first length) is never c period settled releases least within = refl

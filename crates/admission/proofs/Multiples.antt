@@ -1,7 +1,7 @@
 -- Least multiples, and the least common period of the first entries of a list.
-use Rattle.std.proofs.Common.{◌≡◌, ◌≢◌, ℕ, ◌+◌, ◌-◌, ◌*◌, ◌/◌, ◌%◌, ◌<◌, ◌≤◌, Option, Some, None, List, [], ◌∷◌, ◌++◌, All, length, get_or, map, max, take, drop, sym, ap, ◌∙◌, subst, arith, ⊎_elim}
+use Rattle.std.proofs.Common.{◌≡◌, ◌≢◌, ℕ, ◌+◌, ◌-◌, ◌*◌, ◌/◌, ◌%◌, ◌<◌, ◌≤◌, Some, None, List, [], ◌∷◌, ◌++◌, All, length, get_or, map, max, take, drop, sym, ap, ◌∙◌, subst, arith, ⊎_elim}
 use Rattle.std.specs.List.{fold}
-use Rattle.std.proofs.Math.Nat.{div-add-mod', dvd-mul_left_of_dvd, dvd-sub, lt-div-mul-add, mod-eq-sub-div-mul, mod-one, mod_self, mul-le-mul_right, mul-mod_left}
+use Rattle.std.proofs.Math.Nat.{div-add-mod', dvd-mul_left_of_dvd, dvd-sub, lt-div-mul-add, mod-eq-sub-div-mul, mul-le-mul_right, mul-mod_left}
 use Rattle.std.proofs.lemmas.Bool.{cases_lt}
 use Rattle.std.proofs.Math.ListN.{get_or-append}
 use Rattle.std.proofs.Math.Seq.{get_or-append_seam}
@@ -72,43 +72,11 @@ no-multiple step other limit positive tried m both =
 swap : (one other m : ℕ) → IsMultipleOfBoth one other m → IsMultipleOfBoth other one m
 swap one other m both = record { positive = both.positive; of_one = both.of_other; of_other = both.of_one }
 
-pub swapped-least : (one other limit : ℕ) (found : Option ℕ) → IsLeastMultiple one other limit found → IsLeastMultiple other one limit found
-swapped-least one other limit None least = λ m both. least m (swap other one m both)
-swapped-least one other limit (Some n) least = (swap one other n least.0, least.1, λ m both. least.2 m (swap other one m both))
-
--- an entry that is over asks for nothing
-pub over-least : (common limit : ℕ) (p : Placed) (e : ℕ) → p.end ≡ Some e → 0 < common → common ≤ limit
-    → IsLeastMultipleWith common p limit (Some common)
-over-least common limit p e ended positive within = (
-  record { positive = positive; of_common = mod_self common; of_period = λ live. absurd (cc) },
-  within,
-  λ m with'. le_of_dvd with'.positive (dvd_of_mod-eq-zero common with'.of_common),
-)
-
-live-with : (common m : ℕ) (p : Placed) → IsMultipleOfBoth common p.entry.period m → IsMultipleWith common p m
-live-with common m p both = record { positive = both.positive; of_common = both.of_one; of_period = λ live. both.of_other }
-
-with-live : (common m : ℕ) (p : Placed) → p.end ≡ None → IsMultipleWith common p m → IsMultipleOfBoth common p.entry.period m
-with-live common m p live with' = record { positive = with'.positive; of_one = with'.of_common; of_other = with'.of_period live }
-
-pub live-least : (common limit : ℕ) (p : Placed) (found : Option ℕ) → p.end ≡ None → IsLeastMultiple common p.entry.period limit found
-    → IsLeastMultipleWith common p limit found
-live-least common limit p None live least = λ m with'. least m (with-live common m p live with')
-live-least common limit p (Some n) live least =
-    (live-with common n p least.0, least.1, λ m with'. least.2 m (with-live common m p live with'))
-
 -- what is known of the least common period of the first entries: each common period is a multiple of it
 pub record IsPeriodSoFar (limit : ℕ) (placed : List Placed) (common : ℕ) : Type 0 where
   pub shared : IsCommonPeriod placed common
   pub within : common ≤ limit
   pub divides : (m : ℕ) → IsCommonPeriod placed m → m % common ≡ 0
-
-pub so_far-start : (limit : ℕ) → 1 ≤ limit → IsPeriodSoFar limit [] 1
-so_far-start limit some = record {
-  shared = record { positive = omega arith; divided = λ i d within. absurd (omega arith) };
-  within = some;
-  divides = λ m shared. mod-one m;
-}
 
 rest-divided : (m n d : ℕ) → m % d ≡ 0 → n % d ≡ 0 → m % n % d ≡ 0
 rest-divided m n d first second =

@@ -15,7 +15,7 @@ use Rattle.admission.specs.declared.verdict.Verdict.{Verdict}
 use Rattle.admission.specs.declared.verdict.Verdict.TheVariants.{Malformed, Passed, Miss, Horizon, Accepted}
 use Rattle.admission.specs.Recurrence.{AreAlike, HasNoRecurrence, IsRecurrence}
 use Rattle.admission.specs.Verdict.{IsInTime, IsVerdict, IsVerdictOnPlan, bounds_by, plan_from}
-use Rattle.admission.proofs.Repeats.{LoopsOnce, alike-never, least-same}
+use Rattle.admission.proofs.Repeats.{alike-never, least-same}
 
 pub no-fault : (xs : List Broken) (b : Broken) → xs ≡ [] → slice_get xs 0 ≡ Some b → ⊥
 no-fault xs b none some =
@@ -194,10 +194,10 @@ module _ (rules : Rules) (placed : List Placed) (pending from next : ℕ) (chang
 
 -- a repeat without a miss
 
-pub repeat-never : LoopsOnce → (plan : Planning) (first length n : ℕ) → IsWellPlaced plan.placed → IsRecurrence plan first length
+pub repeat-never : (plan : Planning) (first length n : ℕ) → IsWellPlaced plan.placed → IsRecurrence plan first length
     → first + length ≤ plan.from + n → HasNoMiss plan n → NeverMisses plan
-repeat-never loops plan first length n well is within none =
+repeat-never plan first length n well is within none =
     let at = is.at in
     let some = is.some_cycles in
-    alike-never loops plan is.period is.number (is.number + length) well is.least_common.common (omega arith) is.alike
+    alike-never plan is.period is.number (is.number + length) well is.least_common.common (omega arith) is.alike
     (λ m slot below. none m slot (omega arith))

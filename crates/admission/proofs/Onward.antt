@@ -8,13 +8,12 @@ use Rattle.requirement_table.specs.Table.{IsWellPlaced}
 use Rattle.bit_sets.proofs.Shared.{set_of-same}
 use Rattle.planner_policies.specs.Loop.{RepeatsFrom, settled_at}
 use Rattle.planner_policies.specs.Plan.{Planning, pending_at, pending_before}
-use Rattle.planner_policies.proofs.Shared.{on-missed, on-pending}
+use Rattle.planner_policies.proofs.Shared.{loop-pending, on-missed, on-pending, valid-along}
 use Rattle.admission_rules.specs.declared.Rules.{Rules}
 use Rattle.admission.specs.declared.verdict.Verdict.TheVariants.{Accepted}
 use Rattle.admission.specs.Recurrence.{AreAlike, IsCommonPeriod, bound_of}
 use Rattle.admission.specs.Safe.{HasRepeat, IsSafeWithin}
 use Rattle.admission.specs.Verdict.{IsSafe, IsVerdictOnPlan, plan_from}
-use Rattle.admission.proofs.Complete.{StaysValid}
 use Rattle.admission.proofs.Divided.{divided-along, divided-gap}
 use Rattle.admission.proofs.Listed.{later_plan}
 use Rattle.admission.proofs.Reduced.{bound-above, settled-by}
@@ -60,13 +59,8 @@ later-pending : (plan : Planning) (n m : ℕ) → pending_at (later_plan plan n)
 later-pending plan n m =
     set_of-same most_slots (pending_before (later_plan plan n) m) (pending_before plan (n + m)) (λ slot known. sym (on-pending plan n m slot known))
 
--- that a plan that repeats is pending again, as it is known of every plan
-abbrev pub Returns : Type 0
-Returns = (plan : Planning) (n m k slot : ℕ) → IsWellPlaced plan.placed → n < m → All (RepeatsFrom (plan.from + n) (m - n)) plan.placed
-    → pending_at plan n ≡ pending_at plan m → slot < most_slots → pending_before plan (m + k) slot ≡ pending_before plan (n + k) slot
-
-pub repeat-later : Returns → (plan : Planning) (n horizon : ℕ) → IsWellPlaced plan.placed → HasRepeat plan horizon → HasRepeat (later_plan plan n) horizon
-repeat-later returns plan n horizon well is =
+pub repeat-later : (plan : Planning) (n horizon : ℕ) → IsWellPlaced plan.placed → HasRepeat plan horizon → HasRepeat (later_plan plan n) horizon
+repeat-later plan n horizon well is =
     let one = is.one in
     let other = is.other in
     let alike = is.alike in
@@ -92,20 +86,20 @@ repeat-later returns plan n horizon well is =
             (λ slot known.
             ap (λ k. pending_before plan k slot) left
             ∙ sym
-            (returns plan one other n slot well is.before (rounds-alike plan is.period one other is.least_common.common is.before alike) alike.pending known)
+            (loop-pending plan one other well is.before (rounds-alike plan is.period one other is.least_common.common is.before alike) alike.pending n slot known)
             ∙ ap (λ k. pending_before plan k slot) right)
             ∙ sym (later-pending plan n other);
       };
     }
 
-module _ (valid : StaysValid) (returns : Returns) (rules : Rules) (placed : List Placed) (from pending n : ℕ) where
+module _ (rules : Rules) (placed : List Placed) (from pending n : ℕ) where
   abbrev plan : Planning
   plan = plan_from rules placed from pending
 
   pub safe-later : IsSafe rules placed from pending → IsSafe rules placed (from + n) (pending_at (plan_from rules placed from pending) n)
   safe-later is = record {
     well_placed = is.well_placed;
-    held = valid plan n is.well_placed is.held (λ m slot below. is.in_time m slot);
+    held = valid-along plan n is.well_placed is.held (λ m slot below. is.in_time m slot);
     in_time = λ m slot known. sym (on-missed plan n m slot known) ∙ is.in_time (n + m) slot known;
   }
 
@@ -115,5 +109,5 @@ module _ (valid : StaysValid) (returns : Returns) (rules : Rules) (placed : List
     in_range = is.in_range;
     near = near;
     safe = safe-later is.safe;
-    repeats = repeat-later returns plan n rules.horizon is.safe.well_placed is.repeats;
+    repeats = repeat-later plan n rules.horizon is.safe.well_placed is.repeats;
   }

@@ -3,7 +3,7 @@ use Rattle.std.proofs.Common.{◌≡◌, ℕ, ◌+◌, ◌<◌, ◌≤◌, Some,
 use Rattle.planner_policies.specs.declared.state.PlanState.{PlanState}
 use Rattle.planner_policies.specs.Plan.{IsValid, Ranking, Standing, planning_of}
 use Rattle.release_wheel.specs.Passed.{LeavesSame}
-use Rattle.admission.specs.Course.{IsGoodState, state_behind, state_in}
+use Rattle.admission.specs.Course.{state_behind, state_in}
 use Rattle.admission.specs.Walked.{IsOn}
 use Rattle.admission.proofs.Same.{behind-planned, state-same}
 
@@ -13,19 +13,6 @@ pub same-standing : (standing : Standing) (state : PlanState) → standing.cycle
 same-standing standing state cycle pending =
     ap (λ (n : ℕ). record standing { cycle = n }) cycle
     ∙ ap (λ (m : ℕ). record { ranking = standing.ranking; cycle = state.cycle; pending = m }) pending
-
--- the planning stands at the state
-pub on-start : (ranking : Ranking) (window : ℕ) (here : Standing) (state : PlanState) → here.ranking ≡ ranking → here.cycle ≡ state.cycle
-    → here.pending ≡ state.pending → IsValid ranking.placed state.cycle state.pending → IsOn ranking window here state
-on-start ranking window here state ranking_is cycle_is pending_is valid = record {
-  ranking_is = ranking_is;
-  pending_is = pending_is;
-  onward = omega arith;
-  valid = λ c from to.
-      let same : state.cycle ≡ c = omega arith in
-      subst (λ n. IsValid ranking.placed n state.pending) same valid;
-  passed = λ c from to. absurd (omega arith);
-}
 
 -- the planning stands where it passed the cycles from the state on
 pub on-passed : (ranking : Ranking) (window : ℕ) (old new : Standing) (state : PlanState) → old.ranking ≡ ranking → new.ranking ≡ ranking
@@ -61,15 +48,6 @@ module _ (ranking : Ranking) (window : ℕ) (here : Standing) (state : PlanState
     behind-passed =
         let here = on.passed state.cycle (omega arith) less in
         behind-planned ranking window state next here.none_missed cycle_is (pending_is ∙ here.left)
-
-    pub good-next : (from : ℕ) → from ≤ state.cycle → IsGoodState ranking from next
-    good-next from begun =
-        let valid = on.valid (state.cycle + 1) (omega arith) (omega arith) in
-        record {
-          held = subst (λ n. IsValid ranking.placed n next.pending) (sym cycle_is)
-              (subst (λ q. IsValid ranking.placed (state.cycle + 1) q) (sym pending_is) valid);
-          begun = omega arith;
-        }
 
   -- else it stands at the state
   pub stands-here : here.cycle ≤ state.cycle → state_in here ≡ state

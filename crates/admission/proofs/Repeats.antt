@@ -1,13 +1,13 @@
 -- What the first repeat of a walk says of the planning.
-use Rattle.std.proofs.Common.{◌≡◌, ℕ, ◌+◌, ◌-◌, ◌%◌, ◌^◌, ◌<◌, ◌≤◌, Option, Some, None, List, All, refl, sym, subst, arith, ⊎_elim}
+use Rattle.std.proofs.Common.{◌≡◌, ℕ, ◌+◌, ◌-◌, ◌%◌, ◌^◌, ◌<◌, ◌≤◌, Option, Some, None, List, refl, sym, subst, arith, ⊎_elim}
 use Rattle.std.proofs.lemmas.Bool.{cases_lt}
 use Rattle.std.proofs.lemmas.Nat.Gcd.{dvd_of_mod-eq-zero, le_of_dvd}
 use Rattle.requirement_table.specs.declared.entries.Placed.{Placed}
 use Rattle.bit_sets.specs.Sets.{most_slots}
 use Rattle.requirement_table.specs.Table.{IsWellPlaced}
 use Rattle.planner_policies.specs.declared.state.PlanState.{PlanState}
-use Rattle.planner_policies.specs.Loop.{RepeatsFrom}
-use Rattle.planner_policies.specs.Plan.{HasNoMiss, NeverMisses, Planning, Ranking, pending_at}
+use Rattle.planner_policies.specs.Plan.{HasNoMiss, NeverMisses, Planning, Ranking}
+use Rattle.planner_policies.proofs.Shared.{never-missed}
 use Rattle.recurrence_check.specs.Course.{IsLeastRepeat, IsRepeat, StaysNew, state_after}
 use Rattle.admission.specs.Course.{IsSame, state_at}
 use Rattle.admission.specs.Period.{IsPeriodUpTo}
@@ -17,21 +17,15 @@ use Rattle.admission.proofs.Divided.{divided-along, divided-gap}
 use Rattle.admission.proofs.Reduced.{settled-by}
 use Rattle.admission.proofs.States.{came-to, comes-to, course, plan, state-is}
 
--- the loop of a plan, as it is known of every plan
-abbrev pub LoopsOnce : Type 0
-LoopsOnce = (plan : Planning) (n m : ℕ) → IsWellPlaced plan.placed → n < m
-    → All (RepeatsFrom (plan.from + n) (m - n)) plan.placed → pending_at plan n ≡ pending_at plan m
-    → HasNoMiss plan m → NeverMisses plan
-
 -- a repeat without a miss means no miss at all
-pub alike-never : LoopsOnce → (plan : Planning) (period one other : ℕ) → IsWellPlaced plan.placed → IsCommonPeriod plan.placed period → one < other
+pub alike-never : (plan : Planning) (period one other : ℕ) → IsWellPlaced plan.placed → IsCommonPeriod plan.placed period → one < other
     → AreAlike plan period one other → HasNoMiss plan other → NeverMisses plan
-alike-never loops plan period one other well common order alike none =
+alike-never plan period one other well common order alike none =
     let settled = alike.one_settled in
     let gap : plan.from + other - (plan.from + one) ≡ other - one = omega arith in
     let divided : (other - one) % period ≡ 0 =
     subst (λ n. n % period ≡ 0) gap (divided-gap (plan.from + one) (plan.from + other) period (omega arith) alike.place) in
-    loops plan one other well order
+    never-missed plan one other well order
     (λ i d within.
     let by = settled-by plan.from plan.placed i d within in
     record {
@@ -108,10 +102,10 @@ module _ (ranking : Ranking) (placed : List Placed) (window from pending bound h
   no_miss-at n state there = came-to ranking placed window from pending bound period known like n state there
 
   -- an accepted planning
-  pub never-after : LoopsOnce → IsWellPlaced placed → (one other : ℕ) → TheRepeat one other → NeverMisses the_plan
-  never-after loops well one other repeat =
+  pub never-after : IsWellPlaced placed → (one other : ℕ) → TheRepeat one other → NeverMisses the_plan
+  never-after well one other repeat =
       let some = some-period horizon one other period period_is (repeat-same one other repeat) in
-      alike-never loops the_plan some.0 one other well some.2.common repeat.order some.3 (no_miss-at other repeat.again repeat.again_is)
+      alike-never the_plan some.0 one other well some.2.common repeat.order some.3 (no_miss-at other repeat.again repeat.again_is)
 
   pub is-recurrence : NeverMisses the_plan → (first length' : ℕ)
       → IsLeastRepeat (course ranking placed window from pending bound period known like) first (first + length')

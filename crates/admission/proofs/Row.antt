@@ -13,33 +13,18 @@ use Rattle.bit_sets.specs.Sets.{has_bit, most_slots}
 use Rattle.requirement_table.specs.Table.{IsWellPlaced, held_before, is_last_in, releases_in, width_in, worst_in}
 use Rattle.bit_sets.proofs.Shared.{sum_where-same}
 use Rattle.planner_policies.specs.Loop.{RepeatsFrom}
-use Rattle.planner_policies.specs.Plan.{HasNoMiss, IsValid, NeverMisses, Planning, flags_of as flags_planned, pending_at, pending_before, planned_at}
-use Rattle.planner_policies.proofs.Shared.{pending-test, planned-fits}
+use Rattle.planner_policies.specs.Plan.{IsValid, NeverMisses, Planning, flags_of as flags_planned, pending_at, pending_before, planned_at}
+use Rattle.planner_policies.proofs.Shared.{good-cycle, held-is, loop-planned, pending-test, planned-fits}
 use Rattle.plan_check.specs.declared.breach.Breach.{Breach}
 use Rattle.plan_check.specs.declared.breach.Breach.TheVariants.{BadLoop, NotReleased, TooWide, Missed, NotClosed}
 use Rattle.plan_check.specs.Breaches.{IsBreach, IsGoodAt, IsLeastSlot, is_flagged, is_missed, is_unreleased, is_waiting, width_at}
-use Rattle.plan_check.specs.Certificate.{CertificateView, IsCertificate, flags_of, length_of, place_of}
-use Rattle.plan_check.specs.PlanKept.{HasPending, IsTaken, NoSlot, differ, goes_round, is_bad, is_held, is_open}
+use Rattle.plan_check.specs.Certificate.{CertificateView, flags_of, length_of, place_of}
+use Rattle.plan_check.specs.PlanKept.{IsTaken, NoSlot, differ, goes_round, is_bad, is_held, is_open}
+use Rattle.plan_check.proofs.Shared.{unbroken-taken}
 use Rattle.admission_rules.specs.declared.Rules.{Rules}
 use Rattle.admission.specs.Verdict.{masks_of, plan_from}
 use Rattle.admission.proofs.Cycles.{agree-set}
 use Rattle.admission.proofs.Listed.{masks-at, masks-length}
-use Rattle.admission.proofs.Repeats.{LoopsOnce}
-
--- the laws of plans, and of tables that are kept
-pub record PlanLaws : Type 0 where
-  pub never_missed : LoopsOnce
-  pub round : (plan : Planning) (n m k slot : ℕ) → IsWellPlaced plan.placed → n < m
-      → All (RepeatsFrom (plan.from + n) (m - n)) plan.placed → pending_at plan n ≡ pending_at plan m → slot < most_slots
-      → planned_at plan (m + k) slot ≡ planned_at plan (n + k) slot
-  pub held : (plan : Planning) (n slot : ℕ)
-      → held_before plan.placed (flags_planned plan) plan.from (has_bit plan.pending) n slot ≡ pending_before plan n slot
-  pub good : (plan : Planning) (n m : ℕ) → HasNoMiss plan n → m < n
-      → IsGoodCycle plan.placed (flags_planned plan) plan.from (has_bit plan.pending) m
-  pub taken : (placed : List Placed) (window : ℕ) (certificate : CertificateView) → IsWellPlaced placed
-      → HasPending placed certificate.from (has_bit certificate.pending)
-      → IsCertificate certificate.from certificate.first certificate.masks
-      → ((breach : Breach) → ¬ IsBreach placed window certificate breach) → IsTaken placed window certificate
 
 -- what is held by flags that agree for the slot
 held-same : (placed : List Placed) (flags others : ℕ → ℕ → Bool) (from : ℕ) (held : ℕ → Bool) (n slot : ℕ)
@@ -83,7 +68,7 @@ none-late true true c holds = ap not (holds refl refl)
 none-late true false c holds = refl
 none-late false b c holds = refl
 
-module _ (laws : PlanLaws) (rules : Rules) (placed : List Placed) (from pending b d : ℕ) (well : IsWellPlaced placed) (valid : IsValid placed from pending)
+module _ (rules : Rules) (placed : List Placed) (from pending b d : ℕ) (well : IsWellPlaced placed) (valid : IsValid placed from pending)
     (some : 0 < d) where
   abbrev plan : Planning
   plan = plan_from rules placed from pending
@@ -102,7 +87,7 @@ module _ (laws : PlanLaws) (rules : Rules) (placed : List Placed) (from pending 
     plan-again : (k slot : ℕ) → slot < most_slots → planned_at plan (b + d + k) slot ≡ planned_at plan (b + k) slot
     plan-again k slot known =
         let gap : d ≡ b + d - b = omega arith in
-        laws.round plan b (b + d) k slot well (omega arith) (subst (λ n. All (RepeatsFrom (from + b) n) placed) gap repeats) again known
+        loop-planned plan b (b + d) well (omega arith) (subst (λ n. All (RepeatsFrom (from + b) n) placed) gap repeats) again k slot known
 
     plan-round : (q k slot : ℕ) → slot < most_slots → planned_at plan (b + (q * d + k)) slot ≡ planned_at plan (b + k) slot
     plan-round zero k slot known = let at : b + (0 * d + k) ≡ b + k = grind arith in ap (λ n. planned_at plan n slot) at
@@ -153,7 +138,7 @@ module _ (laws : PlanLaws) (rules : Rules) (placed : List Placed) (from pending 
     row-before n slot known = held-same placed (flags_of row) (flags_planned plan) from (has_bit pending) n slot (λ m. row-planned m slot known)
 
     row-held : (n slot : ℕ) → slot < most_slots → is_held placed row n slot ≡ pending_before plan n slot
-    row-held n slot known = row-before n slot known ∙ laws.held plan n slot
+    row-held n slot known = row-before n slot known ∙ held-is plan n slot
 
     -- The loop
 
@@ -181,7 +166,7 @@ module _ (laws : PlanLaws) (rules : Rules) (placed : List Placed) (from pending 
     -- The cycles
 
     good-planned : (n : ℕ) → IsGoodCycle placed (flags_planned plan) from (has_bit pending) n
-    good-planned n = laws.good plan (suc n) n (λ m slot _ known. never m slot known) (omega arith)
+    good-planned n = good-cycle plan (suc n) n (λ m slot _ known. never m slot known) (omega arith)
 
     waits-same : (n slot : ℕ) → slot < most_slots
         → is_waiting placed row n slot ≡ waits placed (flags_planned plan) from (has_bit pending) n slot
@@ -220,4 +205,4 @@ module _ (laws : PlanLaws) (rules : Rules) (placed : List Placed) (from pending 
     pub row-taken : IsTaken placed rules.window row
     row-taken =
         let all = masks-length plan (b + d) in
-        laws.taken placed rules.window row well valid (record { after = omega arith; within = omega arith }) unbroken
+        unbroken-taken placed rules.window row unbroken well valid (record { after = omega arith; within = omega arith })

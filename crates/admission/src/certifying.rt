@@ -14,8 +14,7 @@ use crate::deciding::{miss, plan_cycles, planner_of, walk_over};
 use crate::walk::PlanWalk;
 use admission_rules::Rules;
 use plan_check::Certificate;
-use plan_check::laws::taken_without_breach;
-use planner_policies::laws::{keeping, loops, valid_states};
+use planner_policies::laws::valid_states;
 use planner_policies::{Miss, PlanState};
 use recurrence_check::{Repeat, WalkEnd, lasso_keyed};
 use requirement_table::{Mask, Placed};
@@ -53,10 +52,7 @@ pub fn certify(
     ensures fault { IfErr result
         (IsFaultOnPlan rules.now.horizon (plan_from rules.now placed.now state.now.cycle state.now.pending)) }
 {
-    keeping();
-    loops();
     valid_states();
-    taken_without_breach();
     let (first, planned) = repeated(alloc, rules, placed, state)?;
     let masks = joined(alloc, opened, planned.as_slice())?;
     Ok(Certificate::new(0, Mask::empty(), first, masks))
@@ -88,9 +84,6 @@ pub fn certify_from(
     ensures fault { IfErr result
         (IsFaultOnPlan rules.now.horizon (plan_from rules.now placed.now state.now.cycle state.now.pending)) }
 {
-    keeping();
-    loops();
-    taken_without_breach();
     let (first, masks) = repeated(alloc, rules, placed, state)?;
     Ok(Certificate::new(state.cycle, state.pending, first, masks))
 }
@@ -111,7 +104,6 @@ fn repeated(
     ensures fault { IfErr result
         (IsFaultOnPlan rules.now.horizon (plan_from rules.now placed.now state.now.cycle state.now.pending)) }
 {
-    loops();
     let start = planner_of(alloc, rules, placed, state)?;
     let walk = walk_over(rules, placed, state, &start);
     match lasso_keyed(alloc, &walk, rules.horizon) {

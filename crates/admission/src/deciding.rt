@@ -20,7 +20,6 @@ use crate::verdict::Verdict;
 use crate::walk::PlanWalk;
 use admission_rules::Rules;
 use change_protocol::{ApplyFault, Change, apply};
-use planner_policies::laws::{loops, valid_states};
 use planner_policies::{Miss, PlanState, cycle_mask, rank_list};
 use profile::CYCLES_END;
 use recurrence_check::{Repeat, WalkEnd, lasso_keyed};
@@ -148,8 +147,6 @@ pub fn decide_list(
     ensures ranked { IfOk result (λ judgement. IfSome judgement.table
         (IsRankedFrom rules.now state.now.cycle state.now.pending)) }
 {
-    loops();
-    valid_states();
     let start = planner_of(alloc, rules, list.as_slice(), state)?;
     let walk = walk_over(rules, list.as_slice(), state, &start);
     match lasso_keyed(alloc, &walk, rules.horizon) {

@@ -23,8 +23,6 @@ ghost use Rattle.admission.specs.Verdict.{IsInTime, IsRules, IsTakenWhereDue, Is
 ghost use Rattle.admission.specs.Verdict.{masks_of, plan_from, trail_of};
 ghost use Rattle.admission.specs.declared.verdict.Verdict.TheVariants.{Accepted};
 
-use planner_policies::laws::{loops, valid_states};
-
 /// There is one verdict on a change of a list, planned from a cycle on before which the same slots are pending, when
 /// the same cycle is the next one to be opened.
 pub fn one_verdict()
@@ -39,9 +37,7 @@ pub fn one_verdict()
 pub fn repeats_for_ever()
     ensures never { (plan : Planning) (first length n : ℕ) → IsWellPlaced plan.placed → IsRecurrence plan first length
         → first + length ≤ plan.from + n → HasNoMiss plan n → NeverMisses plan }
-{
-    loops();
-}
+{}
 
 /// A change is not felt before its start: up to it the same slots are pending as without the change, and before it the
 /// same slots are planned. So a planning of the changed list that begins at an earlier cycle has the masks of all
@@ -66,9 +62,7 @@ pub fn taken_where_due()
         → All HasTypes change.ops → IsValid placed from pending → from ≤ next → IsInTime rules placed next change
         → IsVerdict rules placed pending from next change verdict
         → IsTakenWhereDue rules (plan_from rules (applied placed change) from pending) verdict }
-{
-    valid_states();
-}
+{}
 
 /// The certificate of a table, which is the plan from cycle 0 on, is in the range of the checker. It has a mask for each
 /// cycle, of slots that a set has room for. Nothing is pending before it, and its cycles are below the end of cycle
@@ -137,7 +131,4 @@ pub fn safe_states()
     ensures planned { (rules : Rules) (placed : List Placed) (c from pending n : ℕ) → c ≤ from → IsWellPlaced placed
         → masks_of (plan_from rules (pruned c placed) from pending) n
         ≡ masks_of (plan_from rules placed from pending) n }
-{
-    loops();
-    valid_states();
-}
+{}

@@ -1,3 +1,4 @@
+pub mod Shared
 mod BodyReads
 mod Current
 mod CycleSteps

@@ -1,38 +1,23 @@
 use Rattle.std.proofs.Common.{◌-◌, ◌++◌, ap, ◌∙◌, List, ℕ, arith}
 use Rattle.admission.proofs.Certified.{made-of, within-listed}
-use Rattle.admission.proofs.Row.{PlanLaws}
 use Rattle.admission.proofs.certifying.certify.Goals as goal
 
 pub new-requires-clause-within : goal.new-requires-clause-within
 new-requires-clause-within c =
-    let laws : PlanLaws = record {
-      never_missed = c.loops.ensures.never_missed;
-      round = c.loops.ensures.planned;
-      held = c.keeping.ensures.held;
-      good = c.keeping.ensures.good;
-      taken = c.taken_without_breach.ensures.taken;
-    } in
     let state = c.args.state.now in
     let made = c.in_ok-first.ensures.planned in
     let start = made.repeats.1.at in
-    within-listed c.args.rules.now c.args.placed.now state.cycle state.pending c.requires.pending laws c.args.opened.now
+    within-listed c.args.rules.now c.args.placed.now state.cycle state.pending c.requires.pending c.args.opened.now
     c.in_ok-first.planned.items c.in_ok-first.first made.length c.requires.well_placed c.requires.in_time
     c.requires.opened (c.in_ok-first.first - state.cycle) (omega arith) made.listed made.repeats c.in_ok-masks.masks.items
     (c.in_ok-masks.ensures.masks ∙ ap (λ (list : List ℕ). c.args.opened.now ++ list) c.as_slice.ensures.value)
 
 pub returns : goal.returns
 returns c =
-    let laws : PlanLaws = record {
-      never_missed = c.loops.ensures.never_missed;
-      round = c.loops.ensures.planned;
-      held = c.keeping.ensures.held;
-      good = c.keeping.ensures.good;
-      taken = c.taken_without_breach.ensures.taken;
-    } in
     let state = c.args.state.now in
     let made = c.in_ok-first.ensures.planned in
     let start = made.repeats.1.at in
-    let whole = made-of c.args.rules.now c.args.placed.now state.cycle state.pending c.requires.pending laws c.args.opened.now
+    let whole = made-of c.args.rules.now c.args.placed.now state.cycle state.pending c.requires.pending c.args.opened.now
     c.in_ok-first.planned.items c.in_ok-first.first made.length c.requires.well_placed c.requires.in_time
     c.requires.opened (c.in_ok-first.first - state.cycle) (omega arith) made.listed made.repeats c.new.result c.new.ensures.from
     (c.new.ensures.pending ∙ c.empty.ensures.number) c.new.ensures.first

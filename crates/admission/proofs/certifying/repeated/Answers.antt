@@ -39,6 +39,6 @@ returns-in-Ok-clause-planned c =
           c.in_ok-planned-in-Ok.ensures.planned
           ∙ ap (masks_of (plan_from c.args.rules.now c.args.placed.now state.cycle state.pending)) behind;
       repeats =
-          repeats-on _ _ _ _ _ _ _ _ _ c.walk_over-walk.ensures.walked c.loops.ensures.never_missed again.first again.length
+          repeats-on _ _ _ _ _ _ _ _ _ c.walk_over-walk.ensures.walked again.first again.length
           c.in-Ok.ensures.repeat c.in-Ok.ensures.within;
     }

@@ -9,13 +9,13 @@ use Rattle.admission.proofs.deciding.decide_list.Goals as goal
 
 pub returns-in-Ok-clause-decision : goal.returns-in-Ok-clause-decision
 returns-in-Ok-clause-decision c =
-    accepted _ _ _ _ _ _ _ _ _ (on-list c.args.list.items c.as_slice-2.ensures.value c.walk_over-walk.ensures.walked) c.loops.ensures.never_missed
+    accepted _ _ _ _ _ _ _ _ _ (on-list c.args.list.items c.as_slice-2.ensures.value c.walk_over-walk.ensures.walked)
     c.in-Ok.field-0.first c.in-Ok.field-0.length _ c.in-Ok.ensures.repeat c.in-Ok.ensures.within refl
     (ap (λ (l : List Placed). Some l) c.of.ensures.list) (c.of-in-Ok.ensures.list ∙ c.new.ensures.items)
 
 pub returns-in-Ok-clause-safe : goal.returns-in-Ok-clause-safe
 returns-in-Ok-clause-safe c =
-    safe _ _ _ _ _ _ _ _ _ (on-list c.args.list.items c.as_slice-2.ensures.value c.walk_over-walk.ensures.walked) c.loops.ensures.never_missed
+    safe _ _ _ _ _ _ _ _ _ (on-list c.args.list.items c.as_slice-2.ensures.value c.walk_over-walk.ensures.walked)
     c.in-Ok.field-0.first (c.in-Ok.field-0.first + c.in-Ok.field-0.length) c.of.result c.of.ensures.list c.in-Ok.ensures.repeat
 
 pub returns-in-Ok-clause-ranked : goal.returns-in-Ok-clause-ranked
@@ -75,5 +75,5 @@ returns-in-Err-NoRepeat-clause-decision c =
 pub returns-in-Err-NoRepeat-clause-complete : goal.returns-in-Err-NoRepeat-clause-complete
 returns-in-Err-NoRepeat-clause-complete c =
     let ends = rw c.in-Err-NoRepeat.field-0-is at c.in-Err-NoRepeat.ensures.ends in
-    refused-due _ _ _ _ _ _ _ _ _ (on-list c.args.list.items c.as_slice-2.ensures.value c.walk_over-walk.ensures.walked) c.valid_states.ensures.along
+    refused-due _ _ _ _ _ _ _ _ _ (on-list c.args.list.items c.as_slice-2.ensures.value c.walk_over-walk.ensures.walked)
     c.in-Err-NoRepeat.walked c.refusal.result.verdict ends.0 ends.1

@@ -3,5 +3,5 @@ use Rattle.admission.proofs.laws.repeats_for_ever.Goals as goal
 
 pub returns : goal.returns
 returns c = record {
-  never = λ plan first length n well is within none. repeat-never c.loops.ensures.never_missed plan first length n well is within none;
+  never = repeat-never;
 }

@@ -6,7 +6,7 @@ use Rattle.admission.proofs.laws.safe_states.Goals as goal
 pub returns : goal.returns
 returns c = record {
   found = repeat-found;
-  later = λ rules placed from pending n near is. within-later c.valid_states.ensures.along c.loops.ensures.pending rules placed from pending n near is;
+  later = within-later;
   pruned = λ rules placed c from pending before is.
       within-same rules from pending placed (pruned c placed) (same-pruned c from placed before is.safe.well_placed) is;
   pending = λ rules placed c from pending n before well. pending-kept rules from pending n placed (pruned c placed) (same-pruned c from placed before well);

@@ -4,5 +4,5 @@ use Rattle.admission.proofs.laws.taken_where_due.Goals as goal
 pub returns : goal.returns
 returns c = record {
   taken = λ rules placed pending from next change verdict ranges well types held opened in_time is.
-      taken-due c.valid_states.ensures.along rules ranges placed pending from next change well types held opened in_time verdict is;
+      taken-due rules ranges placed pending from next change well types held opened in_time verdict is;
 }

@@ -1,4 +1,4 @@
-use Rattle.std.proofs.Common.{◌≡◌, ◌≤◌, sym, ap, subst, ◌∙◌, arith}
+use Rattle.std.proofs.Common.{◌≤◌, sym, ap, subst, ◌∙◌, arith}
 use Rattle.planner_policies.specs.Plan.{Ranking, Standing}
 use Rattle.release_wheel.specs.Demand.{demand_in}
 use Rattle.admission.proofs.Places.{on-passed}
