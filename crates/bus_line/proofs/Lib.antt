@@ -1,3 +1,4 @@
+pub mod Shared
 mod Lists
 mod Quiet
 mod Running

@@ -3,6 +3,7 @@ use Rattle.std.proofs.Common.{◌≡◌, ℕ, ◌+◌, ◌<◌, ◌≤◌, max, 
 use Rattle.std.proofs.lemmas.Bool.{lt-ltb, le-ltb, cases_lt, cases_order}
 use Rattle.std.proofs.lemmas.List.Elements.{All-nil, All-cons, All-head, All-tail}
 use Rattle.can_frame.specs.DataFrame.{DataFrame}
+use Rattle.can_frame.proofs.Shared.{wire-positive}
 use Rattle.can_frame.specs.Wire.{wire_length}
 use Rattle.can_frame.specs.declared.data_frame.TimedFrame.{TimedFrame}
 use Rattle.bus_line.specs.Trace.{Offers, IsOrdered, IsTrace, IsLeastOffered, IsNext, IsDetermined, NothingOffered, Follows, started_before, end_of, free_after, AgreeAlong}
@@ -28,8 +29,7 @@ record Rest (offers : Offers) (until : ℕ) (past : List TimedFrame) (free : ℕ
   least : All (λ sent. IsLeastOffered offers (past ++ started_before sent.start frames) sent.start sent.frame) frames
   busy : (at : ℕ) (frame : DataFrame) → free ≤ at → at < until → offers (past ++ started_before at frames) at frame → Any (Covers at) frames
 
--- `positive`: each frame takes some time on the bus
-module _ (positive : (frame : DataFrame) → 0 < wire_length frame) (offers : Offers) (until : ℕ) where
+module _ (offers : Offers) (until : ℕ) where
   -- up to the first start, nothing has been started
   front : (past : List TimedFrame) (at : ℕ) (frames : List TimedFrame) → All (λ sent. at ≤ sent.start) frames
       → past ++ started_before at frames ≡ past
@@ -42,7 +42,7 @@ module _ (positive : (frame : DataFrame) → 0 < wire_length frame) (offers : Of
       append_assoc past (sent ∷ []) (started_before at later) ∙ ap (λ started. past ++ started) (sym (started-first at sent later before))
 
   takes_time : (sent : TimedFrame) → sent.len ≡ wire_length sent.frame → sent.start < end_of sent
-  takes_time sent whole = omega (arith, whole, positive sent.frame)
+  takes_time sent whole = omega (arith, whole, wire-positive sent.frame)
 
   -- where the first frame does not start before a time, no frame does
   none_before : (at : ℕ) (sent : TimedFrame) (later : List TimedFrame) → at ≤ sent.start → sent.start < end_of sent
@@ -179,7 +179,7 @@ module _ (offers : Offers) where
       let frame = determined past one.start one.frame other.frame is_one.least.offered other_here (omega arith) in
       same_sent one other start (is_one.whole ∙ ap wire_length frame ∙ sym is_other.whole) frame
 
-  pub same_frames : IsDetermined offers → (past : List TimedFrame) (free until : ℕ) (one other : List TimedFrame)
+  same_frames : IsDetermined offers → (past : List TimedFrame) (free until : ℕ) (one other : List TimedFrame)
       → Follows offers past free until one → Follows offers past free until other → one ≡ other
   same_frames determined past free until [] [] nothing also = refl
   same_frames determined past free until [] (y ∷ ys) nothing (next, follows) =
@@ -191,6 +191,11 @@ module _ (offers : Offers) where
       let behind_x = subst (λ sent. Follows offers (past ++ sent ∷ []) (end_of sent) until ys) (sym same) other_follows in
       let rest = same_frames determined (past ++ x ∷ []) (end_of x) until xs ys follows behind_x in
       cc
+
+  -- there is at most one CAN trace
+  pub only-trace : IsDetermined offers → (until : ℕ) (one other : List TimedFrame) → IsTrace offers until one → IsTrace offers until other → one ≡ other
+  only-trace determined until one other is_one is_other =
+      same_frames determined [] 0 until one other (Follows-from_trace offers until one is_one) (Follows-from_trace offers until other is_other)
 
   NothingOffered-joined : (past : List TimedFrame) (low middle high : ℕ) → NothingOffered offers past low middle → NothingOffered offers past middle high
       → NothingOffered offers past low high

@@ -10,7 +10,6 @@ ghost use Rattle.bus_line.specs.declared.line_fault.LineFault.TheVariants.{Memor
 ghost use Rattle.bus_line.specs.Recording.{BreaksAt, IsRecording, ReadsLine, counted_from};
 
 use crate::stations::Stations;
-use can_frame::laws::{one_front, wire_lengths};
 use std::marker::PhantomData;
 
 /// A kind of offers on a bus, for the laws below: a crate that speaks of its own offers implements
@@ -34,7 +33,7 @@ impl<S: Stations> Offering for StationOffers<S> {
     ghost offers = { λ state. offers_of S.line state };
 }
 
-/// What is true of the traces of any offers, from the lengths of wires. The function does nothing.
+/// What is true of the traces of any offers. The function does nothing.
 pub fn trace_laws<O: Offering>()
     // The CAN trace is given frame by frame, each the next one behind those before it.
     ensures one_by_one { (setting : O.Setting) (until : ℕ) (trace : List TimedFrame)
@@ -64,9 +63,7 @@ pub fn trace_laws<O: Offering>()
         → Follows (O.offers setting) past free middle front
         → Follows (O.offers setting) (past ++ front) (max middle (free_after free front)) until back
         → Follows (O.offers setting) past free until (front ++ back) }
-{
-    wire_lengths();
-}
+{}
 
 /// Two kinds of offers that agree along some frames have these frames both. The function does
 /// nothing.
@@ -108,6 +105,4 @@ pub fn one_recording()
         → IsRecording trace from until bits → (answer : Result (List TimedFrame) LineFault)
         → ReadsLine bits answer
         → (answer ≡ Err Memory) ⊎ (answer ≡ Ok (counted_from from trace)) }
-{
-    one_front();
-}
+{}
