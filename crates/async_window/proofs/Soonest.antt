@@ -73,16 +73,6 @@ arrives-later bytes at unsent few time far =
       | inr low ↦ let here : arrival_within 8 unsent ≤ at = arrival-longer bytes 8 at unsent few time low in absurd (omega arith)
     ]
 
-pub is-longer : (bytes at : ℕ) (unsent : List Request) → at < never → bytes < first_length unsent → at < arrival_within bytes unsent
-is-longer bytes at unsent time long =
-    elim (cases_lt at (arrival_within bytes unsent)) [
-      | inl later ↦ later
-      | inr low ↦
-          let found = arrival-from bytes at unsent time low in
-          let is : first_length unsent ≡ length found.0.frame.bytes = first_length-is unsent found.0 found.1 in
-          absurd (omega (arith, found.3))
-    ]
-
 pub fits-not : (bytes at : ℕ) (unsent : List Request) → at < never → bytes < first_bytes unsent → at < arrival_within bytes unsent
 fits-not bytes at unsent time long =
     elim (cases_lt at (arrival_within bytes unsent)) [
@@ -99,19 +89,6 @@ fits-here bytes at unsent time low short =
     let found = arrival-from 8 at unsent time low in
     let is : first_bytes unsent ≡ length found.0.frame.bytes = first_bytes-is unsent found.0 found.1 in
     arrival-some bytes at unsent found.0 found.1 found.2 (omega arith)
-
--- what no first request arrives before, no shorter one does
-pub sooner-within : (bytes sooner : ℕ) (unsent : List Request) → bytes ≤ 8 → sooner ≤ never → sooner ≤ arrival_within 8 unsent
-    → sooner ≤ arrival_within bytes unsent
-sooner-within bytes sooner [] few most low = most
-sooner-within bytes sooner (r ∷ later) few most low =
-    elim (cases_Bool (leb (length r.frame.bytes) bytes)) [
-      | inl passed ↦
-          let short : length r.frame.bytes ≤ bytes = leb-true (length r.frame.bytes) bytes passed in
-          let here : sooner ≤ r.at = subst (λ b. sooner ≤ cond b r.at never) (le-leb (length r.frame.bytes) 8 (omega arith)) low in
-          subst (λ b. sooner ≤ cond b r.at never) (sym passed) here
-      | inr failed ↦ subst (λ b. sooner ≤ cond b r.at never) (sym failed) most
-    ]
 
 module _ (ids : List ℕ) (boxes : List Mail) (table : List ℕ) (arrivals lengths : List ℕ) (remaining : ℕ)
     (kept : AreBoxesSorted ids boxes table arrivals lengths remaining) where

@@ -4,9 +4,9 @@ use Rattle.std.specs.List.{slice_get}
 use Rattle.std.specs.Option.{IsSome}
 use Rattle.std.proofs.lemmas.Bool.{eq-eqb, ne_eqb, false≢true}
 use Rattle.std.proofs.lemmas.Bool.Decides.{eqb_tells}
-use Rattle.std.proofs.lemmas.List.{append-nil, length_push, length-drop, take_more}
+use Rattle.std.proofs.lemmas.List.{append-nil, length-drop, take_more}
 use Rattle.std.proofs.lemmas.List.Elements.{filter-append, All-take, All-push}
-use Rattle.std.proofs.lemmas.List.Sums.{sum_by-set, sum_by-cons}
+use Rattle.std.proofs.lemmas.List.Sums.{sum_by-cons}
 use Rattle.can_frame.specs.declared.data_frame.TimedFrame.{TimedFrame}
 use Rattle.async_window.specs.declared.request.Request.{Request}
 use Rattle.async_window.specs.Waiting.{requests_of, unsent_after}
@@ -56,14 +56,6 @@ pub with_request-elsewhere : (request : Request) (mail : List Mail)
     → ((k : ℕ) (d : Mail) → k < length mail → (get_or mail k d).identifier ≢ request.frame.identifier)
     → map (with_request request) mail ≡ mail
 with_request-elsewhere request mail none = map-elsewhere (λ box. record box { unsent = box.unsent ++ request ∷ [] }) request.frame.identifier mail none
-
--- how many requests are left
-pub left-push : (mail : List Mail) (place : ℕ) (d box : Mail) (request : Request) → place < length mail
-    → box.unsent ≡ (get_or mail place d).unsent ++ request ∷ [] → left (set mail place box) ≡ left mail + 1
-left-push mail place d box request within is =
-    let lengths : length box.unsent ≡ length (get_or mail place d).unsent + 1 = ap (λ xs. length xs) is ∙ length_push (get_or mail place d).unsent request in
-    let sums = sum_by-set (λ (x : Mail). length x.unsent) mail place box d within in
-    omega arith
 
 some-not_empty : (requests : List Request) → IsSome (slice_get requests 0) → 0 < length requests
 some-not_empty [] some = absurd (false≢true some)

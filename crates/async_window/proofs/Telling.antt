@@ -7,16 +7,7 @@ use Rattle.async_window.specs.Mailbox.{Mail, IsLeastWith}
 use Rattle.async_window.specs.Tournament.{never, nobody, IsFirstWithin, IsSoonestStart, Tell, Notes, TellFirsts, arrival_within, first_bytes, first_length}
 use Rattle.stuff_bound.specs.Stuffing.{worst}
 use Rattle.std.specs.Prelude.{IfSome}
-use Rattle.async_window.proofs.Soonest.{arrives-later, sooner-within}
-
--- nothing is told yet
-pub Tell-none : (told : List Request → ℕ) (boxes : List Mail) (numbers : List ℕ) → length boxes ≤ length numbers
-    → ((place : ℕ) → place < length numbers → get_or numbers place 0 ≡ never) → Tell 0 told boxes numbers
-Tell-none told boxes numbers room none = record {
-  room = room;
-  each = λ place d before within. absurd (omega arith);
-  rest = λ place past within. none place within;
-}
+use Rattle.async_window.proofs.Soonest.{arrives-later}
 
 -- one mailbox more
 pub Tell-more : (place : ℕ) (told : List Request → ℕ) (boxes : List Mail) (old new : List ℕ) → Notes told boxes place old new
@@ -97,16 +88,6 @@ module _ (bytes at : ℕ) (few : bytes ≤ 8) (time : at < never) (boxes : List 
   none-first none place d within =
       arrives-later bytes at (get_or boxes place d).unsent few time
       (subst (λ n. at < n) (told-at (arrival_within 8) boxes arrivals tell place d within) (none place (omega (arith, tell.room))))
-
-  pub first-within : (place sooner : ℕ) → IsFirstWithin at arrivals place sooner → place < length boxes
-  first-within place sooner first = told-within (arrival_within 8) boxes arrivals tell place at first.within first.here time
-
-  pub first-before : (place sooner : ℕ) → IsFirstWithin at arrivals place sooner → (other : ℕ) (d : Mail) → other < place
-      → sooner ≤ arrival_within bytes (get_or boxes other d).unsent
-  first-before place sooner first other d less =
-      sooner-within bytes sooner (get_or boxes other d).unsent few first.most
-      (subst (λ n. sooner ≤ n)
-      (told-at (arrival_within 8) boxes arrivals tell other d (omega (arith, first-within place sooner first))) (first.before other less))
 
 -- where the request that arrives soonest may start then, no other one starts sooner
 pub soonest-starts : (boxes : List Mail) (arrivals : List ℕ) (opened closed at soonest place sooner bytes : ℕ) (box : Mail) (found : Option ℕ)

@@ -3,7 +3,7 @@ use Rattle.std.proofs.Common.{◌≡◌, ◌≢◌, ℕ, zero, suc, ◌+◌, ◌
 use Rattle.std.proofs.Math.Nat.{one-le-pow, pow-suc, pow-le-pow_right}
 use Rattle.std.proofs.lemmas.Bool.{cases_eq}
 use Rattle.std.proofs.lemmas.List.{get_or-drop, get_or-set_other, get_or-set_same, length-drop, length-set}
-use Rattle.async_window.specs.Tournament.{never, HasLesser, Renews, IsTreeBut, IsTree, IsFirstWithin}
+use Rattle.async_window.specs.Tournament.{never, HasLesser, Renews, IsTreeBut, IsTree}
 use Rattle.async_window.proofs.Levels.{IsAbove, IsLesser, IsOnTheWay, is_inner, least-top, least-top_some, levels-low}
 
 -- a number is written over an inner node
@@ -13,15 +13,6 @@ Renews-set nodes node lesser within is = record {
   length = length-set nodes node lesser;
   renewed = get_or-set_same nodes node lesser 0 within ∙ is;
   others = λ other apart. get_or-set_other nodes node other lesser 0 apart;
-}
-
--- or the node has that number
-pub Renews-same : (nodes : List ℕ) (node lesser : ℕ) → get_or nodes node 0 ≡ lesser
-    → lesser ≡ min (get_or nodes (2 * node) 0) (get_or nodes (2 * node + 1) 0) → Renews nodes nodes node
-Renews-same nodes node lesser has is = record {
-  length = refl;
-  renewed = has ∙ is;
-  others = λ other apart. refl;
 }
 
 HasLesser-kept : (old new : List ℕ) (node other : ℕ) → Renews old new node → other ≢ node → 2 * other ≢ node → 2 * other + 1 ≢ node
@@ -194,17 +185,6 @@ module _ (levels : ℕ) (nodes : List ℕ) (known : IsTree levels nodes) where
       → IsFirstLeaf bound (node - count) sooner
   first-leaf_half bound node sooner count is way =
       subst (λ n. IsFirstLeaf bound (node - n) sooner) (sym is) (first-leaf bound node sooner way)
-
-  pub first-number : (bound place sooner : ℕ) → place < 2 ^ levels → get_or nodes (2 ^ levels + place) 0 ≤ bound → bound < sooner
-      → sooner ≤ never → ((other : ℕ) → other < place → sooner ≤ get_or nodes (2 ^ levels + other) 0)
-      → IsFirstWithin bound (drop (2 ^ levels) nodes) place sooner
-  first-number bound place sooner within here later most before = record {
-    within = omega (arith, numbers-length);
-    here = subst (λ n. n ≤ bound) (sym (numbers-at place)) here;
-    later = later;
-    most = most;
-    before = λ other less. subst (λ n. sooner ≤ n) (sym (numbers-at other)) (before other less);
-  }
 
 -- a tree in which each number is the same
 pub IsTree-never : (levels : ℕ) (nodes : List ℕ) → levels ≤ 11 → length nodes ≡ 2 * 2 ^ levels
