@@ -14,9 +14,10 @@ use Rattle.requirement_table.specs.Instance.{Instance}
 use Rattle.requirement_table.specs.Table.{IsWellPlaced, instance_in}
 use Rattle.async_window.specs.declared.request.Owner.{Owner}
 use Rattle.async_window.specs.declared.request.Request.{Request}
-use Rattle.async_window.specs.Mailbox.{IsLeastWith, IsMail, Mail, OffersIdentifier, mail_offer, without_first}
+use Rattle.async_window.specs.Mailbox.{IsLeastWith, IsMail, OffersIdentifier, mail_offer}
+use Rattle.async_window.proofs.Shared.{Offers-among, Offers-least, without_first-identifiers}
 use Rattle.bit_sets.specs.Least.{least_where}
-use Rattle.node_model.specs.Node.{NodeState, Opened, after_hearing, entries_of, identifiers_of, is_due, learnt, node_offer, offer_in}
+use Rattle.node_model.specs.Node.{IsNode, NodeState, Opened, after_hearing, entries_of, identifiers_of, is_due, learnt, node_offer, offer_in}
 use Rattle.async_window.specs.Owners.{AreOwners}
 use Rattle.node_model.specs.Own.{AreApart, StandsOnBus}
 use Rattle.node_model.proofs.OtherFrames.{after_hearing-keeps}
@@ -113,11 +114,10 @@ apart-turned one other are = record {
 pub after_hearing-entries : (node : NodeState) (sent : TimedFrame) → (after_hearing node sent).entries ≡ node.entries
 after_hearing-entries node sent = after_hearing-keeps (λ n. n.entries ≡ node.entries) node sent (λ opening. refl) (λ other noting. refl) refl refl
 
-pub after_hearing-identifiers : ((id : ℕ) (mail : List Mail) → map (λ box. box.identifier) (without_first id mail) ≡ map (λ box. box.identifier) mail)
-    → (node : NodeState) (sent : TimedFrame) → map (λ box. box.identifier) (after_hearing node sent).mail ≡ map (λ box. box.identifier) node.mail
-after_hearing-identifiers identifiers node sent =
+pub after_hearing-identifiers : (node : NodeState) (sent : TimedFrame) → map (λ box. box.identifier) (after_hearing node sent).mail ≡ map (λ box. box.identifier) node.mail
+after_hearing-identifiers node sent =
     after_hearing-keeps (λ n. map (λ box. box.identifier) n.mail ≡ map (λ box. box.identifier) node.mail) node sent
-    (λ opening. refl) (λ other noting. refl) refl (identifiers sent.frame.identifier node.mail)
+    (λ opening. refl) (λ other noting. refl) refl (without_first-identifiers sent.frame.identifier node.mail)
 
 pub apart-same : (one other after also : NodeState) → after.entries ≡ one.entries → also.entries ≡ other.entries
     → map (λ box. box.identifier) after.mail ≡ map (λ box. box.identifier) one.mail
@@ -129,12 +129,11 @@ apart-same one other after also entries others ids other_ids are = record {
       (ap (λ all. instance_in all slot cycle) (sym entries) ∙ is_mine) (ap (λ all. instance_in all slot cycle) (sym others) ∙ is_theirs);
 }
 
-pub apart-hearing : ((id : ℕ) (mail : List Mail) → map (λ box. box.identifier) (without_first id mail) ≡ map (λ box. box.identifier) mail)
-    → (one other : NodeState) (sent also : TimedFrame) → AreApart one other → AreApart (after_hearing one sent) (after_hearing other also)
-apart-hearing identifiers one other sent also =
+pub apart-hearing : (one other : NodeState) (sent also : TimedFrame) → AreApart one other → AreApart (after_hearing one sent) (after_hearing other also)
+apart-hearing one other sent also =
     apart-same one other (after_hearing one sent) (after_hearing other also)
     (after_hearing-entries one sent) (after_hearing-entries other also)
-    (after_hearing-identifiers identifiers one sent) (after_hearing-identifiers identifiers other also)
+    (after_hearing-identifiers one sent) (after_hearing-identifiers other also)
 
 -- what a node that offers an identifier has
 abbrev Has : NodeState → ℕ → ℕ → Type 0
@@ -152,15 +151,12 @@ slot-part entries opened c id (Some slot) same least is =
     let found = value-of (instance_in entries slot opened.cycle) more.0 in
     (slot, sym (same_Some _ _ is), least.0, (found.0, ap (instance_in entries slot) same ∙ found.1))
 
-module _ (node : NodeState) (at : ℕ)
-    (least : (l : ℕ) → IsLeastWith (OffersIdentifier node.layout l node.mail at) (mail_offer node.layout l node.mail at))
-    (among : (l id : ℕ) → OffersIdentifier node.layout l node.mail at id → Contains (map (λ box. box.identifier) node.mail) id)
-    (known : IsMail node.mail) where
+module _ (node : NodeState) (at : ℕ) (known : IsMail node.mail) where
   mail-part : (l id : ℕ) (found : Option ℕ) → IsLeastWith (OffersIdentifier node.layout l node.mail at) found → found ≡ Some id
       → (0x200 ≤ id) × Contains (map (λ box. box.identifier) node.mail) id
   mail-part l id None none is = absurd (none-some id is)
   mail-part l id (Some found) is_least is =
-      let here = subst (λ n. Contains (map (λ box. box.identifier) node.mail) n) (same_Some found id is) (among l found is_least.0) in
+      let here = subst (λ n. Contains (map (λ box. box.identifier) node.mail) n) (same_Some found id is) (Offers-among node.layout l at node.mail found is_least.0) in
       (All-contains (λ n. 0x200 ≤ n) (map (λ box. box.identifier) node.mail) id (All-map (λ n. 0x200 ≤ n) (λ box. box.identifier) node.mail known.least) here, here)
 
   open-part : (opened : Opened) (id : ℕ) → offer_in node at opened ≡ Some id → Has node at id
@@ -171,7 +167,7 @@ module _ (node : NodeState) (at : ℕ)
               (least_where-least most_slots (is_due node.entries opened))
               (sym (cond-true (leb (sync_start node.layout opened.cycle opened.width) at) _ _ late)
               ∙ sym (cond-true (eqb (at / node.layout.cycle) opened.cycle) _ _ same) ∙ is))
-          | inr early ↦ inr (mail-part opened.width id (mail_offer node.layout opened.width node.mail at) (least opened.width)
+          | inr early ↦ inr (mail-part opened.width id (mail_offer node.layout opened.width node.mail at) (Offers-least node.layout opened.width at node.mail known)
               (sym (cond-false (leb (sync_start node.layout opened.cycle opened.width) at) _ _ early)
               ∙ sym (cond-true (eqb (at / node.layout.cycle) opened.cycle) _ _ same) ∙ is))
         ]
@@ -182,10 +178,10 @@ module _ (node : NodeState) (at : ℕ)
   offers-part None id is = absurd (none-some id is)
   offers-part (Some opened) id is = open-part opened id is
 
-  pub has-offered : (id : ℕ) → node_offer node at ≡ Some id → Has node at id
+  has-offered : (id : ℕ) → node_offer node at ≡ Some id → Has node at id
   has-offered id is = offers-part node.opened id is
 
-pub never_both : (one other : NodeState) (at id : ℕ) → one.layout ≡ other.layout → AreApart one other → Has one at id → Has other at id → ⊥
+never_both : (one other : NodeState) (at id : ℕ) → one.layout ≡ other.layout → AreApart one other → Has one at id → Has other at id → ⊥
 never_both one other at id same are (inl (slot, is, within, (i, mine))) (inl (another, also, inside, (j, theirs))) =
     let equal : another ≡ slot = omega arith in
     are.slots slot (at / one.layout.cycle) i j mine
@@ -193,3 +189,16 @@ never_both one other at id same are (inl (slot, is, within, (i, mine))) (inl (an
 never_both one other at id same are (inl (slot, is, within, mine)) (inr (above, theirs)) = omega arith
 never_both one other at id same are (inr (above, mine)) (inl (slot, is, within, theirs)) = omega arith
 never_both one other at id same are (inr (above, mine)) (inr (high, theirs)) = are.mail id mine theirs
+
+-- two nodes that are apart never offer one identifier together
+pub offers-apart : (one other : NodeState) (at id : ℕ) → one.layout ≡ other.layout → IsNode one → IsNode other → AreApart one other
+    → node_offer one at ≡ Some id → node_offer other at ≡ Some id → ⊥
+offers-apart one other at id same is_one is_other are mine theirs =
+    never_both one other at id same are (has-offered one at is_one.mail id mine) (has-offered other at is_other.mail id theirs)
+
+-- what a node offers is the identifier of a slot or an asynchronous one
+pub offers-in_range : (node : NodeState) (at id : ℕ) → IsNode node → node_offer node at ≡ Some id → (0x100 ≤ id) × (id ≤ 0x7EF)
+offers-in_range node at id is offers = elim (has-offered node at is.mail id offers) [
+  | inl part ↦ (omega (arith, part.1), omega (arith, part.1, part.2))
+  | inr part ↦ (omega (arith, part.0), All-contains (λ n. n ≤ 0x7EF) (map (λ box. box.identifier) node.mail) id (All-map (λ n. n ≤ 0x7EF) (λ box. box.identifier) node.mail is.mail.greatest) part.1)
+]

@@ -1,8 +1,8 @@
 -- The slots that a node is to send in the cycle that is open for it, and their instances.
-use Rattle.std.proofs.Common.{◌≡◌, ℕ, ◌<◌, ◌≤◌, ◌&&◌, ◌||◌, Bool, true, false, not, is_some, Option, None, Some, option_map, List, [], get_or, refl, sym, ap, ◌∙◌, arith}
+use Rattle.std.proofs.Common.{◌≡◌, ℕ, ◌<◌, ◌≤◌, ◌&&◌, ◌||◌, true, false, not, Option, None, Some, option_map, List, [], get_or, sym, ap, ◌∙◌, arith}
 use Rattle.std.specs.Prelude.{IfSome}
 use Rattle.std.specs.Option.{option_map_or}
-use Rattle.std.proofs.lemmas.Bool.{and_parts, false≢true, lt-ltb}
+use Rattle.std.proofs.lemmas.Bool.{false≢true, lt-ltb}
 use Rattle.std.proofs.lemmas.Option.{none-some, same_Some}
 use Rattle.requirement_table.specs.declared.entries.Placed.{Placed}
 use Rattle.requirement_table.specs.Instance.{Instance, bytes_of, payload}
@@ -10,7 +10,7 @@ use Rattle.bit_sets.specs.Sets.{has_bit, set_of, most_slots}
 use Rattle.requirement_table.specs.Table.{instance_in}
 use Rattle.bit_sets.proofs.Shared.{has_bit-set_of}
 use Rattle.node_model.specs.Node.{NodeState, is_due}
-use Rattle.node_model.specs.Kept.{AreReady, AreSendableIn, HaveInstances, KnowsDue, KnowsInstances, opened_of, sends_from}
+use Rattle.node_model.specs.Kept.{AreReady, HaveInstances, KnowsDue, KnowsInstances, opened_of, sends_from}
 use Rattle.node_model.specs.Window.{is_due_slot}
 use Rattle.node_model.specs.declared.cycle.Open.{Open}
 use Rattle.node_model.specs.declared.entries.Ready.{Ready}
@@ -27,23 +27,8 @@ with-due node o others result open_cycle knows is slot within =
     ∙ ap (λ b. has_bit others slot || b) (knows slot within)
     ∙ ap (λ opened. has_bit others slot || option_map_or (λ x. is_due node.entries x slot) opened false) (sym open_cycle)
 
--- the slots that are due in a cycle that was opened, of those that can be sent
-flagged-same : (flagged one other left : Bool) → (flagged ≡ true → one ≡ other) → (flagged && (one && left)) ≡ (flagged && (other && left))
-flagged-same true one other left same = ap (λ b. b && left) (same refl)
-flagged-same false one other left same = refl
-
 module _ (o : Open) (sendable : ℕ)
     (unheard : (slot : ℕ) → has_bit o.due slot ≡ (has_bit o.mask slot && (has_bit sendable slot && not (has_bit o.heard slot)))) where
-  pub opened-due : (entries : List Placed)
-      → ((slot : ℕ) → has_bit o.mask slot ≡ true → has_bit sendable slot ≡ is_some (instance_in entries slot o.cycle)) → KnowsDue entries o
-  opened-due entries slots slot within =
-      unheard slot
-      ∙ flagged-same (has_bit o.mask slot) (has_bit sendable slot) (is_some (instance_in entries slot o.cycle)) (not (has_bit o.heard slot)) (slots slot)
-
-  pub opened-instances : (slots : List Ready) → AreSendableIn o.cycle sendable slots → KnowsInstances slots o
-  opened-instances slots known slot has =
-      let flagged = and_parts (has_bit o.mask slot) (has_bit sendable slot && not (has_bit o.heard slot)) (sym (unheard slot) ∙ has) in
-      known slot (and_parts (has_bit sendable slot) (not (has_bit o.heard slot)) flagged.1).0
 
 -- the frame of a slot that is due is known
 bytes-some : (found : Option Instance) (bytes : List ℕ) → option_map bytes_of found ≡ Some bytes → option_map_or bytes_of found [] ≡ bytes

@@ -66,10 +66,6 @@ own_heard entries frames slot = has_entry entries slot && list_any (λ one. one.
 abbrev heard_with : Opened → (ℕ → Bool) → Opened
 heard_with opened p = record opened { heard = set_of most_slots (λ slot. has_bit opened.heard slot || p slot) }
 
-or_false : (b : Bool) → b ≡ (b || false)
-or_false true = refl
-or_false false = refl
-
 and_none : (b c : Bool) → b ≡ (b || (c && false))
 and_none true c = refl
 and_none false true = refl

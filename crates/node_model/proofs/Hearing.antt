@@ -20,6 +20,7 @@ use Rattle.async_window.specs.declared.request.Owner.{Owner}
 use Rattle.async_window.specs.declared.request.Request.{Request}
 use Rattle.async_window.specs.Mailbox.{Mail, mail_after, taken_from, without_first}
 use Rattle.async_window.specs.Waiting.{unsent_after}
+use Rattle.async_window.proofs.Shared.{mail_after-next}
 use Rattle.requirement_table.specs.Opening.{Opening, width_of}
 use Rattle.node_model.specs.Opening.{start_of}
 use Rattle.node_model.specs.Node.{NodeState, after_hearing, counted, entries_of, identifiers_of, is_own_slot}
@@ -96,28 +97,23 @@ module _ (layout : CycleLayout) (owners : List Owner) (requests : List Request) 
       (ne_eqb _ _ (λ (same : (get_or sent k d).frame.identifier ≡ first_identifier + slot). omega (arith, same, below)))))
 
   same_mail : (ids : List ℕ) (past : List TimedFrame) (sent : TimedFrame)
-      → mail_after ids requests (past ++ sent ∷ []) ≡ without_first sent.frame.identifier (mail_after ids requests past)
       → All (λ box. 0x200 ≤ box.identifier) (mail_after ids requests past) → sent.frame.identifier < 0x200
       → mail_after ids requests past ≡ mail_after ids requests (past ++ sent ∷ [])
-  same_mail ids past sent taken above below =
-      sym (taken ∙ without_first-none sent.frame.identifier (mail_after ids requests past) below above)
+  same_mail ids past sent above below =
+      sym (mail_after-next ids requests past sent ∙ without_first-none sent.frame.identifier (mail_after ids requests past) below above)
 
   -- trigger frames take away no request
   same_mail-all : (number : ℕ) → AreOwners owners
-      → ((past : List TimedFrame) (one : TimedFrame) → mail_after (identifiers_of number owners) requests (past ++ one ∷ [])
-      ≡ without_first one.frame.identifier (mail_after (identifiers_of number owners) requests past))
       → (sent past : List TimedFrame) → All IsBelowTwo sent
       → mail_after (identifiers_of number owners) requests past ≡ mail_after (identifiers_of number owners) requests (past ++ sent)
-  same_mail-all number are taken [] past triggers = ap (mail_after (identifiers_of number owners) requests) (sym (append-nil past))
-  same_mail-all number are taken (one ∷ rest) past triggers =
+  same_mail-all number are [] past triggers = ap (mail_after (identifiers_of number owners) requests) (sym (append-nil past))
+  same_mail-all number are (one ∷ rest) past triggers =
       let below = All-head IsBelowTwo one rest triggers in
-      same_mail (identifiers_of number owners) past one (taken past one) (mail_after-least number owners requests past are) (omega (arith, below))
-      ∙ same_mail-all number are taken rest (past ++ one ∷ []) (All-tail IsBelowTwo one rest triggers)
+      same_mail (identifiers_of number owners) past one (mail_after-least number owners requests past are) (omega (arith, below))
+      ∙ same_mail-all number are rest (past ++ one ∷ []) (All-tail IsBelowTwo one rest triggers)
       ∙ ap (mail_after (identifiers_of number owners) requests) (append_assoc past (one ∷ []) rest)
 
-  module _ (past : List TimedFrame) (sent : TimedFrame) (number frames : ℕ) (noted : Noted) (are : AreOwners owners)
-      (taken : mail_after (identifiers_of number owners) requests (past ++ sent ∷ [])
-      ≡ without_first sent.frame.identifier (mail_after (identifiers_of number owners) requests past)) where
+  module _ (past : List TimedFrame) (sent : TimedFrame) (number frames : ℕ) (noted : Noted) (are : AreOwners owners) where
     abbrev mail : List Mail
     mail = mail_after (identifiers_of number owners) requests past
 
@@ -152,7 +148,7 @@ module _ (layout : CycleLayout) (owners : List Owner) (requests : List Request) 
             other-frame open_node sent other
             ∙ cond-true (is_own_slot entries id) _ _ own
             ∙ ap (λ m. record (in_cycle number noted past more (counted frames)) { mail = m })
-            (same_mail (identifiers_of number owners) past sent taken above
+            (same_mail (identifiers_of number owners) past sent above
             (let slot = slot_of in let within = slot.1 in let is = slot.2 in omega arith))
 
         same_test : (slot : ℕ) → eqb slot (id - first_identifier) ≡ eqb id (first_identifier + slot)
@@ -179,7 +175,7 @@ module _ (layout : CycleLayout) (owners : List Owner) (requests : List Request) 
         hears_none =
             other-frame open_node sent other
             ∙ cond-false (is_own_slot entries id) _ _ none
-            ∙ ap (λ m. record (in_cycle number noted past heard (counted frames)) { mail = m }) (sym taken)
+            ∙ ap (λ m. record (in_cycle number noted past heard (counted frames)) { mail = m }) (sym (mail_after-next (identifiers_of number owners) requests past sent))
 
         apart_from : (slot : ℕ) → list_any (λ p. p.entry.slot == slot) entries ≡ true → id ≡ first_identifier + slot → ⊥
         apart_from slot its same =
@@ -203,17 +199,15 @@ module _ (layout : CycleLayout) (owners : List Owner) (requests : List Request) 
                 (in_cycle-stands number noted (past ++ sent ∷ []) heard (counted frames) (marks_none none))
           ]
 
-module _ (layout : CycleLayout) (owners : List Owner) (requests : List Request) (opening : Opening) (past sent : List TimedFrame)
-    (taken : (ids : List ℕ) (earlier : List TimedFrame) (one : TimedFrame)
-    → mail_after ids requests (earlier ++ one ∷ []) ≡ without_first one.frame.identifier (mail_after ids requests earlier)) (are : AreOwners owners) where
-  stands-opened : (node : NodeState) (frames : ℕ) → All (λ earlier. earlier.start < start_of layout opening) past → All IsBelowTwo sent
+module _ (layout : CycleLayout) (owners : List Owner) (requests : List Request) (opening : Opening) (past sent : List TimedFrame) where
+  stands-opened : (node : NodeState) (frames : ℕ) → AreOwners owners → All (λ earlier. earlier.start < start_of layout opening) past → All IsBelowTwo sent
       → StandsOnBus layout owners requests opening.placed past opening.cycle node
       → StandsIn layout owners requests opening (past ++ sent) (opening_done node (width_of opening) opening.mask frames)
-  stands-opened node frames before triggers stands = record {
+  stands-opened node frames are before triggers stands = record {
     stands = record {
       same_layout = stands.same_layout;
       own_entries = stands.own_entries;
-      own_mail = stands.own_mail ∙ same_mail-all layout owners requests opening node.number are (taken (identifiers_of node.number owners)) sent past triggers;
+      own_mail = stands.own_mail ∙ same_mail-all layout owners requests opening node.number are sent past triggers;
       next_cycle = ap (λ c. c + 1) stands.next_cycle;
     };
     opened = opened_with node.next (width_of opening) opening.mask;
@@ -226,11 +220,11 @@ module _ (layout : CycleLayout) (owners : List Owner) (requests : List Request) 
     };
   }
 
-  pub stands-trigger : (node : NodeState) → IsLayout layout → width_of opening ≤ layout.window → opening.mask < 2 ^ layout.slots
+  pub stands-trigger : (node : NodeState) → AreOwners owners → IsLayout layout → width_of opening ≤ layout.window → opening.mask < 2 ^ layout.slots
       → All (λ earlier. earlier.start < start_of layout opening) past → map (λ one. one.frame) sent ≡ trigger_frames layout opening
       → StandsOnBus layout owners requests opening.placed past opening.cycle node
       → StandsIn layout owners requests opening (past ++ sent) (fold after_hearing node sent)
-  stands-trigger node is small below before triggers stands =
+  stands-trigger node are is small below before triggers stands =
       let same = sym stands.same_layout in
       let its : map (λ one. one.frame) sent ≡ triggers_with node.layout.slots node.next (width_of opening) opening.mask =
       triggers ∙ ap (λ l. triggers_with l.slots opening.cycle (width_of opening) opening.mask) same
@@ -238,17 +232,16 @@ module _ (layout : CycleLayout) (owners : List Owner) (requests : List Request) 
       let opens = opens-next node (width_of opening) opening.mask (subst IsLayout same is) (subst (λ l. width_of opening ≤ l.window) same small)
       (subst (λ l. opening.mask < 2 ^ l.slots) same below) sent its in
       subst (λ (n : NodeState). StandsIn layout owners requests opening (past ++ sent) n) (sym opens.1)
-      (stands-opened node opens.0 before (trigger-identifiers layout.slots opening.cycle (width_of opening) opening.mask sent triggers) stands)
+      (stands-opened node opens.0 are before (trigger-identifiers layout.slots opening.cycle (width_of opening) opening.mask sent triggers) stands)
 
 pub stands-later : (layout : CycleLayout) (owners : List Owner) (requests : List Request) (opening : Opening) (past : List TimedFrame)
     (sent : TimedFrame) (node : NodeState)
-    → ((ids : List ℕ) → mail_after ids requests (past ++ sent ∷ []) ≡ without_first sent.frame.identifier (mail_after ids requests past))
     → AreOwners owners → IsWellPlaced opening.placed → 1 < sent.frame.identifier → start_of layout opening ≤ sent.start
     → StandsIn layout owners requests opening past node
     → StandsIn layout owners requests opening (past ++ sent ∷ []) (after_hearing node sent)
-stands-later layout owners requests opening past sent node taken are well other begun stands =
+stands-later layout owners requests opening past sent node are well other begun stands =
     subst (λ (n : NodeState). StandsIn layout owners requests opening (past ++ sent ∷ []) (after_hearing n sent))
     (sym (standing_in-is layout owners requests opening past node stands))
-    (stands_in-later layout owners requests opening past sent node.number node.frames node.noted are (taken (identifiers_of node.number owners))
+    (stands_in-later layout owners requests opening past sent node.number node.frames node.noted are
     stands.opened.heard well other begun
     (λ slot within own. stands.is_open.heard slot within (ap (list_any (λ p. p.entry.slot == slot)) stands.stands.own_entries ∙ own)))

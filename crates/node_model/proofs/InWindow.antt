@@ -121,9 +121,10 @@ bytes_kept entries slot true k None = refl
 bytes_kept entries slot true k (Some o) = refl
 bytes_kept entries slot false k opened = refl
 
-pub frame-kept : (node : NodeState) (one : TimedFrame) (slot : ℕ) → IsNode node → IsOfSlot one → due_frame (after_hearing node one) slot ≡ due_frame node slot
-frame-kept node one slot known of_slot =
-    ap (λ n. due_frame n slot) (hear-one node one known.mail.least of_slot)
+pub frame-kept : (node : NodeState) (k slot : ℕ) (one : TimedFrame) → IsNode node → one.frame.identifier ≡ first_identifier + k → k < most_slots
+    → due_frame (after_hearing node one) slot ≡ due_frame node slot
+frame-kept node k slot one known is inside =
+    ap (λ n. due_frame n slot) (hear-one node one known.mail.least (omega (arith, is), omega (arith, is, inside)))
     ∙ ap (λ bytes. record { identifier = first_identifier + slot; bytes = bytes })
     (bytes_kept node.entries slot (is_own_slot node.entries one.frame.identifier) (one.frame.identifier - first_identifier) node.opened)
 
@@ -180,9 +181,9 @@ no_instance (p ∷ rest) slot cycle none =
     ∙ no_instance rest slot cycle parts.1
 
 -- the frame of a slot takes that slot away, and no other one
-pub due-kept : (node : NodeState) (one : TimedFrame) (k slot : ℕ) → IsNode node → one.frame.identifier ≡ first_identifier + k → k < most_slots → slot < most_slots
+pub due-kept : (node : NodeState) (k slot : ℕ) (one : TimedFrame) → IsNode node → one.frame.identifier ≡ first_identifier + k → k < most_slots → slot < most_slots
     → is_due_slot (after_hearing node one) slot ≡ (not (slot == k) && is_due_slot node slot)
-due-kept node one k slot known is inside within =
+due-kept node k slot one known is inside within =
     let id = one.frame.identifier in
     let its : id - first_identifier ≡ k = omega (arith, is) in
     ap (λ n. is_due_slot n slot) (hear-one node one known.mail.least (omega (arith, is), omega (arith, is, inside)))

@@ -1,9 +1,8 @@
 -- What is known of a node's own entries, identifiers and slots.
-use Rattle.std.proofs.Common.{◌≡◌, ◌≢◌, ℕ, ◌+◌, ◌-◌, ◌^◌, ◌<◌, ◌≤◌, ◌||◌, ◌==◌, true, false, Option, Some, None, MatchOption, ◌⊎◌, List, [], ◌∷◌, length, map, filter, All, AllPairs, refl, sym, ap, ◌∙◌, arith, ⊎_elim}
+use Rattle.std.proofs.Common.{◌≡◌, ◌≢◌, ℕ, ◌+◌, ◌-◌, ◌^◌, ◌<◌, ◌≤◌, ◌||◌, ◌==◌, true, false, Option, Some, None, MatchOption, ◌⊎◌, List, [], ◌∷◌, filter, All, AllPairs, refl, sym, ap, ◌∙◌, arith, ⊎_elim}
 use Rattle.std.specs.List.{list_any}
 use Rattle.std.proofs.lemmas.Bool.{cases_lt}
 use Rattle.std.proofs.lemmas.Bool.Decides.{nat_tests}
-use Rattle.std.proofs.lemmas.List.{get_or-map, length-map}
 use Rattle.std.proofs.lemmas.List.Elements.{All-filter, All-map}
 use Rattle.std.proofs.lemmas.List.Kept.{AllPairs-filter}
 use Rattle.profile.specs.Limits.{first_identifier}
@@ -12,6 +11,7 @@ use Rattle.bit_sets.specs.Sets.{has_bit, most_slots}
 use Rattle.bit_sets.proofs.Shared.{has_bit-above}
 use Rattle.requirement_table.specs.Table.{IsInRange, GoesBefore, IsWellPlaced}
 use Rattle.async_window.specs.declared.request.Owner.{Owner}
+use Rattle.async_window.proofs.Shared.{AllPairs-map}
 use Rattle.node_model.specs.Node.{entries_of, identifiers_of, is_own_slot}
 use Rattle.node_model.specs.Kept.{AreSlotsOf}
 
@@ -27,12 +27,6 @@ pub identifiers_of-all : (P : ℕ → Type 0) (number : ℕ) (owners : List Owne
 identifiers_of-all P number owners all =
     All-map P (λ owner. owner.id) (filter (λ owner. owner.node == number) owners)
     (All-filter (λ owner. owner.node == number) (λ owner. P owner.id) owners all)
-
-AllPairs-map : {X Y : Type 0} (R : X → X → Type 0) (f : Y → X) (ys : List Y) → (X → Y)
-    → AllPairs (λ one other. R (f one) (f other)) ys → AllPairs R (map f ys)
-AllPairs-map R f ys back pairs i j d before within =
-    let inside : j < length ys = omega (arith, length-map ys f) in
-    rw (get_or-map f ys i (back d) d (omega arith), get_or-map f ys j (back d) d inside) (pairs i j (back d) before inside)
 
 -- the identifiers of a node are distinct
 pub identifiers_of-distinct : (number : ℕ) (owners : List Owner) → AllPairs (λ one other. one.id ≢ other.id) owners → AllPairs (λ one other. one ≢ other) (identifiers_of number owners)

@@ -266,10 +266,6 @@ module _ (node : NodeState) (at : ℕ) (o : Open) (known : IsNode node) (opened 
       (λ (nowhere : is_there ≡ false). subst (IsNextOffer node at) (sym (value ∙ ap (λ b. if b then Some first_at else None) nowhere)) (due-nowhere nowhere))
       (cases_Bool is_there)
 
-pub never-offers : (node : NodeState) (at : ℕ) → node.opened ≡ None → IsNextOffer node at None
-never-offers node at none = λ later has.
-    let nothing : node_offer node later ≡ None = rw none refl in false≢true (subst IsSome nothing has.1)
-
 -- what an offered identifier says
 
 -- it is that of a slot that is due, or one of the mailboxes'

@@ -18,6 +18,7 @@ use Rattle.async_window.specs.declared.request.Owner.{Owner}
 use Rattle.async_window.specs.declared.request.Request.{Request}
 use Rattle.async_window.specs.Waiting.{MayStart, frames_with, requests_of, unsent_after}
 use Rattle.async_window.specs.Mailbox.{IsLeastWith, IsMail, Mail, OffersIdentifier, mail_after, mail_offer, unsent_of}
+use Rattle.async_window.proofs.Shared.{Offers-among, Offers-least, unsent_of-among}
 use Rattle.requirement_table.specs.Opening.{Opening, width_of}
 use Rattle.trigger_codec.specs.Heard.{Noted}
 use Rattle.node_model.specs.Opening.{start_of, window_start}
@@ -191,9 +192,13 @@ module _ (layout : CycleLayout) (owners : List Owner) (requests : List Request) 
       (due-offers late) (offers-due late) (least_where-least most_slots (is_due entries (opened_for opening heard))))
 
   -- before it
-  module _ (known : IsMail mail)
-      (among_mail : (id : ℕ) → OffersIdentifier layout (width_of opening) mail at id → Contains (map (λ box. box.identifier) mail) id)
-      (unsent_among : (id : ℕ) → Contains ids id → unsent_of mail id ≡ unsent_after requests past id) where
+  module _ (known : IsMail mail) where
+    among_mail : (id : ℕ) → OffersIdentifier layout (width_of opening) mail at id → Contains (map (λ box. box.identifier) mail) id
+    among_mail = Offers-among layout (width_of opening) at mail
+
+    unsent_among : (id : ℕ) → Contains ids id → unsent_of mail id ≡ unsent_after requests past id
+    unsent_among = unsent_of-among ids requests past
+
     may_start-same : (c d : ℕ) (one other : List Request) (request : Request) → c ≡ d → one ≡ other
         → MayStart layout c (width_of opening) one at request → MayStart layout d (width_of opening) other at request
     may_start-same c d one other request same also may =
@@ -238,12 +243,9 @@ module _ (layout : CycleLayout) (owners : List Owner) (requests : List Request) 
     offers-least least = elim (cases_lt at (window_start layout opening)) [ inl early ↦ offers-early least early | inr late ↦ offers-late late ]
 
 pub offers_own_part : (layout : CycleLayout) (owners : List Owner) (requests : List Request) (opening : Opening) (past : List TimedFrame) (at : ℕ) (node : NodeState)
-    → ((mail : List Mail) → IsMail mail → IsLeastWith (OffersIdentifier layout (width_of opening) mail at) (mail_offer layout (width_of opening) mail at))
-    → ((mail : List Mail) (id : ℕ) → OffersIdentifier layout (width_of opening) mail at id → Contains (map (λ box. box.identifier) mail) id)
-    → ((ids : List ℕ) (id : ℕ) → Contains ids id → unsent_of (mail_after ids requests past) id ≡ unsent_after requests past id)
     → IsNode node → IsWellPlaced opening.placed → StandsIn layout owners requests opening past node → at / layout.cycle ≡ opening.cycle
     → OffersLeastOwn layout owners requests opening past at node
-offers_own_part layout owners requests opening past at node least among unsent is_node well stands time =
+offers_own_part layout owners requests opening past at node is_node well stands time =
     let mail : List Mail = mail_after (identifiers_of node.number owners) requests past in
     let known : IsMail mail = subst IsMail stands.stands.own_mail is_node.mail in
     let its_layout : IsLayout layout = subst IsLayout stands.stands.same_layout is_node.layout in
@@ -252,4 +254,4 @@ offers_own_part layout owners requests opening past at node least among unsent i
     (sym (standing_in-is layout owners requests opening past node stands))
     (offers-least layout owners requests opening past at node.number node.frames stands.opened.heard node.noted (omega arith) well time
     (λ slot within own. stands.is_open.heard slot within (ap (list_any (λ p. p.entry.slot == slot)) stands.stands.own_entries ∙ own))
-    known (among mail) (unsent (identifiers_of node.number owners)) (least mail known))
+    known (Offers-least layout (width_of opening) at mail known))

@@ -1,5 +1,5 @@
 -- A node that stands to a bus is one record, made of its number, the bus, and what it heard.
-use Rattle.std.proofs.Common.{◌≡◌, ℕ, ◌+◌, Option, Some, List, refl, ap, ◌∙◌}
+use Rattle.std.proofs.Common.{◌≡◌, ℕ, ◌+◌, Option, Some, List, ap, ◌∙◌}
 use Rattle.can_frame.specs.declared.data_frame.TimedFrame.{TimedFrame}
 use Rattle.cycle_layout.specs.Layout.{CycleLayout}
 use Rattle.requirement_table.specs.declared.entries.Placed.{Placed}
@@ -9,7 +9,7 @@ use Rattle.trigger_codec.specs.Heard.{Noted}
 use Rattle.async_window.specs.Mailbox.{Mail, mail_after}
 use Rattle.requirement_table.specs.Opening.{Opening, width_of}
 use Rattle.node_model.specs.Node.{NodeState, Opened, entries_of, identifiers_of}
-use Rattle.node_model.specs.Own.{StandsIn, StandsOnBus}
+use Rattle.node_model.specs.Own.{StandsIn}
 
 same_node : (node : NodeState) (layout : CycleLayout) (entries : List Placed) (mail : List Mail) (opened : Option Opened) (next : ℕ)
     → node.layout ≡ layout → node.entries ≡ entries → node.mail ≡ mail → node.opened ≡ opened → node.next ≡ next
@@ -46,13 +46,6 @@ standing layout owners requests placed past next number opened frames noted = re
 -- the cycle as it is open for a node that heard these slots
 abbrev pub opened_for : Opening → ℕ → Opened
 opened_for opening heard = record { cycle = opening.cycle; width = width_of opening; mask = opening.mask; heard = heard }
-
-pub standing-is : (layout : CycleLayout) (owners : List Owner) (requests : List Request) (placed : List Placed) (past : List TimedFrame) (next : ℕ)
-    (node : NodeState) → StandsOnBus layout owners requests placed past next node
-    → node ≡ standing layout owners requests placed past next node.number node.opened node.frames node.noted
-standing-is layout owners requests placed past next node stands =
-    same_node node layout (entries_of node.number placed) (mail_after (identifiers_of node.number owners) requests past) node.opened next
-    stands.same_layout stands.own_entries stands.own_mail refl stands.next_cycle
 
 same_opened : (o : Opened) (cycle width flags : ℕ) → o.cycle ≡ cycle → o.width ≡ width → o.mask ≡ flags
     → o ≡ record { cycle = cycle; width = width; mask = flags; heard = o.heard }

@@ -8,7 +8,7 @@ use Rattle.requirement_table.specs.Table.{IsWellPlaced}
 use Rattle.trigger_codec.specs.declared.message.Trigger.{Trigger}
 use Rattle.trigger_codec.specs.Bytes.{trigger_of}
 use Rattle.trigger_codec.proofs.Shared.{first-noted, last-fits}
-use Rattle.async_window.specs.Mailbox.{IsMail, Mail, without_first}
+use Rattle.async_window.proofs.Shared.{IsMail-without}
 use Rattle.trigger_kind.specs.Kind.{opening_identifier, triggers_of}
 use Rattle.node_model.specs.Node.{IsNode, NodeState, Opened, after_hearing, counted, learnt, opened_by, opening_trigger, with_heard}
 use Rattle.node_model.specs.Own.{counting}
@@ -50,10 +50,9 @@ more-frames slots id other first zeroth =
 counted-small : (n : ℕ) → n < 2 ^ 64 → counted n < 2 ^ 64
 counted-small n small = omega arith
 
-pub node-hearing : ((id : ℕ) (mail : List Mail) → IsMail mail → IsMail (without_first id mail))
-    → (node : NodeState) (sent : TimedFrame) → (sent.frame.identifier ≡ opening_identifier node.layout.slots → node.next < 2 ^ 42) → IsNode node
+pub node-hearing : (node : NodeState) (sent : TimedFrame) → (sent.frame.identifier ≡ opening_identifier node.layout.slots → node.next < 2 ^ 42) → IsNode node
     → IsNode (after_hearing node sent)
-node-hearing kept node sent early is =
+node-hearing node sent early is =
     after_hearing-keeps IsNode node sent
     (λ opening. record {
       layout = is.layout;
@@ -87,7 +86,7 @@ node-hearing kept node sent early is =
     (record {
       layout = is.layout;
       entries = is.entries;
-      mail = kept sent.frame.identifier node.mail is.mail;
+      mail = IsMail-without sent.frame.identifier node.mail is.mail;
       opened = is.opened;
       next = is.next;
       frames = counted-small node.frames is.frames;

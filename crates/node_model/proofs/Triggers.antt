@@ -119,6 +119,11 @@ opens-next node l mask is small below =
     (λ many one two same also.
     ((counting (counting node)).frames, opens-two node l mask small largest many (subst (λ n. mask < 2 ^ n) many below) one two same also))
 
+pub opens-cycle : (node : NodeState) (l mask : ℕ) (sent : List TimedFrame) → IsLayout node.layout → l ≤ node.layout.window → mask < 2 ^ node.layout.slots
+    → frames_of sent ≡ triggers_with node.layout.slots node.next l mask
+    → (fold after_hearing node sent).opened ≡ Some (record { cycle = node.next; width = l; mask = mask; heard = 0 })
+opens-cycle node l mask sent is small below are = ap (λ (n : NodeState). n.opened) (opens-next node l mask is small below sent are).1
+
 -- the identifiers of trigger frames are 0 and 1
 abbrev pub IsBelowTwo : TimedFrame → Type 0
 IsBelowTwo one = one.frame.identifier < 2

@@ -1,5 +1,4 @@
-//! Laws about the definitions of this crate. Each function has an empty body or calls other laws, and its contract is
-//! the law.
+//! Laws about the definitions of this crate. Each function has an empty body, and its contract is the law.
 
 ghost use Rattle.std.specs.Prelude.{◌≡◌, ◌≢◌, ℕ, ◌+◌, ◌/◌, ◌^◌, ◌<◌, ◌≤◌, ◌==◌, ◌&&◌, ◌⊎◌};
 ghost use Rattle.std.specs.Prelude.{not, List, [], ◌∷◌, ◌++◌, fold, map, All, MatchOption, None, Some, false, true};
@@ -22,8 +21,6 @@ ghost use Rattle.node_model.specs.Window.{IsInWindow, due_frame, is_due_slot};
 ghost use Rattle.async_window.specs.Owners.{AreOwners};
 ghost use Rattle.node_model.specs.Own.{AreApart, HasRequest, OffersLeastOwn, StandsIn, StandsOnBus, counting};
 
-use async_window::laws::{offer_laws, taking_laws, unsent_laws};
-
 /// What a node offers is the least of its own part of what is offered on the bus.
 pub fn offers_its_part()
     ensures own_part { (layout : CycleLayout) (owners : List Owner) (requests : List Request) (opening : Opening)
@@ -31,10 +28,7 @@ pub fn offers_its_part()
         → IsNode node → IsWellPlaced opening.placed
         → StandsIn layout owners requests opening past node → at / layout.cycle ≡ opening.cycle
         → OffersLeastOwn layout owners requests opening past at node }
-{
-    unsent_laws();
-    offer_laws();
-}
+{}
 
 /// What a node knows as it hears the frames of a cycle: the trigger frames first, and then frames of other identifiers.
 /// Between two trigger frames it offers nothing. Where a cycle has one, a frame with identifier 1 is only counted.
@@ -63,9 +57,7 @@ pub fn hears_a_cycle()
         → 1 < sent.frame.identifier → start_of layout opening ≤ sent.start
         → StandsIn layout owners requests opening past node
         → StandsIn layout owners requests opening (past ++ sent ∷ []) (after_hearing node sent) }
-{
-    unsent_laws();
-}
+{}
 
 /// Two nodes of different numbers, with the same layout and owners, that last learnt the same list or of which one has
 /// learnt none never offer one identifier at the same time.
@@ -84,10 +76,7 @@ pub fn nodes_are_apart()
     ensures turned { (one other : NodeState) → AreApart one other → AreApart other one }
     ensures never_both { (one other : NodeState) (at id : ℕ) → one.layout ≡ other.layout → IsNode one → IsNode other
         → AreApart one other → node_offer one at ≡ Some id → node_offer other at ≡ Some id → ⊥ }
-{
-    taking_laws();
-    offer_laws();
-}
+{}
 
 /// What nodes do with a frame of which one of them has an unsent request: that one takes the request away and counts
 /// the frame, and another one that is apart from it only counts the frame.
@@ -105,9 +94,7 @@ pub fn stays_a_node()
     ensures hearing { (node : NodeState) (sent : TimedFrame)
         → (sent.frame.identifier ≡ opening_identifier node.layout.slots → node.next < cycles_end) → IsNode node
         → IsNode (after_hearing node sent) }
-{
-    taking_laws();
-}
+{}
 
 /// A node in the synchronous window of the cycle that is open for it: it offers the least slot that it is to send, and
 /// the frame of a slot takes that slot away and no other one. The trigger frames open the cycle.
@@ -139,6 +126,4 @@ pub fn sends_its_slots()
 pub fn offers_in_range()
     ensures in_range { (node : NodeState) (at id : ℕ) → IsNode node → node_offer node at ≡ Some id
         → (first_identifier ≤ id) × (id ≤ greatest_identifier) }
-{
-    offer_laws();
-}
+{}

@@ -4,8 +4,7 @@ use Rattle.node_model.proofs.OnlyCounted.{only_counted}
 use Rattle.node_model.proofs.laws.hears_a_cycle.Goals as goal
 
 pub returns-clause-trigger : goal.returns-clause-trigger
-returns-clause-trigger c = λ layout owners requests opening past sent node are.
-    stands-trigger layout owners requests opening past sent (λ ids. c.unsent_laws.ensures.sent ids requests) are node
+returns-clause-trigger c = stands-trigger
 
 pub returns-clause-between : goal.returns-clause-between
 returns-clause-between c = quiet-between
@@ -14,5 +13,4 @@ pub returns-clause-only_counted : goal.returns-clause-only_counted
 returns-clause-only_counted c = only_counted
 
 pub returns-clause-later : goal.returns-clause-later
-returns-clause-later c = λ layout owners requests opening past sent node.
-    stands-later layout owners requests opening past sent node (λ ids. c.unsent_laws.ensures.sent ids requests past sent)
+returns-clause-later c = stands-later
