@@ -1,15 +1,14 @@
 -- A run of the bus over the nodes and the trigger frames of a cycle gives the frames that are offered in the cycle, and
 -- the nodes stand for them.
-use Rattle.std.proofs.Common.{◌≡◌, ℕ, ◌+◌, ◌/◌, ◌^◌, ◌<◌, ◌≤◌, List, [], ◌∷◌, ◌++◌, All, Contains, Some, length, map, inl, inr, refl, sym, ap, ◌∙◌, subst, arith, append_assoc, append-nil, get_or}
+use Rattle.std.proofs.Common.{◌≡◌, ℕ, ◌+◌, ◌/◌, ◌^◌, ◌<◌, ◌≤◌, List, [], ◌∷◌, ◌++◌, All, Contains, map, inl, inr, refl, sym, ap, ◌∙◌, subst, arith, append_assoc, append-nil, get_or}
 use Rattle.std.specs.Prelude.{◌==◌, fold}
 use Rattle.std.proofs.Math.Nat.{add-mul, div-eq_of_lt-le}
 use Rattle.std.proofs.lemmas.List.Elements.{All-contains, All-filter, All-map, All-weaker}
 use Rattle.std.proofs.lemmas.List.Sums.{fold-append}
 use Rattle.can_frame.specs.DataFrame.{DataFrame}
-use Rattle.can_frame.specs.Wire.{wire_length}
 use Rattle.can_frame.specs.declared.data_frame.TimedFrame.{TimedFrame}
 use Rattle.cycle_layout.specs.Layout.{CycleLayout, IsLayout, trigger_part}
-use Rattle.requirement_table.specs.Instance.{bytes_of, worst}
+use Rattle.requirement_table.specs.Instance.{bytes_of}
 use Rattle.requirement_table.specs.Table.{IsWellPlaced}
 use Rattle.async_window.specs.declared.request.Owner.{Owner}
 use Rattle.async_window.specs.declared.request.Request.{Request}
@@ -19,10 +18,11 @@ use Rattle.requirement_table.specs.Opening.{Opening, width_of}
 use Rattle.node_model.specs.Opening.{end_of_cycle, start_of}
 use Rattle.trigger_kind.specs.Kind.{opening_identifier, triggers_of}
 use Rattle.trigger_kind.proofs.Shared.{opening-low}
-use Rattle.node_model.specs.Node.{IsNode, NodeState, after_hearing, identifiers_of, node_offer}
+use Rattle.node_model.specs.Node.{IsNode, NodeState, after_hearing, identifiers_of}
 use Rattle.node_model.specs.Offered.{OffersRequest, trigger_frames}
 use Rattle.async_window.specs.Owners.{AreOwners}
 use Rattle.node_model.specs.Own.{OffersLeastOwn, OffersOwn, StandsIn, StandsOnBus}
+use Rattle.node_model.proofs.Shared.{node-hearing, offers_own_part, stands-later, stands-trigger}
 use Rattle.cycle_engine.specs.Nodes.{IsNumber, IsOwned, heard_by}
 use Rattle.cycle_engine.specs.Offered.{offered_in}
 use Rattle.cycle_engine.specs.Stations.{Stationed, all_hear, announced, cycle_line}
@@ -32,27 +32,6 @@ use Rattle.cycle_engine.proofs.Least.{is_own, least_by_nodes, some_by_nodes}
 use Rattle.cycle_engine.proofs.Hearing.{number_kept}
 use Rattle.cycle_engine.proofs.TriggerFrames.{AreLeft, AreLeft-all, AreLeft-sent, Follows-left, NoTrigger, NoTrigger-more, NoTrigger-sent, frames_long, frames_short, free_after-later, low_ids, opens_last}
 use Rattle.cycle_engine.proofs.Announced.{CanBeHeard, go-first, heard-first, heard-twice, map-same, map-twice}
-
--- the laws of nodes and of wires on which this stands
-pub record NodeLaws : Type 0 where
-  pub positive : (frame : DataFrame) → 0 < wire_length frame
-  pub own_part : (layout : CycleLayout) (owners : List Owner) (requests : List Request) (opening : Opening) (past : List TimedFrame) (at : ℕ) (node : NodeState)
-      → IsNode node → IsWellPlaced opening.placed → StandsIn layout owners requests opening past node → at / layout.cycle ≡ opening.cycle
-      → OffersLeastOwn layout owners requests opening past at node
-  pub trigger : (layout : CycleLayout) (owners : List Owner) (requests : List Request) (opening : Opening) (past sent : List TimedFrame) (node : NodeState)
-      → AreOwners owners → IsLayout layout → width_of opening ≤ layout.window → opening.mask < 2 ^ layout.slots
-      → All (λ earlier. earlier.start < start_of layout opening) past
-      → map (λ one. one.frame) sent ≡ trigger_frames layout opening
-      → StandsOnBus layout owners requests opening.placed past opening.cycle node
-      → StandsIn layout owners requests opening (past ++ sent) (fold after_hearing node sent)
-  pub later : (layout : CycleLayout) (owners : List Owner) (requests : List Request) (opening : Opening) (past : List TimedFrame) (sent : TimedFrame) (node : NodeState)
-      → AreOwners owners → IsWellPlaced opening.placed → 1 < sent.frame.identifier → start_of layout opening ≤ sent.start
-      → StandsIn layout owners requests opening past node
-      → StandsIn layout owners requests opening (past ++ sent ∷ []) (after_hearing node sent)
-  pub stays : (node : NodeState) (sent : TimedFrame) → (sent.frame.identifier ≡ opening_identifier node.layout.slots → node.next < 2 ^ 42) → IsNode node
-      → IsNode (after_hearing node sent)
-  pub in_range : (node : NodeState) (at id : ℕ) → IsNode node → node_offer node at ≡ Some id → (0x100 ≤ id) × (id ≤ 0x7EF)
-  pub at_most : (frame : DataFrame) → wire_length frame ≤ worst (length frame.bytes)
 
 numbers_kept : (nodes : List NodeState) (sent : TimedFrame) → map (λ node. node.number) nodes ≡ map (λ node. node.number) (all_hear nodes sent)
 numbers_kept [] sent = refl
@@ -98,16 +77,16 @@ pub record Standing (layout : CycleLayout) (owners : List Owner) (requests : Lis
   pub senders : HaveSenders nodes opening
   pub owned : All (IsOwned owners nodes) requests
 
-module _ (laws : NodeLaws) (layout : CycleLayout) (owners : List Owner) (requests : List Request) (opening : Opening)
+module _ (layout : CycleLayout) (owners : List Owner) (requests : List Request) (opening : Opening)
     (are_owners : AreOwners owners) (well_placed : IsWellPlaced opening.placed) where
   -- nodes that hear one more frame of the cycle
   Standing-more : (past : List TimedFrame) (nodes : List NodeState) (sent : TimedFrame) → 1 < sent.frame.identifier → start_of layout opening ≤ sent.start
       → Standing layout owners requests opening past nodes → Standing layout owners requests opening (past ++ sent ∷ []) (all_hear nodes sent)
   Standing-more past nodes sent other begun standing = record {
-    are = All-map IsNode (λ node. after_hearing node sent) nodes (All-weaker IsNode (λ node. IsNode (after_hearing node sent)) (λ node is. laws.stays node sent (λ opens. absurd (opens_not node.layout.slots sent.frame.identifier other opens)) is) nodes standing.are);
+    are = All-map IsNode (λ node. after_hearing node sent) nodes (All-weaker IsNode (λ node. IsNode (after_hearing node sent)) (λ node is. node-hearing node sent (λ opens. absurd (opens_not node.layout.slots sent.frame.identifier other opens)) is) nodes standing.are);
     stand = All-map (StandsIn layout owners requests opening (past ++ sent ∷ [])) (λ node. after_hearing node sent) nodes
         (All-weaker (StandsIn layout owners requests opening past) (λ node. StandsIn layout owners requests opening (past ++ sent ∷ []) (after_hearing node sent))
-        (λ node. laws.later layout owners requests opening past sent node are_owners well_placed other begun) nodes standing.stand);
+        (λ node. stands-later layout owners requests opening past sent node are_owners well_placed other begun) nodes standing.stand);
     senders = HaveSenders-kept opening nodes sent standing.senders;
     owned = All-weaker (IsOwned owners nodes) (IsOwned owners (all_hear nodes sent)) (IsOwned-kept owners nodes sent) requests standing.owned;
   }
@@ -116,7 +95,7 @@ module _ (laws : NodeLaws) (layout : CycleLayout) (owners : List Owner) (request
       → Standing layout owners requests opening past nodes → All (OffersLeastOwn layout owners requests opening past at) nodes
   parts_at past nodes at begun within standing =
       let here : at / layout.cycle ≡ opening.cycle = div-eq_of_lt-le layout.cycle begun within in
-      λ k d inside. laws.own_part layout owners requests opening past at (get_or nodes k d) (standing.are k d inside) well_placed (standing.stand k d inside) here
+      λ k d inside. offers_own_part layout owners requests opening past at (get_or nodes k d) (standing.are k d inside) well_placed (standing.stand k d inside) here
 
   own_id : (number : ℕ) (past : List TimedFrame) (at : ℕ) (frame : DataFrame) → OffersOwn number layout owners requests opening past at frame → 1 < frame.identifier
   own_id number past at frame (inl (offers, contains)) =
@@ -197,13 +176,13 @@ pub record Waiting (layout : CycleLayout) (owners : List Owner) (requests : List
 pub part-within : (layout : CycleLayout) (opening : Opening) → IsLayout layout → start_of layout opening + trigger_part layout ≤ end_of_cycle layout opening
 part-within layout opening is = omega (arith, add-mul opening.cycle 1 layout.cycle, is.room)
 
-module _ (laws : NodeLaws) (layout : CycleLayout) (owners : List Owner) (requests : List Request) (opening : Opening)
+module _ (layout : CycleLayout) (owners : List Owner) (requests : List Request) (opening : Opening)
     (are_owners : AreOwners owners) (well_placed : IsWellPlaced opening.placed) (past : List TimedFrame) (nodes : List NodeState)
     (waiting : Waiting layout owners requests opening past nodes) where
   asynchronous : (before : List TimedFrame) (at : ℕ) (other : DataFrame) → OffersRequest layout requests opening before at other → 1 < other.identifier
   asynchronous before at other offers =
       let own = IsOwn-request layout owners requests opening before at nodes waiting.owned other offers in
-      own_id laws layout owners requests opening are_owners well_placed own.0.number before at other own.2
+      own_id layout owners requests opening are_owners well_placed own.0.number before at other own.2
 
   -- nodes that hear the trigger frames
   Standing-trigger : (sent : List TimedFrame) → map (λ one. one.frame) sent ≡ trigger_frames layout opening → All IsNode (heard_by sent nodes)
@@ -212,7 +191,7 @@ module _ (laws : NodeLaws) (layout : CycleLayout) (owners : List Owner) (request
     are = known;
     stand = All-map (StandsIn layout owners requests opening (past ++ sent)) (λ node. fold after_hearing node sent) nodes
         (All-weaker (StandsOnBus layout owners requests opening.placed past opening.cycle) (λ node. StandsIn layout owners requests opening (past ++ sent) (fold after_hearing node sent))
-        (λ node. laws.trigger layout owners requests opening past sent node are_owners waiting.is_layout waiting.width waiting.mask waiting.before is) nodes waiting.stand);
+        (λ node. stands-trigger layout owners requests opening past sent node are_owners waiting.is_layout waiting.width waiting.mask waiting.before is) nodes waiting.stand);
     senders = HaveSenders-heard opening sent nodes waiting.senders;
     owned = All-weaker (IsOwned owners nodes) (IsOwned owners (heard_by sent nodes)) (IsOwned-heard owners sent nodes) requests waiting.owned;
   }
@@ -221,7 +200,7 @@ module _ (laws : NodeLaws) (layout : CycleLayout) (owners : List Owner) (request
   can_hear = record {
     first = low_ids layout.slots opening.cycle (width_of opening) opening.mask;
     last = opens_last layout.slots opening.cycle (width_of opening) opening.mask;
-    short = frames_short layout.slots opening.cycle (width_of opening) opening.mask laws.at_most;
+    short = frames_short layout.slots opening.cycle (width_of opening) opening.mask;
     are = waiting.are;
     layouts = λ k d within. (waiting.stand k d within).same_layout;
     next = λ _ k d within. subst (λ c. c < 2 ^ 42) (sym (waiting.stand k d within).next_cycle) waiting.cycle;
@@ -235,15 +214,15 @@ module _ (laws : NodeLaws) (layout : CycleLayout) (owners : List Owner) (request
   Follows-cycle frames follows =
       let long = frames_long layout.slots opening.cycle (width_of opening) opening.mask in
       let part = part-within layout opening waiting.is_layout in
-      let cut = go-first layout (start_of layout opening) laws.in_range laws.stays (trigger_frames layout opening) nodes (announcing layout opening nodes) []
+      let cut = go-first layout (start_of layout opening) (trigger_frames layout opening) nodes (announcing layout opening nodes) []
       (start_of layout opening) (end_of_cycle layout opening) frames (omega arith) (omega (arith, long, part)) can_hear refl follows in
       let left = AreLeft-all layout opening past waiting.before in
       let done : AreLeft layout opening past cut.sent [] = AreLeft-sent layout opening past (start_of layout opening) cut.sent waiting.before cut.are (omega arith) cut.at_once in
       let late : start_of layout opening ≤ free_after (start_of layout opening) cut.sent = free_after-later (start_of layout opening) cut.sent cut.at_once in
-      let behind = Follows-nodes laws layout owners requests opening are_owners well_placed (announcing layout opening nodes) cut.sent (past ++ cut.sent) (heard_by cut.sent nodes)
+      let behind = Follows-nodes layout owners requests opening are_owners well_placed (announcing layout opening nodes) cut.sent (past ++ cut.sent) (heard_by cut.sent nodes)
       (free_after (start_of layout opening) cut.sent) cut.later cut.now (Standing-trigger cut.sent cut.are cut.known) (NoTrigger-sent layout opening past cut.sent done) late cut.follows in
       let all = Follows-left layout opening bytes_of requests asynchronous past [] (trigger_frames layout opening) (start_of layout opening) (end_of_cycle layout opening) cut.sent cut.later left
-      (omega arith) (omega (arith, long)) part (frames_short layout.slots opening.cycle (width_of opening) opening.mask laws.at_most) cut.are cut.at_once behind.0 in (
+      (omega arith) (omega (arith, long)) part (frames_short layout.slots opening.cycle (width_of opening) opening.mask) cut.are cut.at_once behind.0 in (
         subst (Follows (offered_in bytes_of layout requests opening) past (start_of layout opening) (end_of_cycle layout opening)) (sym cut.split)
             (subst (λ front. Follows (offered_in bytes_of layout requests opening) front (start_of layout opening) (end_of_cycle layout opening) (cut.sent ++ cut.later)) (append-nil past) all),
         subst (λ fs. Standing layout owners requests opening (past ++ fs) (heard_by fs nodes)) (sym cut.split)

@@ -1,5 +1,5 @@
 -- The trigger frames that the master has to send go before everything that the nodes offer, one at once behind the other.
-use Rattle.std.proofs.Common.{◌≡◌, ◌≢◌, ℕ, ◌+◌, ◌*◌, ◌^◌, ◌<◌, ◌≤◌, Bool, true, false, cond, List, [], ◌∷◌, ◌++◌, length, map, get_or, All, AllPairs, Contains, Some, inl, inr, refl, sym, ap, ◌∙◌, subst, arith, append_assoc, append-nil}
+use Rattle.std.proofs.Common.{◌≡◌, ◌≢◌, ℕ, ◌+◌, ◌*◌, ◌^◌, ◌<◌, ◌≤◌, Bool, true, false, cond, List, [], ◌∷◌, ◌++◌, length, map, get_or, All, AllPairs, Contains, inl, inr, refl, sym, ap, ◌∙◌, subst, arith, append_assoc, append-nil}
 use Rattle.std.specs.Prelude.{fold, nat_le}
 use Rattle.std.proofs.lemmas.Bool.{cases_lt, eq-eqb, le-leb}
 use Rattle.std.proofs.lemmas.List.Elements.{All-contains, All-head, All-map, All-tail, Contains-append_cases}
@@ -8,12 +8,12 @@ use Rattle.can_frame.specs.DataFrame.{DataFrame}
 use Rattle.can_frame.specs.Wire.{wire_length}
 use Rattle.can_frame.specs.declared.data_frame.TimedFrame.{TimedFrame}
 use Rattle.cycle_layout.specs.Layout.{CycleLayout}
-use Rattle.requirement_table.specs.Instance.{worst}
 use Rattle.trigger_codec.specs.Bytes.{triggers_with}
 use Rattle.bus_line.specs.Trace.{Follows, IsNext, end_of, free_after}
 use Rattle.bus_line.specs.Stations.{IsOffered, offers_of, told}
 use Rattle.trigger_kind.specs.Kind.{opening_identifier}
 use Rattle.node_model.specs.Node.{IsNode, NodeState, after_hearing, node_offer}
+use Rattle.node_model.proofs.Shared.{node-hearing, offers-in_range}
 use Rattle.cycle_engine.specs.Nodes.{heard_by}
 use Rattle.cycle_engine.specs.Stations.{DueTrigger, Stationed, all_hear, announced, cycle_line, due_from, frame_by_nodes, offered_by_nodes}
 use Rattle.cycle_engine.specs.SyncWindow.{nodes_alone}
@@ -38,12 +38,11 @@ heard-twice [] later nodes = ap (heard_by later) (map-same nodes)
 heard-twice (sent ∷ frames) later nodes =
     ap (heard_by later) (sym (heard-first sent frames nodes)) ∙ heard-twice frames later (all_hear nodes sent) ∙ heard-first sent (frames ++ later) nodes
 
-module _ (in_range : (node : NodeState) (at id : ℕ) → IsNode node → node_offer node at ≡ Some id → (0x100 ≤ id) × (id ≤ 0x7EF)) where
-  pub offers_range : (nodes : List NodeState) (at : ℕ) → All IsNode nodes → All (λ id. (0x100 ≤ id) × (id ≤ 0x7EF)) (offered_by_nodes nodes at)
-  offers_range nodes at are =
-      All-from_contains (λ id. (0x100 ≤ id) × (id ≤ 0x7EF)) (offered_by_nodes nodes at) (λ id has.
-      let found = Contains-from_filter_map (λ node. node_offer node at) nodes id has in
-      in_range found.0 at id (All-contains IsNode nodes found.0 are found.1) found.2)
+pub offers_range : (nodes : List NodeState) (at : ℕ) → All IsNode nodes → All (λ id. (0x100 ≤ id) × (id ≤ 0x7EF)) (offered_by_nodes nodes at)
+offers_range nodes at are =
+    All-from_contains (λ id. (0x100 ≤ id) × (id ≤ 0x7EF)) (offered_by_nodes nodes at) (λ id has.
+    let found = Contains-from_filter_map (λ node. node_offer node at) nodes id has in
+    offers-in_range found.0 at id (All-contains IsNode nodes found.0 are found.1) found.2)
 
 -- an identifier that one alone offers
 pub only_id : (b : Bool) (id other : ℕ) → Contains (cond b (id ∷ []) []) other → id ≡ other
@@ -76,12 +75,12 @@ pub record CanBeHeard (layout : CycleLayout) (frames : List DataFrame) (nodes : 
   pub next : frames ≢ [] → All (λ node. node.next < 2 ^ 42) nodes
 
 -- nodes before a cycle can hear its trigger frames
-pub can-be-heard : (layout : CycleLayout) (cycle l mask : ℕ) → ((frame : DataFrame) → wire_length frame ≤ worst (length frame.bytes)) → (nodes : List NodeState) → cycle < 2 ^ 42
+pub can-be-heard : (layout : CycleLayout) (cycle l mask : ℕ) → (nodes : List NodeState) → cycle < 2 ^ 42
     → All IsNode nodes → All (λ node. node.layout ≡ layout) nodes → All (λ node. node.next ≡ cycle) nodes → CanBeHeard layout (triggers_with layout.slots cycle l mask) nodes
-can-be-heard layout cycle l mask at_most nodes early are layouts at = record {
+can-be-heard layout cycle l mask nodes early are layouts at = record {
   first = low_ids layout.slots cycle l mask;
   last = opens_last layout.slots cycle l mask;
-  short = frames_short layout.slots cycle l mask at_most;
+  short = frames_short layout.slots cycle l mask;
   are = are;
   layouts = layouts;
   next = λ _ k d within. subst (λ c. c < 2 ^ 42) (sym (at k d within)) early;
@@ -108,85 +107,83 @@ module _ (layout : CycleLayout) (low : ℕ) where
       the_stations : List DueTrigger → List NodeState → Stationed
       the_stations triggers nodes = record { layout = layout; triggers = triggers; nodes = nodes }
 
-  module _ (in_range : (node : NodeState) (at id : ℕ) → IsNode node → node_offer node at ≡ Some id → (0x100 ≤ id) × (id ≤ 0x7EF)) where
-    -- it is sent at once
-    pub first_announced : (frame : DataFrame) (later : List DataFrame) (nodes : List NodeState) (before : Stationed) (sofar : List TimedFrame) (free until : ℕ) (sent : TimedFrame)
-        → low ≤ free → frame.identifier ≤ 1 → All IsNode nodes → told cycle_line before sofar ≡ announced layout low (frame ∷ later) nodes
-        → IsNext (offers_of cycle_line before) sofar free until sent → StartAt free sent × (sent.frame ≡ frame)
-    first_announced frame later nodes before sofar free until sent late first are now next =
-        let waiting = announced layout low (frame ∷ later) nodes in
-        let start : sent.start ≡ free = elim (cases_lt free sent.start) [
-          | inl gap ↦ absurd (next.first free frame (omega arith) gap (subst (λ s. IsOffered cycle_line s free frame) (sym now) (offers_announced frame later nodes free late)))
-          | inr no_gap ↦ omega (arith, no_gap, next.when_free)
-        ] in
-        let least : sent.frame.identifier ≤ frame.identifier =
-        next.least.least frame (subst (λ s. IsOffered cycle_line s sent.start frame) (sym now) (offers_announced frame later nodes sent.start (omega (arith, late, start)))) in
-        let offered = subst (λ s. IsOffered cycle_line s sent.start sent.frame) now next.least.offered in
-        let same : frame.identifier ≡ sent.frame.identifier =
-        elim (Contains-append_cases (cond (nat_le low sent.start) (frame.identifier ∷ []) []) (offered_by_nodes nodes sent.start) sent.frame.identifier offered.contends) [
-          | inl here ↦ only_id (nat_le low sent.start) frame.identifier sent.frame.identifier here
-          | inr there ↦ absurd (omega (
-            arith,
-            least,
-            first,
-            (All-contains (λ id. (0x100 ≤ id) × (id ≤ 0x7EF)) (offered_by_nodes nodes sent.start) sent.frame.identifier (offers_range in_range nodes sent.start are) there).0,
-          ))
-        ] in (
-          record { start = start; whole = next.whole },
-          offered.framed ∙ ap (λ b. cond b frame (frame_by_nodes nodes sent.start sent.frame.identifier)) (eq-eqb frame.identifier sent.frame.identifier same),
-        )
+  -- it is sent at once
+  pub first_announced : (frame : DataFrame) (later : List DataFrame) (nodes : List NodeState) (before : Stationed) (sofar : List TimedFrame) (free until : ℕ) (sent : TimedFrame)
+      → low ≤ free → frame.identifier ≤ 1 → All IsNode nodes → told cycle_line before sofar ≡ announced layout low (frame ∷ later) nodes
+      → IsNext (offers_of cycle_line before) sofar free until sent → StartAt free sent × (sent.frame ≡ frame)
+  first_announced frame later nodes before sofar free until sent late first are now next =
+      let waiting = announced layout low (frame ∷ later) nodes in
+      let start : sent.start ≡ free = elim (cases_lt free sent.start) [
+        | inl gap ↦ absurd (next.first free frame (omega arith) gap (subst (λ s. IsOffered cycle_line s free frame) (sym now) (offers_announced frame later nodes free late)))
+        | inr no_gap ↦ omega (arith, no_gap, next.when_free)
+      ] in
+      let least : sent.frame.identifier ≤ frame.identifier =
+      next.least.least frame (subst (λ s. IsOffered cycle_line s sent.start frame) (sym now) (offers_announced frame later nodes sent.start (omega (arith, late, start)))) in
+      let offered = subst (λ s. IsOffered cycle_line s sent.start sent.frame) now next.least.offered in
+      let same : frame.identifier ≡ sent.frame.identifier =
+      elim (Contains-append_cases (cond (nat_le low sent.start) (frame.identifier ∷ []) []) (offered_by_nodes nodes sent.start) sent.frame.identifier offered.contends) [
+        | inl here ↦ only_id (nat_le low sent.start) frame.identifier sent.frame.identifier here
+        | inr there ↦ absurd (omega (
+          arith,
+          least,
+          first,
+          (All-contains (λ id. (0x100 ≤ id) × (id ≤ 0x7EF)) (offered_by_nodes nodes sent.start) sent.frame.identifier (offers_range nodes sent.start are) there).0,
+        ))
+      ] in (
+        record { start = start; whole = next.whole },
+        offered.framed ∙ ap (λ b. cond b frame (frame_by_nodes nodes sent.start sent.frame.identifier)) (eq-eqb frame.identifier sent.frame.identifier same),
+      )
 
-    module _ (stays : (node : NodeState) (sent : TimedFrame) → (sent.frame.identifier ≡ opening_identifier node.layout.slots → node.next < 2 ^ 42) → IsNode node → IsNode (after_hearing node sent)) where
-      CanBeHeard-more : (frame : DataFrame) (later : List DataFrame) (nodes : List NodeState) (sent : TimedFrame) → sent.frame ≡ frame → CanBeHeard layout (frame ∷ later) nodes
-          → CanBeHeard layout later (all_hear nodes sent)
-      CanBeHeard-more frame later nodes sent is can =
-          let early = can.next (λ none. absurd (cc)) in
-          record {
-            first = All-tail (λ f. f.identifier ≤ 1) frame later can.first;
-            last = AllPairs-tail (λ one other. one.identifier ≢ opening_identifier layout.slots) frame later can.last;
-            short = All-tail (λ f. wire_length f ≤ 135) frame later can.short;
-            are = All-map IsNode (λ node. after_hearing node sent) nodes (λ k d within. stays (get_or nodes k d) sent (λ _. early k d within) (can.are k d within));
-            layouts = All-map (λ node. node.layout ≡ layout) (λ node. after_hearing node sent) nodes (λ k d within. layout_kept (get_or nodes k d) sent ∙ can.layouts k d within);
-            next = λ some.
-                let other : frame.identifier ≢ opening_identifier layout.slots =
-                of_some (frame.identifier ≢ opening_identifier layout.slots) later some (AllPairs-head (λ one two. one.identifier ≢ opening_identifier layout.slots) frame later can.last) in
-                All-map (λ node. node.next < 2 ^ 42) (λ node. after_hearing node sent) nodes (λ k d within.
-                subst (λ n. n < 2 ^ 42) (sym (next_kept (get_or nodes k d) sent (λ same.
-                other (ap (λ f. f.identifier) (sym is) ∙ same ∙ ap (λ l. opening_identifier l.slots) (can.layouts k d within))))) (early k d within));
-          }
-
-      pub go-first : (frames : List DataFrame) (nodes : List NodeState) (before : Stationed) (sofar : List TimedFrame) (free until : ℕ) (all : List TimedFrame)
-          → low ≤ free → free + length frames * 135 ≤ until → CanBeHeard layout frames nodes → told cycle_line before sofar ≡ announced layout low frames nodes
-          → Follows (offers_of cycle_line before) sofar free until all → GoFirst layout frames nodes before sofar free until all
-      go-first [] nodes before sofar free until all late room can now follows = record {
-        sent = [];
-        later = all;
-        split = refl;
-        are = refl;
-        at_once = tt;
-        now = ap (told cycle_line before) (append-nil sofar) ∙ now ∙ ap (nodes_alone layout) (sym (map-same nodes));
-        follows = subst (λ front. Follows (offers_of cycle_line before) front free until all) (sym (append-nil sofar)) follows;
-        known = subst (All IsNode) (sym (map-same nodes)) can.are;
+  CanBeHeard-more : (frame : DataFrame) (later : List DataFrame) (nodes : List NodeState) (sent : TimedFrame) → sent.frame ≡ frame → CanBeHeard layout (frame ∷ later) nodes
+      → CanBeHeard layout later (all_hear nodes sent)
+  CanBeHeard-more frame later nodes sent is can =
+      let early = can.next (λ none. absurd (cc)) in
+      record {
+        first = All-tail (λ f. f.identifier ≤ 1) frame later can.first;
+        last = AllPairs-tail (λ one other. one.identifier ≢ opening_identifier layout.slots) frame later can.last;
+        short = All-tail (λ f. wire_length f ≤ 135) frame later can.short;
+        are = All-map IsNode (λ node. after_hearing node sent) nodes (λ k d within. node-hearing (get_or nodes k d) sent (λ _. early k d within) (can.are k d within));
+        layouts = All-map (λ node. node.layout ≡ layout) (λ node. after_hearing node sent) nodes (λ k d within. layout_kept (get_or nodes k d) sent ∙ can.layouts k d within);
+        next = λ some.
+            let other : frame.identifier ≢ opening_identifier layout.slots =
+            of_some (frame.identifier ≢ opening_identifier layout.slots) later some (AllPairs-head (λ one two. one.identifier ≢ opening_identifier layout.slots) frame later can.last) in
+            All-map (λ node. node.next < 2 ^ 42) (λ node. after_hearing node sent) nodes (λ k d within.
+            subst (λ n. n < 2 ^ 42) (sym (next_kept (get_or nodes k d) sent (λ same.
+            other (ap (λ f. f.identifier) (sym is) ∙ same ∙ ap (λ l. opening_identifier l.slots) (can.layouts k d within))))) (early k d within));
       }
-      go-first (frame ∷ rest) nodes before sofar free until [] late room can now nothing =
-          absurd (nothing free frame (omega arith) (omega (arith, room)) (subst (λ s. IsOffered cycle_line s free frame) (sym now) (offers_announced frame rest nodes free late)))
-      go-first (frame ∷ rest) nodes before sofar free until (sent ∷ all) late room can now (next, follows) =
-          let first = first_announced frame rest nodes before sofar free until sent late (All-head (λ f. f.identifier ≤ 1) frame rest can.first) can.are now next in
-          let starts : StartAt free sent = first.0 in
-          let is : sent.frame ≡ frame = first.1 in
-          let long : wire_length frame ≤ 135 = All-head (λ f. wire_length f ≤ 135) frame rest can.short in
-          let ended : end_of sent ≤ free + 135 = omega (arith, long, starts.start, starts.whole, ap wire_length is) in
-          let told_more : told cycle_line before (sofar ++ sent ∷ []) ≡ announced layout low rest (all_hear nodes sent) =
-          fold-append cycle_line.next before sofar (sent ∷ []) ∙ ap (λ s. cycle_line.next s sent) now ∙ next_announced frame rest nodes sent is in
-          let behind = go-first rest (all_hear nodes sent) before (sofar ++ sent ∷ []) (end_of sent) until all (omega (arith, late, starts.start)) (omega (arith, room, ended))
-          (CanBeHeard-more frame rest nodes sent is can) told_more follows in
-          record {
-            sent = sent ∷ behind.sent;
-            later = behind.later;
-            split = ap (λ fs. sent ∷ fs) behind.split;
-            are = ap (λ f. f ∷ map (λ s. s.frame) behind.sent) is ∙ ap (λ fs. frame ∷ fs) behind.are;
-            at_once = (starts, behind.at_once);
-            now = ap (told cycle_line before) (sym (append_assoc sofar (sent ∷ []) behind.sent)) ∙ behind.now ∙ ap (nodes_alone layout) (heard-first sent behind.sent nodes);
-            follows = subst (λ front. Follows (offers_of cycle_line before) front (free_after (end_of sent) behind.sent) until behind.later) (append_assoc sofar (sent ∷ []) behind.sent) behind.follows;
-            known = subst (All IsNode) (heard-first sent behind.sent nodes) behind.known;
-          }
+
+  pub go-first : (frames : List DataFrame) (nodes : List NodeState) (before : Stationed) (sofar : List TimedFrame) (free until : ℕ) (all : List TimedFrame)
+      → low ≤ free → free + length frames * 135 ≤ until → CanBeHeard layout frames nodes → told cycle_line before sofar ≡ announced layout low frames nodes
+      → Follows (offers_of cycle_line before) sofar free until all → GoFirst layout frames nodes before sofar free until all
+  go-first [] nodes before sofar free until all late room can now follows = record {
+    sent = [];
+    later = all;
+    split = refl;
+    are = refl;
+    at_once = tt;
+    now = ap (told cycle_line before) (append-nil sofar) ∙ now ∙ ap (nodes_alone layout) (sym (map-same nodes));
+    follows = subst (λ front. Follows (offers_of cycle_line before) front free until all) (sym (append-nil sofar)) follows;
+    known = subst (All IsNode) (sym (map-same nodes)) can.are;
+  }
+  go-first (frame ∷ rest) nodes before sofar free until [] late room can now nothing =
+      absurd (nothing free frame (omega arith) (omega (arith, room)) (subst (λ s. IsOffered cycle_line s free frame) (sym now) (offers_announced frame rest nodes free late)))
+  go-first (frame ∷ rest) nodes before sofar free until (sent ∷ all) late room can now (next, follows) =
+      let first = first_announced frame rest nodes before sofar free until sent late (All-head (λ f. f.identifier ≤ 1) frame rest can.first) can.are now next in
+      let starts : StartAt free sent = first.0 in
+      let is : sent.frame ≡ frame = first.1 in
+      let long : wire_length frame ≤ 135 = All-head (λ f. wire_length f ≤ 135) frame rest can.short in
+      let ended : end_of sent ≤ free + 135 = omega (arith, long, starts.start, starts.whole, ap wire_length is) in
+      let told_more : told cycle_line before (sofar ++ sent ∷ []) ≡ announced layout low rest (all_hear nodes sent) =
+      fold-append cycle_line.next before sofar (sent ∷ []) ∙ ap (λ s. cycle_line.next s sent) now ∙ next_announced frame rest nodes sent is in
+      let behind = go-first rest (all_hear nodes sent) before (sofar ++ sent ∷ []) (end_of sent) until all (omega (arith, late, starts.start)) (omega (arith, room, ended))
+      (CanBeHeard-more frame rest nodes sent is can) told_more follows in
+      record {
+        sent = sent ∷ behind.sent;
+        later = behind.later;
+        split = ap (λ fs. sent ∷ fs) behind.split;
+        are = ap (λ f. f ∷ map (λ s. s.frame) behind.sent) is ∙ ap (λ fs. frame ∷ fs) behind.are;
+        at_once = (starts, behind.at_once);
+        now = ap (told cycle_line before) (sym (append_assoc sofar (sent ∷ []) behind.sent)) ∙ behind.now ∙ ap (nodes_alone layout) (heard-first sent behind.sent nodes);
+        follows = subst (λ front. Follows (offers_of cycle_line before) front (free_after (end_of sent) behind.sent) until behind.later) (append_assoc sofar (sent ∷ []) behind.sent) behind.follows;
+        known = subst (All IsNode) (heard-first sent behind.sent nodes) behind.known;
+      }

@@ -1,7 +1,7 @@
 -- In a synchronous window the frames that the nodes are to send, in the order of their slots, are those that
 -- arbitration decides.
 use Rattle.std.proofs.Common.{◌≡◌, ◌≢◌, ℕ, zero, suc, ◌+◌, ◌-◌, ◌<◌, ◌≤◌, ◌&&◌, Bool, true, false, not, cond, List, [], ◌∷◌, ◌++◌, All, Contains, length, length-append, take, drop, get_or, Option, None, Some, inl, inr, refl, sym, ap, ◌∙◌, subst, arith}
-use Rattle.std.specs.Prelude.{◌==◌, MatchOption, nat_lt, find}
+use Rattle.std.specs.Prelude.{MatchOption, nat_lt, find}
 use Rattle.std.specs.List.{cons_option, filter_map, range_with_len}
 use Rattle.std.specs.Option.{option_map_or}
 use Rattle.std.proofs.lemmas.Bool.{cases_Bool, cases_eq, cases_lt, cases_order, eq-eqb, ne_eqb, lt-ltb, le-ltb, cond-true, cond-false, false≢true}
@@ -19,26 +19,11 @@ use Rattle.bus_line.specs.Trace.{Follows}
 use Rattle.bus_line.specs.Stations.{IsOffered, offers_of, told}
 use Rattle.node_model.specs.Node.{IsNode, NodeState, after_hearing, node_frame, node_offer}
 use Rattle.node_model.specs.Window.{IsInWindow, due_frame, is_due_slot}
+use Rattle.node_model.proofs.Shared.{due-kept, frame-kept, frames-due, node-hearing, offers-due, stays-in_window}
 use Rattle.cycle_engine.specs.Stations.{Stationed, all_hear, cycle_line, frame_by_nodes, offered_by_nodes, offers_this}
 use Rattle.cycle_engine.specs.SyncWindow.{back_to_back, by_slots, due_by, due_frames, nodes_alone, sent_at}
+use Rattle.cycle_engine.proofs.Along.{opens_not}
 use Rattle.cycle_engine.proofs.Lists.{Contains-filter_map, Contains-from_filter_map, Contains-here, Contains-later, filter_map-none}
-
--- the laws of nodes in their windows, and of wires, on which this stands
-pub record WindowLaws : Type 0 where
-  pub long : (frame : DataFrame) → 0 < wire_length frame
-  pub offers : (node : NodeState) (from until at : ℕ) → IsNode node → IsInWindow from until node → from ≤ at → at < until
-      → MatchOption (node_offer node at) ((slot : ℕ) → slot < most_slots → is_due_slot node slot ≡ false)
-      (λ id. (slot : ℕ) × (slot < most_slots) × (id ≡ first_identifier + slot) × (is_due_slot node slot ≡ true)
-      × ((other : ℕ) → other < slot → is_due_slot node other ≡ false))
-  pub frames : (node : NodeState) (from until at slot : ℕ) → IsNode node → IsInWindow from until node → from ≤ at → at < until
-      → slot < most_slots → node_frame node at (first_identifier + slot) ≡ due_frame node slot
-  pub stays_in : (node : NodeState) (from until slot : ℕ) (sent : TimedFrame) → IsNode node → sent.frame.identifier ≡ first_identifier + slot
-      → slot < most_slots → IsInWindow from until node → IsInWindow from until (after_hearing node sent)
-  pub same_frames : (node : NodeState) (slot other : ℕ) (sent : TimedFrame) → IsNode node → sent.frame.identifier ≡ first_identifier + slot
-      → slot < most_slots → due_frame (after_hearing node sent) other ≡ due_frame node other
-  pub takes : (node : NodeState) (slot other : ℕ) (sent : TimedFrame) → IsNode node → sent.frame.identifier ≡ first_identifier + slot
-      → slot < most_slots → other < most_slots → is_due_slot (after_hearing node sent) other ≡ (not (other == slot) && is_due_slot node other)
-  pub stays : (node : NodeState) (sent : TimedFrame) → 1 < sent.frame.identifier → IsNode node → IsNode (after_hearing node sent)
 
 -- no slot below this one is due
 abbrev pub IsDueFrom : ℕ → NodeState → Type 0
@@ -56,7 +41,7 @@ due_by-none (node ∷ later) slot none = elim (cases_Bool (is_due_slot node slot
   | inr not_due ↦ All-cons (λ n. is_due_slot n slot ≡ false) node later not_due (due_by-none later slot (due-cases node later slot false None not_due none))
 ]
 
-module _ (laws : WindowLaws) (from until : ℕ) where
+module _ (from until : ℕ) where
   -- a node in its window, of which no slot below `k` is due
   pub record IsAt (k : ℕ) (node : NodeState) : Type 0 where
     pub known : IsNode node
@@ -99,7 +84,7 @@ module _ (laws : WindowLaws) (from until : ℕ) where
   module _ (at k : ℕ) (begun : from ≤ at) (early : at < until) (within : k < most_slots) where
     offers-at : (node : NodeState) → IsAt k node → is_due_slot node k ≡ true → node_offer node at ≡ Some (first_identifier + k)
     offers-at node is due =
-        offer-found node k (node_offer node at) (laws.offers node from until at is.known is.in_window begun early) is.later within due
+        offer-found node k (node_offer node at) (offers-due node from until at is.known is.in_window begun early) is.later within due
 
     -- the first node that has the slot due is the first that offers its identifier
     frame-first : (nodes : List NodeState) (frame : DataFrame) → All (IsAt k) nodes → due_by nodes k ≡ Some frame
@@ -113,13 +98,13 @@ module _ (laws : WindowLaws) (from until : ℕ) where
           let first = ap (offers_this (first_identifier + k)) offered ∙ eq-eqb (first_identifier + k) (first_identifier + k) refl in (
             ap (λ b. option_map_or (λ n. node_frame n at (first_identifier + k))
                 (cond b (Some node) (find (λ n. offers_this (first_identifier + k) (node_offer n at)) later)) (record { identifier = first_identifier + k; bytes = [] })) first
-                ∙ laws.frames node from until at k is.known is.in_window begun early within ∙ same,
+                ∙ frames-due node from until at k is.known is.in_window begun early within ∙ same,
             Contains-filter_map (λ n. node_offer n at) (node ∷ later) node (first_identifier + k) (Contains-here node later) offered,
           )
       | inr other ↦
           let is = All-head (IsAt k) node later all in
           let never : node_offer node at ≡ Some (first_identifier + k) → ⊥ = λ same.
-          let its = offer-due node (node_offer node at) (first_identifier + k) (laws.offers node from until at is.known is.in_window begun early) same in
+          let its = offer-due node (node_offer node at) (first_identifier + k) (offers-due node from until at is.known is.in_window begun early) same in
           let slot : its.0 ≡ k = omega (arith, its.2) in
           false≢true (sym other ∙ ap (is_due_slot node) (sym slot) ∙ its.3) in
           let rest = frame-first later frame (All-tail (IsAt k) node later all) (due-cases node later k false (Some frame) other due) in
@@ -141,7 +126,7 @@ module _ (laws : WindowLaws) (from until : ℕ) where
     offers-more nodes id all has =
         let found = Contains-from_filter_map (λ n. node_offer n at) nodes id has in
         let is = All-contains (IsAt k) nodes found.0 all found.1 in
-        let its = offer-due found.0 (node_offer found.0 at) id (laws.offers found.0 from until at is.known is.in_window begun early) found.2 in
+        let its = offer-due found.0 (node_offer found.0 at) id (offers-due found.0 from until at is.known is.in_window begun early) found.2 in
         elim (cases_lt its.0 k) [
           | inl before ↦ absurd (false≢true (sym (is.later its.0 before) ∙ its.3))
           | inr behind ↦ omega (arith, behind, its.2)
@@ -153,7 +138,7 @@ module _ (laws : WindowLaws) (from until : ℕ) where
       filter_map-none (λ n. node_offer n at) nodes (λ k d within.
       let is = all k d within in
       let node = get_or nodes k d in
-      offer-none node (node_offer node at) (laws.offers node from until at is.known is.in_window begun early) is.later)
+      offer-none node (node_offer node at) (offers-due node from until at is.known is.in_window begun early) is.later)
 
   -- nodes that heard the frame of a slot
   IsAt-heard : (k : ℕ) (sent : TimedFrame) (nodes : List NodeState) → sent.frame.identifier ≡ first_identifier + k → k < most_slots → All (IsAt k) nodes
@@ -162,12 +147,12 @@ module _ (laws : WindowLaws) (from until : ℕ) where
       let node = get_or nodes j d in
       let was = all j d inside in
       record {
-        known = laws.stays node sent (omega (arith, is)) was.known;
-        in_window = laws.stays_in node from until k sent was.known is within was.in_window;
+        known = node-hearing node sent (λ opens. absurd (opens_not node.layout.slots sent.frame.identifier (omega (arith, is)) opens)) was.known;
+        in_window = stays-in_window node from until sent (omega (arith, is)) was.in_window;
         later = λ slot below. elim (cases_eq slot k) [
-          | inl here ↦ laws.takes node k slot sent was.known is within (omega (arith, here, within))
+          | inl here ↦ due-kept node k slot sent was.known is within (omega (arith, here, within))
               ∙ ap (λ b. not b && is_due_slot node slot) (eq-eqb slot k here)
-          | inr other ↦ laws.takes node k slot sent was.known is within (omega (arith, below, within))
+          | inr other ↦ due-kept node k slot sent was.known is within (omega (arith, below, within))
               ∙ ap (λ b. not b && is_due_slot node slot) (ne_eqb slot k other) ∙ was.later slot (omega (arith, below, other))
         ];
       })
@@ -191,9 +176,9 @@ module _ (laws : WindowLaws) (from until : ℕ) where
   due_by-heard k sent slot (node ∷ later) is within inside other all =
       let was = All-head (IsAt k) node later all in
       let due : is_due_slot (after_hearing node sent) slot ≡ is_due_slot node slot =
-      laws.takes node k slot sent was.known is within inside ∙ ap (λ b. not b && is_due_slot node slot) (ne_eqb slot k other) in
+      due-kept node k slot sent was.known is within inside ∙ ap (λ b. not b && is_due_slot node slot) (ne_eqb slot k other) in
       ap (λ b. cond b (Some (due_frame (after_hearing node sent) slot)) (due_by (all_hear later sent) slot)) due
-      ∙ ap (λ f. cond (is_due_slot node slot) (Some f) (due_by (all_hear later sent) slot)) (laws.same_frames node k slot sent was.known is within)
+      ∙ ap (λ f. cond (is_due_slot node slot) (Some f) (due_by (all_hear later sent) slot)) (frame-kept node k slot sent was.known is within)
       ∙ ap (cond (is_due_slot node slot) (Some (due_frame node slot))) (due_by-heard k sent slot later is within inside other (All-tail (IsAt k) node later all))
 
 -- the frames that nodes are to send of `n` slots from slot `k` on
@@ -207,31 +192,31 @@ due_from-same nodes others (suc n) k same =
     ap (λ o. cons_option o (due_from nodes (k + 1) n)) (same k (omega arith) (omega arith))
     ∙ ap (cons_option (due_by others k)) (due_from-same nodes others n (k + 1) (λ slot low high. same slot (omega arith) (omega arith)))
 
-module _ (laws : WindowLaws) (layout : CycleLayout) (from until : ℕ) (before : Stationed) where
+module _ (layout : CycleLayout) (from until : ℕ) (before : Stationed) where
   abbrev Decided : List TimedFrame → ℕ → List TimedFrame → Type 0
   Decided sofar at frames = Follows (offers_of cycle_line before) sofar at until frames
 
   -- what is decided behind any frames, where no slot below `k` is due any more
   abbrev Goes : ℕ → ℕ → Type 0
   Goes k n = (nodes : List NodeState) (sofar : List TimedFrame) (at : ℕ) → told cycle_line before sofar ≡ nodes_alone layout nodes
-      → All (IsAt laws from until k) nodes → from ≤ at → Decided sofar at (back_to_back (due_from nodes k n) at until)
+      → All (IsAt from until k) nodes → from ≤ at → Decided sofar at (back_to_back (due_from nodes k n) at until)
 
   one-sent : (n k : ℕ) → k + 1 + n ≡ most_slots → Goes (k + 1) n → (nodes : List NodeState) (sofar : List TimedFrame) (at : ℕ)
-      → told cycle_line before sofar ≡ nodes_alone layout nodes → All (IsAt laws from until k) nodes → from ≤ at → at < until
+      → told cycle_line before sofar ≡ nodes_alone layout nodes → All (IsAt from until k) nodes → from ≤ at → at < until
       → (frame : DataFrame) → due_by nodes k ≡ Some frame
       → Decided sofar at (sent_at at frame ∷ back_to_back (due_from nodes (k + 1) n) (at + wire_length frame) until)
   one-sent n k sum goes nodes sofar at now all begun early frame due =
       let within : k < most_slots = omega (arith, sum) in
       let sent = sent_at at frame in
-      let first = frame-first laws from until at k begun early within nodes frame all due in
+      let first = frame-first from until at k begun early within nodes frame all due in
       let identifier : frame.identifier ≡ first_identifier + k = ap (λ f. f.identifier) (sym first.0) ∙ identifier_of nodes at (first_identifier + k) in
       let next = all_hear nodes sent in
       let told_more : told cycle_line before (sofar ++ sent ∷ []) ≡ nodes_alone layout next =
       fold-append cycle_line.next before sofar (sent ∷ []) ∙ ap (λ s. cycle_line.next s sent) now in
-      let rest = goes next (sofar ++ sent ∷ []) (at + wire_length frame) told_more (IsAt-heard laws from until k sent nodes identifier within all) (omega (arith, begun)) in
+      let rest = goes next (sofar ++ sent ∷ []) (at + wire_length frame) told_more (IsAt-heard from until k sent nodes identifier within all) (omega (arith, begun)) in
       let same : due_from next (k + 1) n ≡ due_from nodes (k + 1) n =
       due_from-same next nodes n (k + 1) (λ slot low high.
-      due_by-heard laws from until k sent slot nodes identifier within (omega (arith, high, sum)) (λ here. omega (arith, here, low)) all) in (
+      due_by-heard from until k sent slot nodes identifier within (omega (arith, high, sum)) (λ here. omega (arith, here, low)) all) in (
         record {
           when_free = omega arith;
           within = early;
@@ -243,7 +228,7 @@ module _ (laws : WindowLaws) (layout : CycleLayout) (from until : ℕ) (before :
             });
             least = λ other offered.
                 let its = subst (λ s. IsOffered cycle_line s at other) now offered in
-                omega (arith, identifier, offers-more laws from until at k begun early within nodes other.identifier all its.contends);
+                omega (arith, identifier, offers-more from until at k begun early within nodes other.identifier all its.contends);
           };
           whole = refl;
         },
@@ -258,10 +243,10 @@ module _ (laws : WindowLaws) (layout : CycleLayout) (from until : ℕ) (before :
       identifier_of nodes at id = identifier-found at id (find (λ node. offers_this id (node_offer node at)) nodes)
 
   one-slot : (n k : ℕ) → k + 1 + n ≡ most_slots → Goes (k + 1) n → (nodes : List NodeState) (sofar : List TimedFrame) (at : ℕ)
-      → told cycle_line before sofar ≡ nodes_alone layout nodes → All (IsAt laws from until k) nodes → from ≤ at
+      → told cycle_line before sofar ≡ nodes_alone layout nodes → All (IsAt from until k) nodes → from ≤ at
       → (o : Option DataFrame) → due_by nodes k ≡ o → Decided sofar at (back_to_back (cons_option o (due_from nodes (k + 1) n)) at until)
   one-slot n k sum goes nodes sofar at now all begun None due =
-      goes nodes sofar at now (IsAt-next laws from until k nodes due all) begun
+      goes nodes sofar at now (IsAt-next from until k nodes due all) begun
   one-slot n k sum goes nodes sofar at now all begun (Some frame) due = elim (cases_lt at until) [
     | inl early ↦
         subst (Decided sofar at) (sym (cond-true (nat_lt at until) _ _ (lt-ltb at until early)))
@@ -275,7 +260,7 @@ module _ (laws : WindowLaws) (layout : CycleLayout) (from until : ℕ) (before :
   goes-on zero k sum nodes sofar at now all begun = λ t other low high offered.
       let its = subst (λ s. IsOffered cycle_line s t other) now offered in
       let here : k ≡ most_slots = omega (arith, sum) in
-      let none = offers-nothing laws from until nodes t (omega (arith, begun, low)) high (subst (λ j. All (IsAt laws from until j) nodes) here all) in
+      let none = offers-nothing from until nodes t (omega (arith, begun, low)) high (subst (λ j. All (IsAt from until j) nodes) here all) in
       contains_none (offered_by_nodes nodes t) other.identifier none its.contends
     where
       contains_none : (ids : List ℕ) (id : ℕ) → ids ≡ [] → Contains ids id → ⊥
@@ -285,12 +270,12 @@ module _ (laws : WindowLaws) (layout : CycleLayout) (from until : ℕ) (before :
       one-slot n k (omega (arith, sum)) (goes-on n (k + 1) (omega (arith, sum))) nodes sofar at now all begun (due_by nodes k) refl
 
 -- the frames that nodes are to send, one behind the other, are those that arbitration decides
-pub Follows-due : (laws : WindowLaws) (layout : CycleLayout) (from until : ℕ) (nodes : List NodeState)
+pub Follows-due : (layout : CycleLayout) (from until : ℕ) (nodes : List NodeState)
     → All IsNode nodes → All (IsInWindow from until) nodes
     → Follows (offers_of cycle_line (nodes_alone layout nodes)) [] from until (back_to_back (due_frames nodes) from until)
 unfolding by_slots
-Follows-due laws layout from until nodes are in_window =
-    goes-on laws layout from until (nodes_alone layout nodes) most_slots 0 refl nodes [] from refl
+Follows-due layout from until nodes are in_window =
+    goes-on layout from until (nodes_alone layout nodes) most_slots 0 refl nodes [] from refl
     (λ j d within. record { known = are j d within; in_window = in_window j d within; later = λ slot below. absurd (omega arith) }) (omega arith)
 
 -- the identifiers of these frames are those of slots

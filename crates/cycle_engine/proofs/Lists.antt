@@ -1,11 +1,13 @@
 -- Elements of lists.
-use Rattle.std.proofs.Common.{◌≡◌, ◌≢◌, ℕ, zero, suc, Bool, true, false, cond, List, [], ◌∷◌, map, AllPairs, Contains, Option, None, Some, ◌⊎◌, inl, inr, refl, sym, ap, ◌∙◌, subst, get_or, arith, All}
-use Rattle.std.specs.List.{slice_get, filter, filter_map, cons_option, find}
-use Rattle.std.proofs.lemmas.Bool.{cases_order, cases_eq, eq-eqb, ne_eqb, false≢true}
+use Rattle.std.proofs.Common.{◌≡◌, ◌≢◌, ℕ, zero, suc, false, cond, List, [], ◌∷◌, map, AllPairs, Contains, Option, None, Some, ◌⊎◌, inl, inr, refl, sym, ap, ◌∙◌, subst, get_or, arith, All}
+use Rattle.std.specs.List.{slice_get, filter_map, cons_option, find}
+use Rattle.std.proofs.lemmas.Bool.{cases_order, cases_eq, eq-eqb, ne_eqb}
 use Rattle.std.proofs.lemmas.List.{get_or_default}
 use Rattle.std.proofs.lemmas.List.Elements.{All-cons, All-contains, All-head, All-map, All-tail, Contains-get_or}
 use Rattle.std.proofs.lemmas.Option.{slice_get_within, get_or_from_slice_get}
 use Rattle.cycle_engine.specs.Stations.{offers_this}
+pub use Rattle.bus_line.proofs.Shared.{AllPairs-cons, AllPairs-head, AllPairs-tail}
+pub use Rattle.node_model.proofs.Shared.{Contains-filter, Contains-from_map, Contains-map}
 
 -- what stands at a place is an element
 pub Contains-slice_get : {X : Type 0} (xs : List X) (i : ℕ) (x : X) → slice_get xs i ≡ Some x → Contains xs x
@@ -36,39 +38,6 @@ module _ {X : Type 0} where
 
   pub Contains-nil : (y : X) → Contains [] y → ⊥
   Contains-nil y (k, within, is) = omega arith
-
-module _ {X Y : Type 0} (f : X → Y) where
-  pub Contains-map : (xs : List X) (x : X) → Contains xs x → Contains (map f xs) (f x)
-  Contains-map [] x has = absurd (Contains-nil x has)
-  Contains-map (y ∷ ys) x has = elim (Contains-cases y ys x has) [
-    | inl same ↦ subst (λ z. Contains (f y ∷ map f ys) (f z)) same (Contains-here (f y) (map f ys))
-    | inr later ↦ Contains-later (f y) (map f ys) (f x) (Contains-map ys x later)
-  ]
-
-  -- an element behind a function comes from an element
-  pub Contains-from_map : (xs : List X) (y : Y) → Contains (map f xs) y → (x : X) × Contains xs x × (f x ≡ y)
-  Contains-from_map [] y has = absurd (Contains-nil y has)
-  Contains-from_map (x ∷ xs) y has = elim (Contains-cases (f x) (map f xs) y has) [
-    | inl same ↦ (x, Contains-here x xs, same)
-    | inr later ↦ let found = Contains-from_map xs y later in (found.0, Contains-later x xs found.0 found.1, found.2)
-  ]
-
-module _ {X : Type 0} (test : X → Bool) where
-  kept_first : (b : Bool) (y : X) (ys : List X) (x : X) → b ≡ true → y ≡ x → Contains (cond b (y ∷ filter test ys) (filter test ys)) x
-  kept_first true y ys x passes same = subst (λ z. Contains (y ∷ filter test ys) z) same (Contains-here y (filter test ys))
-  kept_first false y ys x passes same = absurd (false≢true passes)
-
-  kept_later : (b : Bool) (y : X) (ys : List X) (x : X) → Contains (filter test ys) x → Contains (cond b (y ∷ filter test ys) (filter test ys)) x
-  kept_later true y ys x later = Contains-later y (filter test ys) x later
-  kept_later false y ys x later = later
-
-  -- an element that passes is kept
-  pub Contains-filter : (xs : List X) (x : X) → Contains xs x → test x ≡ true → Contains (filter test xs) x
-  Contains-filter [] x has passes = absurd (Contains-nil x has)
-  Contains-filter (y ∷ ys) x has passes = elim (Contains-cases y ys x has) [
-    | inl same ↦ kept_first (test y) y ys x (ap test same ∙ passes) same
-    | inr later ↦ kept_later (test y) y ys x (Contains-filter ys x later passes)
-  ]
 
 module _ {X Y : Type 0} (h : X → Option Y) where
   abbrev From : List X → Y → Type 0
@@ -129,18 +98,6 @@ pub All-from_map : {X Y : Type 0} (f : X → Y) (P : Y → Type 0) (xs : List X)
 All-from_map f P [] all = λ k d within. absurd (omega arith)
 All-from_map f P (x ∷ xs) all =
     All-cons (λ y. P (f y)) x xs (All-head P (f x) (map f xs) all) (All-from_map f P xs (All-tail P (f x) (map f xs) all))
-
-module _ {X : Type 0} (R : X → X → Type 0) where
-  pub AllPairs-head : (x : X) (xs : List X) → AllPairs R (x ∷ xs) → All (R x) xs
-  AllPairs-head x xs pairs k d within = pairs 0 (suc k) d (omega arith) (omega arith)
-
-  pub AllPairs-tail : (x : X) (xs : List X) → AllPairs R (x ∷ xs) → AllPairs R xs
-  AllPairs-tail x xs pairs i j d before within = pairs (suc i) (suc j) d (omega arith) (omega arith)
-
-  pub AllPairs-cons : (x : X) (xs : List X) → All (R x) xs → AllPairs R xs → AllPairs R (x ∷ xs)
-  AllPairs-cons x xs first pairs i zero d before within = absurd (omega arith)
-  AllPairs-cons x xs first pairs zero (suc j) d before within = first j d (omega arith)
-  AllPairs-cons x xs first pairs (suc i) (suc j) d before within = pairs i j d (omega arith) (omega arith)
 
 pub AllPairs-map : {X Y : Type 0} (R : Y → Y → Type 0) (f : X → Y) (xs : List X) → AllPairs (λ x y. R (f x) (f y)) xs → AllPairs R (map f xs)
 AllPairs-map R f [] pairs = λ i j d before within. absurd (omega arith)

@@ -1,5 +1,5 @@
 -- The next cycle of the nodes is one more behind a cycle.
-use Rattle.std.proofs.Common.{◌≡◌, ℕ, ◌+◌, ◌*◌, ◌^◌, ◌<◌, ◌≤◌, List, [], ◌∷◌, ◌++◌, All, Some, length, map, get_or, refl, sym, ap, ◌∙◌, subst, arith}
+use Rattle.std.proofs.Common.{◌≡◌, ℕ, ◌+◌, ◌*◌, ◌<◌, ◌≤◌, List, [], ◌∷◌, ◌++◌, All, length, map, get_or, refl, sym, ap, ◌∙◌, subst, arith}
 use Rattle.std.specs.Prelude.{fold}
 use Rattle.std.proofs.lemmas.List.Elements.{All-contains, All-map}
 use Rattle.std.proofs.lemmas.List.Sums.{fold-append}
@@ -12,7 +12,8 @@ use Rattle.bus_line.specs.Stations.{IsOffered, offers_of, told}
 use Rattle.trigger_kind.specs.declared.Triggers.{Triggers}
 use Rattle.trigger_kind.specs.declared.Triggers.TheVariants.{One, Two}
 use Rattle.trigger_kind.specs.Kind.{opening_identifier, opening_of, triggers_of}
-use Rattle.node_model.specs.Node.{IsNode, NodeState, after_hearing, node_offer}
+use Rattle.node_model.specs.Node.{IsNode, NodeState, after_hearing}
+use Rattle.node_model.proofs.Shared.{node-hearing}
 use Rattle.cycle_engine.specs.Nodes.{heard_by}
 use Rattle.cycle_engine.specs.Stations.{DueTrigger, Stationed, all_hear, announced, cycle_line, offered_by_nodes, triggers_after}
 use Rattle.cycle_engine.specs.SyncWindow.{nodes_alone}
@@ -53,9 +54,7 @@ last_opens layout cycle l mask node sent same at are = by (triggers_of layout.sl
         next_opened one second (ap (λ f. f.identifier) other ∙ sym (opening Two is one (layout_kept node first ∙ same))) ∙ ap (λ c. c + 1) (kept ∙ at)
     by Two (first ∷ second ∷ third ∷ others) is are = absurd (cc)
 
-module _ (in_range : (node : NodeState) (at id : ℕ) → IsNode node → node_offer node at ≡ Some id → (0x100 ≤ id) × (id ≤ 0x7EF))
-    (stays : (node : NodeState) (sent : TimedFrame) → (sent.frame.identifier ≡ opening_identifier node.layout.slots → node.next < 2 ^ 42) → IsNode node → IsNode (after_hearing node sent))
-    (layout : CycleLayout) (until : ℕ) where
+module _ (layout : CycleLayout) (until : ℕ) where
   -- what each node keeps of what it knows, whatever it hears but trigger frames, holds behind all other frames
   module _ (P : NodeState → Type 0) (kept : (node : NodeState) (sent : TimedFrame) → 1 < sent.frame.identifier → P node → P (after_hearing node sent)) where
     All-nodes : (before : Stationed) (sofar : List TimedFrame) (nodes : List NodeState) (free : ℕ) (frames : List TimedFrame)
@@ -65,12 +64,12 @@ module _ (in_range : (node : NodeState) (at id : ℕ) → IsNode node → node_o
     All-nodes before sofar nodes free (sent ∷ later) now are holds (is_next, follows) =
         let offered = subst (λ s. IsOffered cycle_line s sent.start sent.frame) now is_next.least.offered in
         let other : 1 < sent.frame.identifier =
-        omega (arith, (All-contains (λ n. (0x100 ≤ n) × (n ≤ 0x7EF)) (offered_by_nodes nodes sent.start) sent.frame.identifier (offers_range in_range nodes sent.start are) offered.contends).0) in
+        omega (arith, (All-contains (λ n. (0x100 ≤ n) × (n ≤ 0x7EF)) (offered_by_nodes nodes sent.start) sent.frame.identifier (offers_range nodes sent.start are) offered.contends).0) in
         subst (All P) (heard-first sent later nodes)
         (All-nodes before (sofar ++ sent ∷ []) (all_hear nodes sent) (end_of sent) later
         (fold-append cycle_line.next before sofar (sent ∷ []) ∙ ap (λ s. cycle_line.next s sent) now)
         (All-map IsNode (λ node. after_hearing node sent) nodes (λ k d within.
-        stays (get_or nodes k d) sent (λ opens. absurd (opens_not (get_or nodes k d).layout.slots sent.frame.identifier other opens)) (are k d within)))
+        node-hearing (get_or nodes k d) sent (λ opens. absurd (opens_not (get_or nodes k d).layout.slots sent.frame.identifier other opens)) (are k d within)))
         (All-map P (λ node. after_hearing node sent) nodes (λ k d within. kept (get_or nodes k d) sent other (holds k d within))) follows)
 
     -- the trigger frames go first, and behind them only others come
@@ -81,7 +80,7 @@ module _ (in_range : (node : NodeState) (at id : ℕ) → IsNode node → node_o
         → All P (heard_by frames nodes) × ((told cycle_line (announced layout low triggers nodes) frames).triggers ≡ [])
     All-behind nodes frames low triggers room can opens follows =
         let before = announced layout low triggers nodes in
-        let cut = go-first layout low in_range stays triggers nodes before [] low until frames (omega arith) room can refl follows in (
+        let cut = go-first layout low triggers nodes before [] low until frames (omega arith) room can refl follows in (
           subst (λ fs. All P (heard_by fs nodes)) (sym cut.split)
               (subst (All P) (heard-twice cut.sent cut.later nodes)
               (All-nodes before cut.sent (heard_by cut.sent nodes) _ cut.later cut.now cut.known (opens cut.sent cut.are) cut.follows)),

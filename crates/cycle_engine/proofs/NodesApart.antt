@@ -9,10 +9,12 @@ use Rattle.can_frame.specs.declared.data_frame.TimedFrame.{TimedFrame}
 use Rattle.cycle_layout.specs.Layout.{CycleLayout}
 use Rattle.bus_line.specs.Stations.{told}
 use Rattle.requirement_table.specs.declared.entries.Placed.{Placed}
+use Rattle.requirement_table.specs.Table.{IsWellPlaced}
 use Rattle.trigger_kind.specs.Kind.{opening_identifier}
 use Rattle.node_model.specs.Node.{IsNode, NodeState, after_hearing, learnt, node_offer}
 use Rattle.trigger_codec.specs.Bytes.{triggers_with}
 use Rattle.node_model.specs.Own.{AreApart}
+use Rattle.node_model.proofs.Shared.{apart-hearing, apart-learning, node-hearing, node-learning, offers-apart}
 use Rattle.cycle_engine.specs.Stations.{AreDueTriggers, AreNodes, AreStations, DueTrigger, Stationed, all_hear, cycle_line, due_from, offered_by_nodes, offered_trigger, triggers_after}
 use Rattle.cycle_engine.specs.SyncWindow.{nodes_alone}
 use Rattle.cycle_engine.proofs.Lists.{AllPairs-cons, AllPairs-filter_map, AllPairs-head, AllPairs-map, AllPairs-tail}
@@ -34,32 +36,27 @@ AreNodes-changed layout nodes f before are layouts numbers apart = record {
   apart = AllPairs-map AreApart f nodes (λ i j d first within. apart (get_or nodes i d) (get_or nodes j d) (before.numbers i j d first within) (before.apart i j d first within));
 }
 
-pub AreNodes-learning : (layout : CycleLayout) (nodes : List NodeState) (placed : List Placed)
-    → ((node : NodeState) → IsNode node → IsNode (learnt placed node))
-    → ((one other : NodeState) → one.number ≢ other.number → AreApart one other → AreApart (learnt placed one) (learnt placed other))
+pub AreNodes-learning : (layout : CycleLayout) (nodes : List NodeState) (placed : List Placed) → IsWellPlaced placed
     → AreNodes layout nodes → AreNodes layout (map (learnt placed) nodes)
-AreNodes-learning layout nodes placed stays apart before =
-    AreNodes-changed layout nodes (learnt placed) before (λ k d _. stays (get_or nodes k d)) (λ node. refl) (λ node. refl) apart
+AreNodes-learning layout nodes placed well before =
+    AreNodes-changed layout nodes (learnt placed) before (λ k d _. node-learning placed (get_or nodes k d) well) (λ node. refl) (λ node. refl)
+    (λ one other differ. apart-learning placed one other differ well)
 
 pub AreNodes-hearing : (layout : CycleLayout) (nodes : List NodeState) (sent : TimedFrame)
-    → ((node : NodeState) → (sent.frame.identifier ≡ opening_identifier node.layout.slots → node.next < 2 ^ 42) → IsNode node → IsNode (after_hearing node sent))
-    → ((one other : NodeState) → AreApart one other → AreApart (after_hearing one sent) (after_hearing other sent))
     → All (λ node. sent.frame.identifier ≡ opening_identifier node.layout.slots → node.next < 2 ^ 42) nodes
     → AreNodes layout nodes → AreNodes layout (all_hear nodes sent)
-AreNodes-hearing layout nodes sent stays apart next before =
-    AreNodes-changed layout nodes (λ node. after_hearing node sent) before (λ k d within. stays (get_or nodes k d) (next k d within))
-    (λ node. layout_kept node sent) (λ node. number_kept node sent) (λ one other _. apart one other)
+AreNodes-hearing layout nodes sent next before =
+    AreNodes-changed layout nodes (λ node. after_hearing node sent) before (λ k d within. node-hearing (get_or nodes k d) sent (next k d within))
+    (λ node. layout_kept node sent) (λ node. number_kept node sent) (λ one other _. apart-hearing one other sent sent)
 
 -- the same behind frames that are no trigger frames
 pub AreNodes-told : (layout : CycleLayout) (frames : List TimedFrame) (before : Stationed)
-    → ((node : NodeState) (sent : TimedFrame) → (sent.frame.identifier ≡ opening_identifier node.layout.slots → node.next < 2 ^ 42) → IsNode node → IsNode (after_hearing node sent))
-    → ((one other : NodeState) (sent also : TimedFrame) → AreApart one other → AreApart (after_hearing one sent) (after_hearing other also))
     → All (λ sent. 1 < sent.frame.identifier) frames → AreNodes layout before.nodes → AreNodes layout (told cycle_line before frames).nodes
-AreNodes-told layout [] before stays apart none are = are
-AreNodes-told layout (sent ∷ later) before stays apart none are =
+AreNodes-told layout [] before none are = are
+AreNodes-told layout (sent ∷ later) before none are =
     let other = All-head (λ one. 1 < one.frame.identifier) sent later none in
-    AreNodes-told layout later (cycle_line.next before sent) stays apart (All-tail (λ one. 1 < one.frame.identifier) sent later none)
-    (AreNodes-hearing layout before.nodes sent (λ node. stays node sent) (λ one two. apart one two sent sent)
+    AreNodes-told layout later (cycle_line.next before sent) (All-tail (λ one. 1 < one.frame.identifier) sent later none)
+    (AreNodes-hearing layout before.nodes sent
     (λ k d _ opens. absurd (opens_not (get_or before.nodes k d).layout.slots sent.frame.identifier other opens)) are)
 
 -- no trigger frame is left
@@ -70,54 +67,51 @@ AreStations-alone layout nodes are = record {
   next = λ some. absurd (some refl);
 }
 
-module _ (in_range : (node : NodeState) (at id : ℕ) → IsNode node → node_offer node at ≡ Some id → (0x100 ≤ id) × (id ≤ 0x7EF)) where
-  -- a frame with an identifier of a trigger frame is that of the first of them
-  first_offered : (b : Bool) (due : DueTrigger) (nodes : List NodeState) (at id : ℕ) → All IsNode nodes
-      → Contains (cond b (due.frame.identifier ∷ []) [] ++ offered_by_nodes nodes at) id → id ≤ 1 → due.frame.identifier ≡ id
-  first_offered b due nodes at id are has low = elim (Contains-append_cases (cond b (due.frame.identifier ∷ []) []) (offered_by_nodes nodes at) id has) [
-    | inl here ↦ only_id b due.frame.identifier id here
-    | inr there ↦ absurd (omega (arith, low, (All-contains (λ n. (0x100 ≤ n) × (n ≤ 0x7EF)) (offered_by_nodes nodes at) id (offers_range in_range nodes at are) there).0))
-  ]
+-- a frame with an identifier of a trigger frame is that of the first of them
+first_offered : (b : Bool) (due : DueTrigger) (nodes : List NodeState) (at id : ℕ) → All IsNode nodes
+    → Contains (cond b (due.frame.identifier ∷ []) [] ++ offered_by_nodes nodes at) id → id ≤ 1 → due.frame.identifier ≡ id
+first_offered b due nodes at id are has low = elim (Contains-append_cases (cond b (due.frame.identifier ∷ []) []) (offered_by_nodes nodes at) id has) [
+  | inl here ↦ only_id b due.frame.identifier id here
+  | inr there ↦ absurd (omega (arith, low, (All-contains (λ n. (0x100 ≤ n) × (n ≤ 0x7EF)) (offered_by_nodes nodes at) id (offers_range nodes at are) there).0))
+]
 
-  pub is_first : (triggers : List DueTrigger) (nodes : List NodeState) (at id : ℕ) → All IsNode nodes
-      → Contains (offered_trigger triggers at ++ offered_by_nodes nodes at) id → id ≤ 1
-      → (due : DueTrigger) × (later : List DueTrigger) × (triggers ≡ due ∷ later) × (due.frame.identifier ≡ id)
-  is_first [] nodes at id are has low =
-      absurd (omega (arith, low, (All-contains (λ n. (0x100 ≤ n) × (n ≤ 0x7EF)) (offered_by_nodes nodes at) id (offers_range in_range nodes at are) has).0))
-  is_first (due ∷ later) nodes at id are has low = (due, later, refl, first_offered (nat_le due.at at) due nodes at id are has low)
+pub is_first : (triggers : List DueTrigger) (nodes : List NodeState) (at id : ℕ) → All IsNode nodes
+    → Contains (offered_trigger triggers at ++ offered_by_nodes nodes at) id → id ≤ 1
+    → (due : DueTrigger) × (later : List DueTrigger) × (triggers ≡ due ∷ later) × (due.frame.identifier ≡ id)
+is_first [] nodes at id are has low =
+    absurd (omega (arith, low, (All-contains (λ n. (0x100 ≤ n) × (n ≤ 0x7EF)) (offered_by_nodes nodes at) id (offers_range nodes at are) has).0))
+is_first (due ∷ later) nodes at id are has low = (due, later, refl, first_offered (nat_le due.at at) due nodes at id are has low)
 
-  trigger_alone : (b : Bool) (id : ℕ) (back : List ℕ) → id ≤ 1 → All (λ n. (0x100 ≤ n) × (n ≤ 0x7EF)) back → AreDistinct back
-      → AreDistinct (cond b (id ∷ []) [] ++ back) × All (λ n. n ≤ 0x7EF) (cond b (id ∷ []) [] ++ back)
-  trigger_alone true id back low range distinct = (
-    AllPairs-cons (λ a b. a ≢ b) id back (λ k d within same. omega (arith, low, same, (range k d within).0)) distinct,
-    All-cons (λ n. n ≤ 0x7EF) id back (omega (arith, low)) (λ k d within. (range k d within).1),
-  )
-  trigger_alone false id back low range distinct = (distinct, λ k d within. (range k d within).1)
+trigger_alone : (b : Bool) (id : ℕ) (back : List ℕ) → id ≤ 1 → All (λ n. (0x100 ≤ n) × (n ≤ 0x7EF)) back → AreDistinct back
+    → AreDistinct (cond b (id ∷ []) [] ++ back) × All (λ n. n ≤ 0x7EF) (cond b (id ∷ []) [] ++ back)
+trigger_alone true id back low range distinct = (
+  AllPairs-cons (λ a b. a ≢ b) id back (λ k d within same. omega (arith, low, same, (range k d within).0)) distinct,
+  All-cons (λ n. n ≤ 0x7EF) id back (omega (arith, low)) (λ k d within. (range k d within).1),
+)
+trigger_alone false id back low range distinct = (distinct, λ k d within. (range k d within).1)
 
-  with_trigger : (triggers : List DueTrigger) (at : ℕ) (back : List ℕ) → All (λ due. due.frame.identifier ≤ 1) triggers
-      → All (λ n. (0x100 ≤ n) × (n ≤ 0x7EF)) back → AreDistinct back
-      → AreDistinct (offered_trigger triggers at ++ back) × All (λ n. n ≤ 0x7EF) (offered_trigger triggers at ++ back)
-  with_trigger [] at back low range distinct = (distinct, λ k d within. (range k d within).1)
-  with_trigger (due ∷ later) at back low range distinct =
-      trigger_alone (nat_le due.at at) due.frame.identifier back (All-head (λ x. x.frame.identifier ≤ 1) due later low) range distinct
+with_trigger : (triggers : List DueTrigger) (at : ℕ) (back : List ℕ) → All (λ due. due.frame.identifier ≤ 1) triggers
+    → All (λ n. (0x100 ≤ n) × (n ≤ 0x7EF)) back → AreDistinct back
+    → AreDistinct (offered_trigger triggers at ++ back) × All (λ n. n ≤ 0x7EF) (offered_trigger triggers at ++ back)
+with_trigger [] at back low range distinct = (distinct, λ k d within. (range k d within).1)
+with_trigger (due ∷ later) at back low range distinct =
+    trigger_alone (nat_le due.at at) due.frame.identifier back (All-head (λ x. x.frame.identifier ≤ 1) due later low) range distinct
 
-  pub offers-distinct : (stations : Stationed) (at : ℕ)
-      → ((one other : NodeState) (id : ℕ) → one.layout ≡ other.layout → IsNode one → IsNode other → AreApart one other
-      → node_offer one at ≡ Some id → node_offer other at ≡ Some id → ⊥)
-      → AreStations stations
-      → AreDistinct (cycle_line.offered stations at) × All (λ n. n ≤ 0x7EF) (cycle_line.offered stations at)
-  offers-distinct stations at never_both are =
-      let nodes = stations.nodes in
-      let Pair : NodeState → NodeState → Type 0 = λ one other. (one.layout ≡ other.layout) × IsNode one × IsNode other × AreApart one other in
-      let pairs : AllPairs Pair nodes = λ i j d first within. (
-        are.nodes.layouts i d (omega (arith, first, within)) ∙ sym (are.nodes.layouts j d within),
-        are.nodes.are i d (omega (arith, first, within)),
-        are.nodes.are j d within,
-        are.nodes.apart i j d first within,
-      ) in
-      let distinct = AllPairs-filter_map (λ node. node_offer node at) Pair
-      (λ one other a b pair is also same. never_both one other a pair.0 pair.1 pair.2 pair.3 is (also ∙ ap (λ n. Some n) (sym same))) nodes pairs in
-      with_trigger stations.triggers at (offered_by_nodes nodes at) are.triggers.low (offers_range in_range nodes at are.nodes.are) distinct
+pub offers-distinct : (stations : Stationed) (at : ℕ)
+    → AreStations stations
+    → AreDistinct (cycle_line.offered stations at) × All (λ n. n ≤ 0x7EF) (cycle_line.offered stations at)
+offers-distinct stations at are =
+    let nodes = stations.nodes in
+    let Pair : NodeState → NodeState → Type 0 = λ one other. (one.layout ≡ other.layout) × IsNode one × IsNode other × AreApart one other in
+    let pairs : AllPairs Pair nodes = λ i j d first within. (
+      are.nodes.layouts i d (omega (arith, first, within)) ∙ sym (are.nodes.layouts j d within),
+      are.nodes.are i d (omega (arith, first, within)),
+      are.nodes.are j d within,
+      are.nodes.apart i j d first within,
+    ) in
+    let distinct = AllPairs-filter_map (λ node. node_offer node at) Pair
+    (λ one other a b pair is also same. offers-apart one other at a pair.0 pair.1 pair.2 pair.3 is (also ∙ ap (λ n. Some n) (sym same))) nodes pairs in
+    with_trigger stations.triggers at (offered_by_nodes nodes at) are.triggers.low (offers_range nodes at are.nodes.are) distinct
 
 -- what is left of the trigger frames behind one frame
 module _ (layout : CycleLayout) where
@@ -153,14 +147,13 @@ module _ (layout : CycleLayout) where
 
   -- the nodes can hear it
   pub can-hear : (triggers : List DueTrigger) (nodes : List NodeState) (sent : TimedFrame)
-      → ((node : NodeState) (at id : ℕ) → IsNode node → node_offer node at ≡ Some id → (0x100 ≤ id) × (id ≤ 0x7EF))
       → Contains (offered_trigger triggers sent.start ++ offered_by_nodes nodes sent.start) sent.frame.identifier
       → AreStations (record { layout = layout; triggers = triggers; nodes = nodes })
       → All (λ node. sent.frame.identifier ≡ opening_identifier node.layout.slots → node.next < 2 ^ 42) nodes
-  can-hear triggers nodes sent in_range has are = λ k d within opens. elim (cases_lt 1 sent.frame.identifier) [
+  can-hear triggers nodes sent has are = λ k d within opens. elim (cases_lt 1 sent.frame.identifier) [
     | inl high ↦ absurd (opens_not (get_or nodes k d).layout.slots sent.frame.identifier high opens)
     | inr low ↦
-        let first = is_first in_range triggers nodes sent.start sent.frame.identifier are.nodes.are has low in
+        let first = is_first triggers nodes sent.start sent.frame.identifier are.nodes.are has low in
         are.next (λ none. absurd (some_first first.0 first.1 (sym first.2 ∙ none))) k d within
   ]
     where
@@ -169,21 +162,18 @@ module _ (layout : CycleLayout) where
 
   -- stations that are told of a frame that one of them offers
   pub AreStations-told : (triggers : List DueTrigger) (nodes : List NodeState) (sent : TimedFrame)
-      → ((node : NodeState) (at id : ℕ) → IsNode node → node_offer node at ≡ Some id → (0x100 ≤ id) × (id ≤ 0x7EF))
-      → ((node : NodeState) → (sent.frame.identifier ≡ opening_identifier node.layout.slots → node.next < 2 ^ 42) → IsNode node → IsNode (after_hearing node sent))
-      → ((one other : NodeState) → AreApart one other → AreApart (after_hearing one sent) (after_hearing other sent))
       → Contains (offered_trigger triggers sent.start ++ offered_by_nodes nodes sent.start) sent.frame.identifier
       → AreStations (record { layout = layout; triggers = triggers; nodes = nodes })
       → AreStations (record { layout = layout; triggers = triggers_after sent.frame.identifier triggers; nodes = all_hear nodes sent })
-  AreStations-told triggers nodes sent in_range stays apart has are = record {
-    nodes = AreNodes-hearing layout nodes sent stays apart (can-hear triggers nodes sent in_range has are) are.nodes;
+  AreStations-told triggers nodes sent has are = record {
+    nodes = AreNodes-hearing layout nodes sent (can-hear triggers nodes sent has are) are.nodes;
     triggers = AreDue-after triggers sent.frame.identifier are.triggers;
     next = λ some. elim (cases_lt 1 sent.frame.identifier) [
       | inl high ↦
           next-kept_all nodes sent are.nodes.layouts (λ opens. opens_not layout.slots sent.frame.identifier high opens)
           (are.next (some-before triggers sent.frame.identifier some))
       | inr low ↦
-          let first = is_first in_range triggers nodes sent.start sent.frame.identifier are.nodes.are has low in
+          let first = is_first triggers nodes sent.start sent.frame.identifier are.nodes.are has low in
           let other = left-some first.0 first.1 sent.frame.identifier first.3 (subst (AreDueTriggers layout) first.2 are.triggers)
           (subst (λ ts. triggers_after sent.frame.identifier ts ≢ []) first.2 some) in
           next-kept_all nodes sent are.nodes.layouts other (are.next (some-before triggers sent.frame.identifier some))
@@ -199,12 +189,10 @@ AreDue-triggers layout at cycle l mask = record {
 }
 
 -- stations of which the nodes learn a list
-pub AreStations-learning : (stations : Stationed) (placed : List Placed)
-    → ((node : NodeState) → IsNode node → IsNode (learnt placed node))
-    → ((one other : NodeState) → one.number ≢ other.number → AreApart one other → AreApart (learnt placed one) (learnt placed other))
+pub AreStations-learning : (stations : Stationed) (placed : List Placed) → IsWellPlaced placed
     → AreStations stations → AreStations (record stations { nodes = map (learnt placed) stations.nodes })
-AreStations-learning stations placed stays apart before = record {
-  nodes = AreNodes-learning stations.layout stations.nodes placed stays apart before.nodes;
+AreStations-learning stations placed well before = record {
+  nodes = AreNodes-learning stations.layout stations.nodes placed well before.nodes;
   triggers = before.triggers;
   next = λ some. All-map (λ node. node.next < 2 ^ 42) (learnt placed) stations.nodes (before.next some);
 }

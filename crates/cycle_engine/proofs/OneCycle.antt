@@ -23,7 +23,7 @@ use Rattle.cycle_engine.proofs.Belongs.{known-senders}
 use Rattle.cycle_engine.proofs.TriggerFrames.{frames_long}
 use Rattle.cycle_engine.proofs.Announced.{can-be-heard, go-first}
 use Rattle.cycle_engine.proofs.NextCycle.{AtCycle-behind}
-use Rattle.cycle_engine.proofs.Along.{Follows-cycle, NodeLaws, Standing, Waiting}
+use Rattle.cycle_engine.proofs.Along.{Follows-cycle, Standing, Waiting}
 
 -- what nodes announce, by its parts
 pub announced-same : (layout also : CycleLayout) (at later : ℕ) (frames others : List DataFrame) (nodes same : List NodeState)
@@ -49,27 +49,27 @@ pub record IsRun (layout : CycleLayout) (order : Order) (nodes : List NodeState)
   pub runs : RunsOrder order frames layout nodes
 
 -- the next cycle of the nodes is one more behind it
-pub cycle_next : (laws : NodeLaws) (layout : CycleLayout) (order : Order) (nodes : List NodeState) (frames : List TimedFrame) → IsRun layout order nodes frames
+pub cycle_next : (layout : CycleLayout) (order : Order) (nodes : List NodeState) (frames : List TimedFrame) → IsRun layout order nodes frames
     → All (λ node. node.next ≡ order.cycle + 1) (heard_by frames nodes)
-cycle_next laws layout order nodes frames run =
+cycle_next layout order nodes frames run =
     let long = frames_long layout.slots order.cycle order.l order.mask in
-    AtCycle-behind laws.in_range laws.stays layout ((order.cycle + 1) * layout.cycle) nodes frames (order.cycle * layout.cycle) order.cycle order.l order.mask
+    AtCycle-behind layout ((order.cycle + 1) * layout.cycle) nodes frames (order.cycle * layout.cycle) order.cycle order.l order.mask
     (omega (arith, long, add-mul order.cycle 1 layout.cycle, run.is_layout.room))
-    (can-be-heard layout order.cycle order.l order.mask laws.at_most nodes run.early run.are run.layouts run.next) run.next run.runs
+    (can-be-heard layout order.cycle order.l order.mask nodes run.early run.are run.layouts run.next) run.next run.runs
 
 -- the frames begin with the trigger frames
-pub begins : (laws : NodeLaws) (layout : CycleLayout) (order : Order) (nodes : List NodeState) (frames : List TimedFrame) → IsRun layout order nodes frames
+pub begins : (layout : CycleLayout) (order : Order) (nodes : List NodeState) (frames : List TimedFrame) → IsRun layout order nodes frames
     → BeginsWithTriggers layout order frames
-begins laws layout order nodes frames run =
+begins layout order nodes frames run =
     let start = order.cycle * layout.cycle in
     let triggers = triggers_with layout.slots order.cycle order.l order.mask in
     let long = frames_long layout.slots order.cycle order.l order.mask in
-    let cut = go-first layout start laws.in_range laws.stays triggers nodes (announced layout start triggers nodes) [] start ((order.cycle + 1) * layout.cycle) frames
+    let cut = go-first layout start triggers nodes (announced layout start triggers nodes) [] start ((order.cycle + 1) * layout.cycle) frames
     (omega arith) (omega (arith, long, add-mul order.cycle 1 layout.cycle, run.is_layout.room))
-    (can-be-heard layout order.cycle order.l order.mask laws.at_most nodes run.early run.are run.layouts run.next) refl run.runs in
+    (can-be-heard layout order.cycle order.l order.mask nodes run.early run.are run.layouts run.next) refl run.runs in
     record { sent = cut.sent; later = cut.later; split = cut.split; are = cut.are }
 
-module _ (laws : NodeLaws) (layout : CycleLayout) (order : Order) (nodes : List NodeState) (frames : List TimedFrame) (run : IsRun layout order nodes frames)
+module _ (layout : CycleLayout) (order : Order) (nodes : List NodeState) (frames : List TimedFrame) (run : IsRun layout order nodes frames)
     (owners : List Owner) (requests : List Request) (placed : List Placed) (past : List TimedFrame) (before : IsBefore layout owners requests placed past order nodes) where
   is_waiting : Waiting layout owners requests (opening_of order placed) past nodes
   is_waiting = record {
@@ -87,7 +87,7 @@ module _ (laws : NodeLaws) (layout : CycleLayout) (order : Order) (nodes : List 
   both : Follows (offered_in bytes_of layout requests (opening_of order placed)) past (order.cycle * layout.cycle) ((order.cycle + 1) * layout.cycle) frames
       × Standing layout owners requests (opening_of order placed) (past ++ frames) (heard_by frames nodes)
   both =
-      Follows-cycle laws layout owners requests (opening_of order placed) before.bus.are_owners before.bus.well_placed past nodes is_waiting frames
+      Follows-cycle layout owners requests (opening_of order placed) before.bus.are_owners before.bus.well_placed past nodes is_waiting frames
       (subst (λ l. Follows (offers_of cycle_line (announced layout (order.cycle * layout.cycle) (triggers_with layout.slots order.cycle l order.mask) nodes))
       [] (order.cycle * layout.cycle) ((order.cycle + 1) * layout.cycle) frames) before.fits.width run.runs)
 

@@ -1,5 +1,5 @@
 -- One opened cycle more, behind the CAN trace of those before it.
-use Rattle.std.proofs.Common.{◌≡◌, ℕ, Bool, true, false, ◌+◌, ◌*◌, ◌<◌, ◌≤◌, ◌↔◌, eqb, max, List, [], ◌∷◌, ◌++◌, All, Contains, filter, get_or, refl, sym, ap, ◌∙◌, subst, arith, inl, inr}
+use Rattle.std.proofs.Common.{◌≡◌, ℕ, Bool, true, false, ◌+◌, ◌*◌, ◌<◌, ◌≤◌, eqb, max, List, [], ◌∷◌, ◌++◌, All, Contains, filter, get_or, refl, sym, ap, ◌∙◌, subst, arith, inl, inr}
 use Rattle.std.proofs.lemmas.Bool.{cond-true, cond-false, eq-eqb, ne_eqb}
 use Rattle.std.proofs.lemmas.List.{append-nil}
 use Rattle.std.proofs.lemmas.List.Elements.{All-append, All-cons, All-contains, All-head, All-nil, All-push, All-tail, Contains-append_left, Contains-push, Contains-push_cases, filter-append}
@@ -9,7 +9,8 @@ use Rattle.cycle_layout.specs.Layout.{CycleLayout, IsLayout}
 use Rattle.requirement_table.specs.Instance.{Instance}
 use Rattle.requirement_table.specs.Table.{instance_in}
 use Rattle.async_window.specs.declared.request.Request.{Request}
-use Rattle.bus_line.specs.Trace.{AgreeAlong, Follows, IsTrace, end_of, free_after}
+use Rattle.bus_line.specs.Trace.{AgreeAlong, Follows, end_of, free_after}
+use Rattle.bus_line.proofs.Shared.{Follows-along, Follows-from_trace, Follows-joined, trace_from_Follows, within_from_Follows}
 use Rattle.requirement_table.specs.Opening.{Opening}
 use Rattle.node_model.specs.Opening.{start_of, end_of_cycle}
 use Rattle.cycle_engine.specs.Cycle.{FitsWindow, FollowsTrace, RunsCycle, RunsCycles, cycle_of, frames_in}
@@ -17,7 +18,7 @@ use Rattle.cycle_engine.specs.Offered.{AreAsynchronous, IsCanTrace, SendsWhole, 
 use Rattle.cycle_engine.proofs.Belongs.{some_instance}
 use Rattle.cycle_engine.proofs.Lists.{Contains-here, Contains-later}
 use Rattle.cycle_engine.proofs.OneTrace.{in_cycle}
-use Rattle.cycle_engine.proofs.Window.{AreShort, IsFit, runs_cycle}
+use Rattle.cycle_engine.proofs.Window.{IsFit, runs_cycle}
 
 -- a filter that nothing passes, and one that everything passes
 filter-none : (p : TimedFrame → Bool) (xs : List TimedFrame) → ((x : TimedFrame) → Contains xs x → p x ≡ false) → filter p xs ≡ []
@@ -31,7 +32,7 @@ filter-all p (x ∷ xs) all =
     cond-true (p x) _ _ (all x (Contains-here x xs)) ∙ ap (λ l. x ∷ l) (filter-all p xs (λ y among. all y (Contains-later x xs y among)))
 
 -- a bus on which all frames end by a time is free then
-free_after-ended : (from until : ℕ) (frames : List TimedFrame) → from ≤ until → All (λ sent. end_of sent ≤ until) frames → free_after from frames ≤ until
+pub free_after-ended : (from until : ℕ) (frames : List TimedFrame) → from ≤ until → All (λ sent. end_of sent ≤ until) frames → free_after from frames ≤ until
 free_after-ended from until [] early ended = early
 free_after-ended from until (sent ∷ later) early ended =
     free_after-ended (end_of sent) until later (All-head (λ s. end_of s ≤ until) sent later ended) (All-tail (λ s. end_of s ≤ until) sent later ended)
@@ -42,31 +43,14 @@ All-front P [] back all = All-nil P
 All-front P (x ∷ front) back all = All-cons P x front (All-head P x (front ++ back) all) (All-front P front back (All-tail P x (front ++ back) all))
 
 -- a bus on which no frame starts before a time is not free before it
-free_after-begun : (low from : ℕ) (frames : List TimedFrame) → low ≤ from → All (λ sent. low ≤ sent.start) frames → low ≤ free_after from frames
+pub free_after-begun : (low from : ℕ) (frames : List TimedFrame) → low ≤ from → All (λ sent. low ≤ sent.start) frames → low ≤ free_after from frames
 free_after-begun low from [] late begun = late
 free_after-begun low from (sent ∷ later) late begun =
     let first : low ≤ sent.start = All-head (λ s. low ≤ s.start) sent later begun in
     free_after-begun low (end_of sent) later (omega (arith, first)) (All-tail (λ s. low ≤ s.start) sent later begun)
 
--- the laws of traces on which this stands
-pub record TraceLaws (sends : Instance → List ℕ) : Type 0 where
-  pub one_by_one : (layout : CycleLayout) (requests : List Request) (openings : List Opening) (until : ℕ) (trace : List TimedFrame)
-      → IsTrace (offered sends layout requests openings) until trace ↔ Follows (offered sends layout requests openings) [] 0 until trace
-  pub joined : (layout : CycleLayout) (requests : List Request) (openings : List Opening) (past : List TimedFrame) (free middle until : ℕ) (front back : List TimedFrame)
-      → middle ≤ until → Follows (offered sends layout requests openings) past free middle front
-      → Follows (offered sends layout requests openings) (past ++ front) (max middle (free_after free front)) until back
-      → Follows (offered sends layout requests openings) past free until (front ++ back)
-  pub more : (layout : CycleLayout) (requests : List Request) (openings others : List Opening) (past other_past : List TimedFrame) (free until : ℕ) (frames : List TimedFrame)
-      → AgreeAlong (offered sends layout requests openings) (offered sends layout requests others) past other_past free until frames
-      → Follows (offered sends layout requests openings) past free until frames → Follows (offered sends layout requests others) other_past free until frames
-  pub one : (layout : CycleLayout) (requests : List Request) (opening : Opening) (others : List Opening) (past other_past : List TimedFrame) (free until : ℕ) (frames : List TimedFrame)
-      → AgreeAlong (offered_in sends layout requests opening) (offered sends layout requests others) past other_past free until frames
-      → Follows (offered_in sends layout requests opening) past free until frames → Follows (offered sends layout requests others) other_past free until frames
-  pub within : (layout : CycleLayout) (requests : List Request) (opening : Opening) (past : List TimedFrame) (free until : ℕ) (frames : List TimedFrame)
-      → Follows (offered_in sends layout requests opening) past free until frames → All (λ sent. (free ≤ sent.start) × (sent.start < until)) frames
-
-module _ (sends : Instance → List ℕ) (layout : CycleLayout) (known : IsLayout layout) (requests : List Request) (openings : List Opening) (opening : Opening) (trace frames : List TimedFrame)
-    (behind : FollowsTrace sends layout requests openings opening trace frames) where
+module _ (sends : Instance → List ℕ) (layout : CycleLayout) (requests : List Request) (openings : List Opening) (opening : Opening) (trace frames : List TimedFrame)
+    (known : IsLayout layout) (behind : FollowsTrace sends layout requests openings opening trace frames) where
   abbrev with_it : List Opening
   with_it = openings ++ opening ∷ []
 
@@ -92,8 +76,8 @@ module _ (sends : Instance → List ℕ) (layout : CycleLayout) (known : IsLayou
   )
 
   -- from its start on, no other opening offers anything
-  pub agree-after : TraceLaws sends → AgreeAlong (offered_in sends layout requests opening) (offered sends layout requests with_it) trace trace start ends frames
-  agree-after laws front back at frame split from early = (
+  pub agree-after : AgreeAlong (offered_in sends layout requests opening) (offered sends layout requests with_it) trace trace start ends frames
+  agree-after front back at frame split from early = (
     λ offer. (opening, Contains-push openings opening, offer),
     λ offer. elim (Contains-push_cases openings opening offer.0 offer.1) [
       | inl before ↦
@@ -101,7 +85,7 @@ module _ (sends : Instance → List ℕ) (layout : CycleLayout) (known : IsLayou
           let below = All-contains (λ o. o.cycle < opening.cycle) openings offer.0 behind.below before in
           let over : (offer.0.cycle + 1) * layout.cycle ≤ opening.cycle * layout.cycle = mul-le-mul_right layout.cycle (omega (arith, below)) in
           let begun : All (λ s. start ≤ s.start) (front ++ back) =
-          subst (All (λ s. start ≤ s.start)) split (λ k d within. (laws.within layout requests opening trace start ends frames behind.follows k d within).0) in
+          subst (All (λ s. start ≤ s.start)) split (λ k d within. (within_from_Follows (offered_in sends layout requests opening) ends trace start frames behind.follows k d within).0) in
           let late = free_after-begun start start front (omega arith) (All-front (λ s. start ≤ s.start) front back begun) in
           absurd (omega (arith, time.1, over, from, late))
       | inr is ↦ subst (λ o. offered_in sends layout requests o (trace ++ front) at frame) (sym is) offer.2
@@ -112,25 +96,25 @@ module _ (sends : Instance → List ℕ) (layout : CycleLayout) (known : IsLayou
   longer = omega arith
 
   -- the trace with the frames of the cycle is the CAN trace
-  pub more-can_trace : TraceLaws sends → IsCanTrace sends layout requests with_it (opening.cycle + 1) (trace ++ frames)
-  more-can_trace laws =
-      let before = (laws.one_by_one layout requests openings start trace).0 behind.can_trace in
-      let front = laws.more layout requests openings with_it [] [] 0 start trace agree-before before in
-      let back = laws.one layout requests opening with_it trace trace start ends frames (agree-after laws) behind.follows in
+  pub more-can_trace : IsCanTrace sends layout requests with_it (opening.cycle + 1) (trace ++ frames)
+  more-can_trace =
+      let now = offered sends layout requests with_it in
+      let before = Follows-from_trace (offered sends layout requests openings) start trace behind.can_trace in
+      let front = Follows-along (offered sends layout requests openings) now [] [] 0 start trace agree-before before in
+      let back = Follows-along (offered_in sends layout requests opening) now trace trace start ends frames agree-after behind.follows in
       let free : max start (free_after 0 trace) ≡ start = (let early = free_after-ended 0 start trace (omega arith) behind.ended in omega arith) in
-      (laws.one_by_one layout requests with_it ends (trace ++ frames)).1
-      (laws.joined layout requests with_it [] 0 start ends trace frames longer front
+      trace_from_Follows now ends (trace ++ frames)
+      (Follows-joined now [] 0 start ends trace frames longer front
       (subst (λ from. Follows (offered sends layout requests with_it) trace from ends frames) (sym free) back))
 
-  is_fit : AreShort → FitsWindow layout opening → IsFit layout opening
-  is_fit short fits = record {
-    short = short;
+  is_fit : FitsWindow layout opening → IsFit layout opening
+  is_fit fits = record {
     present = λ slot within flagged. some_instance (instance_in opening.placed slot opening.cycle) (fits.present slot within flagged);
     room = (let room = known.room in let width = fits.width in omega arith);
   }
 
-  pub more-runs : AreShort → SendsWhole sends → AreAsynchronous requests → FitsWindow layout opening → RunsCycle sends layout opening frames
-  more-runs short whole asynchronous fits = runs_cycle sends whole layout requests opening trace frames (is_fit short fits) asynchronous behind.can_trace.within behind.follows
+  pub more-runs : SendsWhole sends → AreAsynchronous requests → FitsWindow layout opening → RunsCycle sends layout opening frames
+  more-runs whole asynchronous fits = runs_cycle sends whole layout requests opening trace frames (is_fit fits) asynchronous behind.can_trace.within behind.follows
 
   all-ended : RunsCycle sends layout opening frames → All (λ sent. end_of sent ≤ ends) frames
   all-ended runs =
@@ -143,15 +127,15 @@ module _ (sends : Instance → List ℕ) (layout : CycleLayout) (known : IsLayou
         | inr slot ↦ slot.before
       ])))
 
-  pub more-ended : AreShort → SendsWhole sends → AreAsynchronous requests → FitsWindow layout opening → All (λ sent. end_of sent ≤ ends) (trace ++ frames)
-  more-ended short whole asynchronous fits =
+  pub more-ended : SendsWhole sends → AreAsynchronous requests → FitsWindow layout opening → All (λ sent. end_of sent ≤ ends) (trace ++ frames)
+  more-ended whole asynchronous fits =
       All-append (λ sent. end_of sent ≤ ends) trace frames (λ k d within. let e = behind.ended k d within in omega arith)
-      (all-ended (more-runs short whole asynchronous fits))
+      (all-ended (more-runs whole asynchronous fits))
 
   -- the frames start in the cycle, and those before it do not
-  in-cycle : TraceLaws sends → (sent : TimedFrame) → Contains frames sent → cycle_of layout sent ≡ opening.cycle
-  in-cycle laws sent among =
-      let within = All-contains (λ s. (start ≤ s.start) × (s.start < ends)) frames sent (laws.within layout requests opening trace start ends frames behind.follows) among in
+  in-cycle : (sent : TimedFrame) → Contains frames sent → cycle_of layout sent ≡ opening.cycle
+  in-cycle sent among =
+      let within = All-contains (λ s. (start ≤ s.start) × (s.start < ends)) frames sent (within_from_Follows (offered_in sends layout requests opening) ends trace start frames behind.follows) among in
       div-eq_of_lt-le layout.cycle within.0 within.1
 
   before-cycle : (sent : TimedFrame) → Contains trace sent → cycle_of layout sent < opening.cycle
@@ -162,18 +146,18 @@ module _ (sends : Instance → List ℕ) (layout : CycleLayout) (known : IsLayou
   abbrev is_in : ℕ → TimedFrame → Bool
   is_in cycle sent = eqb (cycle_of layout sent) cycle
 
-  pub more-cycles : TraceLaws sends → AreShort → SendsWhole sends → AreAsynchronous requests → FitsWindow layout opening → RunsCycles sends layout openings trace → RunsCycles sends layout with_it (trace ++ frames)
-  more-cycles laws short whole asynchronous fits cycles =
+  pub more-cycles : SendsWhole sends → AreAsynchronous requests → FitsWindow layout opening → RunsCycles sends layout openings trace → RunsCycles sends layout with_it (trace ++ frames)
+  more-cycles whole asynchronous fits cycles =
       All-push (λ o. RunsCycle sends layout o (frames_in layout o.cycle (trace ++ frames))) openings opening
       (λ k d within.
       let o : Opening = get_or openings k d in
       let below = behind.below k d within in
-      let none : frames_in layout o.cycle frames ≡ [] = filter-none (is_in o.cycle) frames (λ s among. ne_eqb _ _ (λ same. let is = in-cycle laws s among in omega arith)) in
+      let none : frames_in layout o.cycle frames ≡ [] = filter-none (is_in o.cycle) frames (λ s among. ne_eqb _ _ (λ same. let is = in-cycle s among in omega arith)) in
       let same : frames_in layout o.cycle (trace ++ frames) ≡ frames_in layout o.cycle trace =
       filter-append (is_in o.cycle) trace frames ∙ ap (λ l. frames_in layout o.cycle trace ++ l) none ∙ append-nil _ in
       subst (RunsCycle sends layout o) (sym same) (cycles k d within))
       (let none : frames_in layout opening.cycle trace ≡ [] = filter-none (is_in opening.cycle) trace (λ s among. ne_eqb _ _ (λ same. let is = before-cycle s among in omega arith)) in
-      let all : frames_in layout opening.cycle frames ≡ frames = filter-all (is_in opening.cycle) frames (λ s among. eq-eqb _ _ (in-cycle laws s among)) in
+      let all : frames_in layout opening.cycle frames ≡ frames = filter-all (is_in opening.cycle) frames (λ s among. eq-eqb _ _ (in-cycle s among)) in
       let same : frames_in layout opening.cycle (trace ++ frames) ≡ frames =
       filter-append (is_in opening.cycle) trace frames ∙ ap (λ l. l ++ frames_in layout opening.cycle frames) none ∙ all in
-      subst (RunsCycle sends layout opening) (sym same) (more-runs short whole asynchronous fits))
+      subst (RunsCycle sends layout opening) (sym same) (more-runs whole asynchronous fits))

@@ -10,11 +10,12 @@ use Rattle.cycle_layout.specs.Layout.{CycleLayout, IsLayout}
 use Rattle.async_window.specs.declared.request.Request.{Request}
 use Rattle.async_window.specs.Waiting.{requests_of, unsent_after, frames_with}
 use Rattle.bus_line.specs.Trace.{IsDetermined}
+use Rattle.bus_line.proofs.Shared.{only-trace}
 use Rattle.requirement_table.specs.Instance.{Instance}
 use Rattle.requirement_table.specs.Opening.{Opening, width_of}
 use Rattle.node_model.specs.Opening.{start_of, end_of_cycle}
 use Rattle.node_model.specs.Offered.{OffersTrigger, OffersRequest, OffersSlot, bytes_sent, trigger_frames}
-use Rattle.cycle_engine.specs.Offered.{AreAsynchronous, AreOfDistinctCycles, offered, offered_in}
+use Rattle.cycle_engine.specs.Offered.{AreAsynchronous, AreOfDistinctCycles, IsCanTrace, offered, offered_in}
 use Rattle.cycle_engine.proofs.Lists.{Contains-slice_get, same_by_number}
 use Rattle.cycle_engine.proofs.TriggerFrames.{low_ids, rising}
 
@@ -113,3 +114,10 @@ module _ (sends : Instance → List ℕ) (layout : CycleLayout) (requests : List
       let cycles = same_cycle opening.cycle also.cycle layout.cycle at low.0 low.1 high.0 high.1 in
       let openings_same = same_by_number (λ o. o.cycle) openings opening also distinct in_one in_other cycles in
       same_in_cycle all opening past at one other is_one (subst (λ o. offered_in sends layout requests o past at other) (sym openings_same) is_other) same
+
+-- there is only one CAN trace of some opened cycles
+pub one-can_trace : (sends : Instance → List ℕ) (layout : CycleLayout) (requests : List Request) (openings : List Opening) (count : ℕ) (one other : List TimedFrame)
+    → IsLayout layout → AreAsynchronous requests → AreOfDistinctCycles openings
+    → IsCanTrace sends layout requests openings count one → IsCanTrace sends layout requests openings count other → one ≡ other
+one-can_trace sends layout requests openings count one other is asynchronous distinct =
+    only-trace (offered sends layout requests openings) (IsDetermined-offered sends layout requests is asynchronous openings distinct) (count * layout.cycle) one other

@@ -7,8 +7,9 @@ use Rattle.std.proofs.lemmas.List.Elements.{All-append, All-cons, All-contains, 
 use Rattle.can_frame.specs.DataFrame.{DataFrame}
 use Rattle.can_frame.specs.Wire.{wire_length}
 use Rattle.can_frame.specs.declared.data_frame.TimedFrame.{TimedFrame}
+use Rattle.can_frame.proofs.Shared.{wire-most}
 use Rattle.cycle_layout.specs.Layout.{CycleLayout, trigger_part}
-use Rattle.requirement_table.specs.Instance.{Instance, worst}
+use Rattle.requirement_table.specs.Instance.{Instance}
 use Rattle.trigger_codec.specs.Bytes.{triggers_with}
 use Rattle.trigger_codec.proofs.Shared.{eight_bytes}
 pub use Rattle.trigger_codec.proofs.Shared.{few_frames, frames_long, low_ids, opens_last, rising}
@@ -21,11 +22,10 @@ use Rattle.cycle_engine.specs.Offered.{offered_in}
 use Rattle.cycle_engine.proofs.Lists.{AllPairs-head, AllPairs-tail, Contains-cases, Contains-from_map, Contains-here, Contains-later, Contains-nil}
 
 -- so long each is at most
-pub frames_short : (slots cycle l mask : ℕ) → ((frame : DataFrame) → wire_length frame ≤ worst (length frame.bytes))
-    → All (λ frame. wire_length frame ≤ 135) (triggers_with slots cycle l mask)
-frames_short slots cycle l mask at_most =
+pub frames_short : (slots cycle l mask : ℕ) → All (λ frame. wire_length frame ≤ 135) (triggers_with slots cycle l mask)
+frames_short slots cycle l mask =
     All-weaker (λ frame. length frame.bytes ≡ 8) (λ frame. wire_length frame ≤ 135)
-    (λ frame eight. omega (arith, eight, at_most frame)) (triggers_with slots cycle l mask) (eight_bytes slots cycle l mask)
+    (λ frame eight. omega (arith, eight, wire-most frame)) (triggers_with slots cycle l mask) (eight_bytes slots cycle l mask)
 
 -- Frames that start one at once behind the other, from a time on
 pub record StartAt (free : ℕ) (sent : TimedFrame) : Type 0 where

@@ -1,21 +1,20 @@
 -- A cycle in two parts: the bus runs over its stations up to the synchronous window, and then over the nodes in that
 -- window.
-use Rattle.std.proofs.Common.{◌≡◌, ℕ, ◌+◌, ◌*◌, ◌^◌, ◌<◌, ◌≤◌, List, [], ◌∷◌, ◌++◌, All, Some, length, map, max, get_or, refl, sym, ap, ◌∙◌, subst, arith}
+use Rattle.std.proofs.Common.{◌≡◌, ℕ, ◌+◌, ◌*◌, ◌^◌, ◌<◌, ◌≤◌, List, [], ◌∷◌, ◌++◌, All, length, map, max, get_or, refl, sym, ap, ◌∙◌, subst, arith}
 use Rattle.std.specs.Prelude.{fold}
 use Rattle.std.proofs.Math.Nat.{add-mul}
 use Rattle.std.proofs.lemmas.List.Elements.{All-map, All-weaker}
 use Rattle.std.proofs.lemmas.List.Sums.{fold-append}
-use Rattle.can_frame.specs.DataFrame.{DataFrame}
-use Rattle.can_frame.specs.Wire.{wire_length}
 use Rattle.can_frame.specs.declared.data_frame.TimedFrame.{TimedFrame}
+use Rattle.can_frame.proofs.Shared.{wire-least}
 use Rattle.cycle_layout.specs.Layout.{CycleLayout, IsLayout, sync_start, trigger_part}
-use Rattle.requirement_table.specs.Instance.{worst}
 use Rattle.trigger_codec.specs.Bytes.{triggers_with}
-use Rattle.bus_line.specs.Trace.{AgreeAlong, Follows, end_of, free_after}
+use Rattle.bus_line.specs.Trace.{Follows, end_of, free_after}
 use Rattle.bus_line.specs.Stations.{IsOffered, Ran, offers_of, told}
-use Rattle.trigger_kind.specs.Kind.{opening_identifier}
-use Rattle.node_model.specs.Node.{IsNode, NodeState, after_hearing, node_offer}
+use Rattle.bus_line.proofs.Shared.{Follows-along, Follows-joined}
+use Rattle.node_model.specs.Node.{NodeState, after_hearing}
 use Rattle.node_model.specs.Window.{IsInWindow}
+use Rattle.node_model.proofs.Shared.{opens-cycle, stays-in_window}
 use Rattle.cycle_engine.specs.Nodes.{heard_by}
 use Rattle.cycle_engine.specs.Stations.{AreNodes, Stationed, announced, cycle_line}
 use Rattle.cycle_engine.specs.SyncWindow.{IsBeforeWindow, nodes_alone}
@@ -25,66 +24,49 @@ use Rattle.cycle_engine.proofs.Announced.{CanBeHeard, can-be-heard}
 use Rattle.cycle_engine.proofs.Along.{told-heard, told-layout}
 use Rattle.cycle_engine.proofs.NextCycle.{All-behind}
 
--- the laws of traces on which this stands
-pub record PartLaws : Type 0 where
-  pub joined : (setting : Stationed) (past : List TimedFrame) (free middle until : ℕ) (front back : List TimedFrame) → middle ≤ until
-      → Follows (offers_of cycle_line setting) past free middle front
-      → Follows (offers_of cycle_line setting) (past ++ front) (max middle (free_after free front)) until back
-      → Follows (offers_of cycle_line setting) past free until (front ++ back)
-  pub along : (one other : Stationed) (past other_past : List TimedFrame) (free until : ℕ) (frames : List TimedFrame)
-      → AgreeAlong (offers_of cycle_line one) (offers_of cycle_line other) past other_past free until frames
-      → Follows (offers_of cycle_line one) past free until frames → Follows (offers_of cycle_line other) other_past free until frames
-
 -- the stations behind some frames, once no trigger frame is left
 told-is : (s : Stationed) (layout : CycleLayout) → s.layout ≡ layout → s.triggers ≡ [] → nodes_alone layout s.nodes ≡ s
 told-is s layout same none =
     ap (λ l. record { layout = l; triggers = []; nodes = s.nodes }) (sym same) ∙ ap (λ t. record { layout = s.layout; triggers = t; nodes = s.nodes }) (sym none)
 
 -- what follows among the stations behind some frames follows those frames
-Follows-told : PartLaws → (before : Stationed) (front back : List TimedFrame) (free until : ℕ)
+Follows-told : (before : Stationed) (front back : List TimedFrame) (free until : ℕ)
     → Follows (offers_of cycle_line (told cycle_line before front)) [] free until back → Follows (offers_of cycle_line before) front free until back
-Follows-told laws before front back free until follows =
-    laws.along (told cycle_line before front) before [] front free until back
+Follows-told before front back free until follows =
+    Follows-along (offers_of cycle_line (told cycle_line before front)) (offers_of cycle_line before) [] front free until back
     (λ sofar later at frame _ _ _.
     let same : told cycle_line (told cycle_line before front) sofar ≡ told cycle_line before (front ++ sofar) = sym (fold-append cycle_line.next before front sofar) in
     (subst (λ s. IsOffered cycle_line s at frame) same, subst (λ s. IsOffered cycle_line s at frame) (sym same)))
     follows
 
 -- both parts together
-pub Follows-parts : PartLaws → (layout : CycleLayout) (before : Stationed) (start window end : ℕ) (front back : List TimedFrame) → window ≤ end
+pub Follows-parts : (layout : CycleLayout) (before : Stationed) (start window end : ℕ) (front back : List TimedFrame) → window ≤ end
     → before.layout ≡ layout → (told cycle_line before front).triggers ≡ []
     → Follows (offers_of cycle_line before) [] start window front
     → Follows (offers_of cycle_line (nodes_alone layout (told cycle_line before front).nodes)) [] (max window (free_after start front)) end back
     → Follows (offers_of cycle_line before) [] start end (front ++ back)
-Follows-parts laws layout before start window end front back early same none first second =
-    laws.joined before [] start window end front back early first
-    (Follows-told laws before front back (max window (free_after start front)) end
+Follows-parts layout before start window end front back early same none first second =
+    Follows-joined (offers_of cycle_line before) [] start window end front back early first
+    (Follows-told before front back (max window (free_after start front)) end
     (subst (λ s. Follows (offers_of cycle_line s) [] (max window (free_after start front)) end back)
     (told-is (told cycle_line before front) layout (told-layout front before ∙ same) none) second))
 
 -- no frame is shorter than 47 bit times
-pub few-frames : ((frame : DataFrame) → 47 ≤ wire_length frame) → (before : Stationed) (past : List TimedFrame) (free until : ℕ) (frames : List TimedFrame)
+pub few-frames : (before : Stationed) (past : List TimedFrame) (free until : ℕ) (frames : List TimedFrame)
     → Follows (offers_of cycle_line before) past free until frames → free + 47 * length frames ≤ free_after free frames
-few-frames long before past free until [] follows = omega arith
-few-frames long before past free until (sent ∷ later) (next, follows) =
-    let rest = few-frames long before (past ++ sent ∷ []) (end_of sent) until later follows in
-    let first = long sent.frame in
+few-frames before past free until [] follows = omega arith
+few-frames before past free until (sent ∷ later) (next, follows) =
+    let rest = few-frames before (past ++ sent ∷ []) (end_of sent) until later follows in
+    let first = wire-least sent.frame in
     omega (arith, rest, first, next.whole, next.when_free)
 
 -- the nodes behind the first part are in the window
-module _ (in_range : (node : NodeState) (at id : ℕ) → IsNode node → node_offer node at ≡ Some id → (0x100 ≤ id) × (id ≤ 0x7EF))
-    (stays : (node : NodeState) (sent : TimedFrame) → (sent.frame.identifier ≡ opening_identifier node.layout.slots → node.next < 2 ^ 42) → IsNode node → IsNode (after_hearing node sent))
-    (stays_in : (node : NodeState) (from until : ℕ) (sent : TimedFrame) → 1 < sent.frame.identifier
-    → IsInWindow from until node → IsInWindow from until (after_hearing node sent))
-    (opens : (node : NodeState) (l mask : ℕ) (sent : List TimedFrame) → IsLayout node.layout → l ≤ node.layout.window → mask < 2 ^ node.layout.slots
-    → map (λ one. one.frame) sent ≡ triggers_with node.layout.slots node.next l mask
-    → (fold after_hearing node sent).opened ≡ Some (record { cycle = node.next; width = l; mask = mask; heard = 0 }))
-    (layout : CycleLayout) (cycle l mask : ℕ) (is_layout : IsLayout layout) (early : cycle < 2 ^ 42) (small : l ≤ layout.window) (few : mask < 2 ^ layout.slots) where
+module _ (layout : CycleLayout) (cycle l mask : ℕ) (is_layout : IsLayout layout) (early : cycle < 2 ^ 42) (small : l ≤ layout.window) (few : mask < 2 ^ layout.slots) where
   -- a node that hears the trigger frames is in the window of that cycle
   opened-by : (window end : ℕ) (node : NodeState) (sent : List TimedFrame) → sync_start layout cycle l ≤ window → end ≡ (cycle + 1) * layout.cycle
       → map (λ one. one.frame) sent ≡ triggers_with layout.slots cycle l mask → node.layout ≡ layout → node.next ≡ cycle → IsInWindow window end (fold after_hearing node sent)
   opened-by window end node sent begun ends triggers same next =
-      let own = opens node l mask sent (subst IsLayout (sym same) is_layout) (subst (λ x. l ≤ x.window) (sym same) small) (subst (λ x. mask < 2 ^ x.slots) (sym same) few)
+      let own = opens-cycle node l mask sent (subst IsLayout (sym same) is_layout) (subst (λ x. l ≤ x.window) (sym same) small) (subst (λ x. mask < 2 ^ x.slots) (sym same) few)
       (triggers ∙ ap (λ c. triggers_with layout.slots c l mask) (sym next) ∙ ap (λ x. triggers_with x.slots node.next l mask) (sym same)) in
       let its : (fold after_hearing node sent).layout ≡ layout = layout_kept_all node sent ∙ same in
       record {
@@ -100,7 +82,7 @@ module _ (in_range : (node : NodeState) (at id : ℕ) → IsNode node → node_o
       → All (IsInWindow window end) (heard_by frames nodes)
       × ((told cycle_line (announced layout start (triggers_with layout.slots cycle l mask) nodes) frames).triggers ≡ [])
   in_window-behind start window end nodes frames some begun ends can next follows =
-      All-behind in_range stays layout window (IsInWindow window end) (λ node sent other is. stays_in node window end sent other is)
+      All-behind layout window (IsInWindow window end) (λ node sent other is. stays-in_window node window end sent other is)
       nodes frames start (triggers_with layout.slots cycle l mask) (omega (arith, some, frames_long layout.slots cycle l mask)) can
       (λ sent triggers. All-map (IsInWindow window end) (λ node. fold after_hearing node sent) nodes
       (λ k d within. opened-by window end (get_or nodes k d) sent begun ends triggers (can.layouts k d within) (next k d within)))
@@ -122,21 +104,13 @@ Ran-same before also after from low until high old new free a b c d ran =
     (subst (λ x. Ran cycle_line x after from until old new free) a ran)))
 
 -- what is known of the nodes and the frames when the bus has run up to the synchronous window
-pub before-window : PartLaws → ((frame : DataFrame) → 47 + 8 * length frame.bytes ≤ wire_length frame) → ((frame : DataFrame) → wire_length frame ≤ worst (length frame.bytes))
-    → ((node : NodeState) (at id : ℕ) → IsNode node → node_offer node at ≡ Some id → (0x100 ≤ id) × (id ≤ 0x7EF))
-    → ((node : NodeState) (sent : TimedFrame) → (sent.frame.identifier ≡ opening_identifier node.layout.slots → node.next < 2 ^ 42) → IsNode node → IsNode (after_hearing node sent))
-    → ((node : NodeState) (from until : ℕ) (sent : TimedFrame) → 1 < sent.frame.identifier
-    → IsInWindow from until node → IsInWindow from until (after_hearing node sent))
-    → ((node : NodeState) (l mask : ℕ) (sent : List TimedFrame) → IsLayout node.layout → l ≤ node.layout.window → mask < 2 ^ node.layout.slots
-    → map (λ one. one.frame) sent ≡ triggers_with node.layout.slots node.next l mask
-    → (fold after_hearing node sent).opened ≡ Some (record { cycle = node.next; width = l; mask = mask; heard = 0 }))
-    → (layout : CycleLayout) (cycle l mask : ℕ) → IsLayout layout → cycle < 2 ^ 42 → l ≤ layout.window → mask < 2 ^ layout.slots
+pub before-window : (layout : CycleLayout) (cycle l mask : ℕ) → IsLayout layout → cycle < 2 ^ 42 → l ≤ layout.window → mask < 2 ^ layout.slots
     → (nodes : List NodeState) → AreNodes layout nodes → All (λ node. node.next ≡ cycle) nodes
     → (before after : Stationed) (from until : ℕ) (old new : List TimedFrame) (free : ℕ)
     → before ≡ announced layout (cycle * layout.cycle) (triggers_with layout.slots cycle l mask) nodes → from ≡ cycle * layout.cycle
     → until ≡ sync_start layout cycle l → old ≡ [] → Ran cycle_line before after from until old new free
     → IsBeforeWindow layout cycle l mask nodes after.nodes new (max until free)
-before-window laws long at_most in_range stays stays_in opens layout cycle l mask is_layout early small few nodes are next before after from until old new free a b c d first =
+before-window layout cycle l mask is_layout early small few nodes are next before after from until old new free a b c d first =
     let start = cycle * layout.cycle in
     let window = sync_start layout cycle l in
     let end = (cycle + 1) * layout.cycle in
@@ -146,21 +120,21 @@ before-window laws long at_most in_range stays stays_in opens layout cycle l mas
     let front = ran.frames in
     let longer = add-mul cycle 1 layout.cycle in
     let room : start + trigger_part layout ≤ window = omega (arith, longer, small, is_layout.room) in
-    let can = can-be-heard layout cycle l mask at_most nodes early are.are are.layouts next in
-    let behind = in_window-behind in_range stays stays_in opens layout cycle l mask is_layout early small few start window end nodes front room
+    let can = can-be-heard layout cycle l mask nodes early are.are are.layouts next in
+    let behind = in_window-behind layout cycle l mask is_layout early small few start window end nodes front room
     (omega arith) (omega arith) can next ran.follows in
     let told_of : after ≡ told cycle_line waiting front = ran.told_of in
     let heard : after.nodes ≡ heard_by front nodes = ap (λ s. s.nodes) told_of ∙ told-heard front waiting in
     let sooner : max window (free_after start front) ≡ max until free = ap (max window) (sym ran.free_is) ∙ ap (λ n. max n free) (sym c) in
     let shown : window ≤ max until free = omega (arith, c) in
-    let sum = few-frames (λ frame. omega (arith, long frame)) waiting [] start window front ran.follows in
+    let sum = few-frames waiting [] start window front ran.follows in
     record {
       in_window = in_window-later window (max until free) end after.nodes shown (subst (All (IsInWindow window end)) (sym heard) behind.0);
       few = subst (λ fs. start + 47 * length fs ≤ max until free) (sym ran.appended) (omega (arith, sum, ran.free_is));
       heard = heard ∙ ap (λ fs. heard_by fs nodes) (sym ran.appended);
       whole = λ later follows.
           subst (λ fs. Follows (offers_of cycle_line waiting) [] start end (fs ++ later)) (sym ran.appended)
-          (Follows-parts laws layout waiting start window end front later (omega arith) refl behind.1 ran.follows
+          (Follows-parts layout waiting start window end front later (omega arith) refl behind.1 ran.follows
           (subst (λ n. Follows (offers_of cycle_line (nodes_alone layout (told cycle_line waiting front).nodes)) [] n end later) (sym sooner)
           (subst (λ s. Follows (offers_of cycle_line (nodes_alone layout s.nodes)) [] (max until free) end later) told_of follows)));
     }

@@ -13,6 +13,7 @@ use Rattle.profile.specs.Limits.{first_identifier}
 use Rattle.can_frame.specs.DataFrame.{DataFrame}
 use Rattle.can_frame.specs.declared.data_frame.TimedFrame.{TimedFrame}
 use Rattle.can_frame.specs.Wire.{wire_length}
+use Rattle.can_frame.proofs.Shared.{wire-most, wire-positive}
 use Rattle.cycle_layout.specs.Layout.{CycleLayout, async_open, trigger_part}
 use Rattle.bit_sets.specs.Sets.{has_bit, most_slots}
 use Rattle.requirement_table.specs.Instance.{Instance, bytes_of, payload, worst, worst_of}
@@ -36,14 +37,8 @@ use Rattle.bit_sets.proofs.Shared.{sum_where-member, sum_where-without}
 abbrev pub IsLaterFrame : CycleLayout → Opening → TimedFrame → Type 0
 IsLaterFrame layout opening sent = IsRequestFrame layout opening sent ⊎ IsSlotFrame layout opening sent
 
--- what a frame's wire takes
-pub record AreShort : Type 0 where
-  pub some_time : (frame : DataFrame) → 0 < wire_length frame
-  pub in_time : (frame : DataFrame) → wire_length frame ≤ worst (length frame.bytes)
-
 -- what makes a cycle one in which each flagged slot has its frame and its time
 pub record IsFit (layout : CycleLayout) (opening : Opening) : Type 0 where
-  pub short : AreShort
   pub present : (slot : ℕ) → slot < most_slots → has_bit opening.mask slot ≡ true → (i : Instance) × (instance_in opening.placed slot opening.cycle ≡ Some i)
   pub room : start_of layout opening + trigger_part layout + width_of opening ≤ end_of_cycle layout opening
 
@@ -90,12 +85,12 @@ record RequestTimes (layout : CycleLayout) (opening : Opening) (at : ℕ) (frame
   after : async_open layout opening.cycle ≤ at
   before : at + wire_length frame ≤ window_start layout opening
 
-request_frame : (layout : CycleLayout) (requests : List Request) (opening : Opening) (past : List TimedFrame) (at : ℕ) (frame : DataFrame) → AreShort
+request_frame : (layout : CycleLayout) (requests : List Request) (opening : Opening) (past : List TimedFrame) (at : ℕ) (frame : DataFrame)
     → AreAsynchronous requests → OffersRequest layout requests opening past at frame → RequestTimes layout opening at frame
-request_frame layout requests opening past at frame short asynchronous offer =
+request_frame layout requests opening past at frame asynchronous offer =
     let request : Request = offer.request in
     let least = is_asynchronous requests past frame.identifier request asynchronous offer.may_start.waiting.first in
-    let in_time = short.in_time request.frame in
+    let in_time = wire-most request.frame in
     let whole = offer.may_start.allowed.whole in
     subst (λ f. RequestTimes layout opening at f) (sym offer.its_frame)
     (record { identifier = least; after = offer.may_start.allowed.opened; before = omega arith })
@@ -180,10 +175,10 @@ module _ (sends : Instance → List ℕ) (whole : SendsWhole sends) where
       ap worst (sym (whole i)) ∙ ap (λ b. worst (length b)) (same_Some (sends i) bytes is)
 
   -- the frame of a slot takes no more than the slot costs
-  slot-in_time : (opening : Opening) (slot : ℕ) (frame : DataFrame) → AreShort → bytes_sent sends opening slot ≡ Some frame.bytes → wire_length frame ≤ worst_in opening.placed opening.cycle slot
-  slot-in_time opening slot frame short bytes =
+  slot-in_time : (opening : Opening) (slot : ℕ) (frame : DataFrame) → bytes_sent sends opening slot ≡ Some frame.bytes → wire_length frame ≤ worst_in opening.placed opening.cycle slot
+  slot-in_time opening slot frame bytes =
       let cost = cost-of (instance_in opening.placed slot opening.cycle) frame.bytes bytes in
-      let in_time = short.in_time frame in
+      let in_time = wire-most frame in
       omega arith
 
   -- the next frame of the window starts as soon as the bus is free and the window has begun
@@ -294,13 +289,13 @@ module _ (sends : Instance → List ℕ) (whole : SendsWhole sends) where
   }
   sends_pending layout requests opening past free now (sent ∷ later) fit asynchronous no_trigger begun is_free in_window which room follows =
       let whole = follows.0.whole in
-      let some_time = fit.short.some_time sent.frame in
+      let some_time = wire-positive sent.frame in
       let later_start = follows.0.when_free in
       elim follows.0.least.offered as (λ _. SendsPending layout opening past (sent ∷ later)) [
         | inl trigger ↦ absurd (no_trigger sent.start sent.frame trigger)
         | inr choice ↦ elim choice as (λ _. SendsPending layout opening past (sent ∷ later)) [
           | inl request ↦
-              let frame = request_frame layout requests opening past sent.start sent.frame fit.short asynchronous request in
+              let frame = request_frame layout requests opening past sent.start sent.frame asynchronous request in
               let before = frame.before in
               let at_window : now ≡ window_start layout opening = elim which [ inl e ↦ absurd (omega arith) | inr e ↦ e ] in
               let same = pending_width-other layout opening past sent frame.identifier in
@@ -316,7 +311,7 @@ module _ (sends : Instance → List ℕ) (whole : SendsWhole sends) where
               let at_now : sent.start ≡ now = starts_now layout requests opening past free now sent slot fit is_free in_window which follows.0 offer in
               let late : start_of layout opening ≤ sent.start = omega arith in
               let less = pending_width-sent layout opening past sent slot offer.known pending offer.identifier late in
-              let in_time = slot-in_time opening slot sent.frame fit.short offer.bytes in
+              let in_time = slot-in_time opening slot sent.frame offer.bytes in
               let rest = sends_pending layout requests opening (past ++ sent ∷ []) (end_of sent) (end_of sent) later fit asynchronous
               (NoTrigger-more layout opening past (sent ∷ []) no_trigger) (omega arith) (omega arith) (omega arith) (inl refl) (omega arith) follows.1 in
               joined layout opening past sent slot later offer pending late (omega arith) rest
@@ -336,7 +331,7 @@ module _ (sends : Instance → List ℕ) (whole : SendsWhole sends) where
       let start : ℕ = start_of layout opening in
       let free : ℕ = free_after start sent in
       let low = of-sent (λ f. f.identifier ≤ 1) sent (trigger_frames layout opening) are (low_ids layout.slots opening.cycle (width_of opening) opening.mask) in
-      let short = of-sent (λ f. wire_length f ≤ 135) sent (trigger_frames layout opening) are (frames_short layout.slots opening.cycle (width_of opening) opening.mask fit.short.in_time) in
+      let short = of-sent (λ f. wire_length f ≤ 135) sent (trigger_frames layout opening) are (frames_short layout.slots opening.cycle (width_of opening) opening.mask) in
       let long : length sent ≡ length (trigger_frames layout opening) = sym (length-map sent (λ s. s.frame)) ∙ ap length are in
       let few = few_frames layout.slots opening.cycle (width_of opening) opening.mask in
       let room : free + width_of opening ≤ end_of_cycle layout opening =
@@ -374,7 +369,7 @@ module _ (sends : Instance → List ℕ) (whole : SendsWhole sends) where
   runs_cycle layout requests opening past frames fit asynchronous before follows =
       let high : (earlier : List TimedFrame) (at : ℕ) (other : DataFrame) → OffersRequest layout requests opening earlier at other → 1 < other.identifier =
       λ earlier at other request. omega (arith, request_id sends layout requests asynchronous opening earlier at other request) in
-      let short = frames_short layout.slots opening.cycle (width_of opening) opening.mask fit.short.in_time in
+      let short = frames_short layout.slots opening.cycle (width_of opening) opening.mask in
       let long = frames_long layout.slots opening.cycle (width_of opening) opening.mask in
       let cut = cut-left layout opening sends requests high past [] (trigger_frames layout opening) (start_of layout opening) (end_of_cycle layout opening) frames
       (AreLeft-all layout opening past before) (omega arith) (omega (arith, long)) (omega (arith, fit.room)) short

@@ -19,14 +19,9 @@ ghost use Rattle.cycle_engine.specs.Stations.{announced, cycle_line};
 ghost use Rattle.cycle_engine.specs.SyncWindow.{IsBeforeWindow};
 
 use crate::stations::NodeStations;
-use bus_line::laws::{StationOffers, same_along, trace_laws};
 use bus_line::run_until;
-use can_frame::laws::wire_lengths;
 use can_frame::{Frame, TimedFrame};
 use cycle_layout::Layout;
-use node_model::laws::{
-    hears_a_cycle, offers_in_range, offers_its_part, sends_its_slots, stays_a_node,
-};
 use requirement_table::Order;
 use trigger_codec::{encode, encode_later};
 
@@ -58,11 +53,6 @@ pub fn run_cycle(order: &Order, stations: &mut NodeStations, frames: &mut Vec<Ti
         → IsBus stations.old.layout owners requests placed (past ++ frames.new.items)
         (order.now.cycle + 1) (stations.new.node.state ∷ []) }
 {
-    wire_lengths();
-    offers_its_part();
-    hears_a_cycle();
-    stays_a_node();
-    offers_in_range();
     order.mask.known();
     stations.are_known();
     frames.clear();
@@ -110,12 +100,6 @@ fn run_up_to_window(order: &Order, stations: &mut NodeStations, frames: &mut Vec
     ensures capacity { vec_capacity frames.old ≤ vec_capacity frames.new }
     ensures spare { stations.new.node.spare ≡ stations.old.node.spare }
 {
-    wire_lengths();
-    trace_laws::<StationOffers<NodeStations>>();
-    same_along::<StationOffers<NodeStations>, StationOffers<NodeStations>>();
-    sends_its_slots();
-    stays_a_node();
-    offers_in_range();
     order.mask.known();
     stations.are_known();
     let layout = *stations.layout();

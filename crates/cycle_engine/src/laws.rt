@@ -13,8 +13,7 @@ ghost use Rattle.cycle_engine.specs.Cycle.{FitsWindow, FollowsTrace, RunsCycle, 
 ghost use Rattle.cycle_engine.specs.Offered.{AreAsynchronous, AreOfDistinctCycles, IsCanTrace, SendsWhole};
 ghost use Rattle.cycle_engine.specs.Offered.{offered, offered_in};
 
-use bus_line::laws::{Offering, same_along, trace_laws};
-use can_frame::laws::wire_lengths;
+use bus_line::laws::Offering;
 
 /// What is offered on the bus in opened cycles, as the laws of the bus speak of it. A setting begins with the bytes that
 /// an instance sends.
@@ -48,9 +47,7 @@ pub fn one_can_trace()
         → IsLayout layout → AreAsynchronous requests → AreOfDistinctCycles openings
         → IsCanTrace sends layout requests openings count one
         → IsCanTrace sends layout requests openings count other → one ≡ other }
-{
-    trace_laws::<OpenedCycles>();
-}
+{}
 
 /// One opened cycle more, whatever bytes an instance sends. Where the trace so far is the CAN trace of the openings so
 /// far, all of cycles below the new one, and has ended by its start, and the frames of the new cycle follow it by what is
@@ -78,10 +75,4 @@ pub fn next_cycle()
         → SendsWhole sends → AreAsynchronous requests → FitsWindow layout opening
         → RunsCycles sends layout openings trace
         → RunsCycles sends layout (openings ++ opening ∷ []) (trace ++ frames) }
-{
-    wire_lengths();
-    trace_laws::<OpenedCycles>();
-    trace_laws::<OneCycle>();
-    same_along::<OpenedCycles, OpenedCycles>();
-    same_along::<OneCycle, OpenedCycles>();
-}
+{}

@@ -21,7 +21,6 @@ use bus_line::laws::sooner_wake;
 use can_frame::{Frame, KnownFront, TimedFrame};
 use cycle_layout::Layout;
 use node_model::Node;
-use node_model::laws::{nodes_are_apart, offers_in_range, stays_a_node};
 use requirement_table::{MOST_SLOTS, Placed};
 use std::alloc::{AllocError, Global};
 use std::marker::Model;
@@ -114,8 +113,6 @@ impl NodeStations {
         ensures learnt { self.new.node.state ≡ learnt placed.now self.old.node.state }
         ensures spare { self.old.node.spare ≤ self.new.node.spare }
     {
-        stays_a_node();
-        nodes_are_apart();
         self.node.learn_in(placed);
     }
 
@@ -160,8 +157,6 @@ impl NodeStations {
         ensures capacity { vec_capacity out.old ≤ vec_capacity out.new }
         ensures spare { self.new.node.spare ≡ self.old.node.spare }
     {
-        stays_a_node();
-        nodes_are_apart();
         sync_window::run_window(&mut self.node, &mut self.fronts, from, until, out);
         self.due = None;
     }
@@ -182,8 +177,6 @@ impl Stations for NodeStations {
     ghost fixed = { λ s. s.node.spare };
 
     fn offers(&self, at: u64, ids: &mut Contenders) {
-        offers_in_range();
-        nodes_are_apart();
         ids.clear();
         push_trigger(&self.due, at, ids);
         push_offer(self.node.offer(at), ids);
@@ -208,9 +201,6 @@ impl Stations for NodeStations {
     }
 
     fn sent(&mut self, sent: &TimedFrame) {
-        offers_in_range();
-        stays_a_node();
-        nodes_are_apart();
         self.node.hear(sent);
         take_due(&mut self.due, sent.frame.id());
     }

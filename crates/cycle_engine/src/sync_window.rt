@@ -10,10 +10,8 @@ ghost use Rattle.node_model.specs.Window.{IsInWindow};
 ghost use Rattle.cycle_engine.specs.SyncWindow.{IsSentBy, back_to_back, by_slots, due_among, due_by, is_among};
 
 use bit_sets::{difference, least_slot, without_least};
-use can_frame::laws::wire_lengths;
 use can_frame::{Frame, KnownFront, TimedFrame};
 use node_model::Node;
-use node_model::laws::{sends_its_slots, stays_a_node};
 use requirement_table::{MOST_SLOTS, Mask};
 
 /// For each slot what is known of the first bits of its frames.
@@ -38,9 +36,6 @@ pub fn run_window(
     ensures capacity { vec_capacity out.old ≤ vec_capacity out.new }
     ensures spare { node.new.spare ≡ node.old.spare }
 {
-    wire_lengths();
-    sends_its_slots();
-    stays_a_node();
     let before = out.as_slice().len();
     let due = due_slots(node);
     let left = send_slots(node, due, fronts, from, until, out);

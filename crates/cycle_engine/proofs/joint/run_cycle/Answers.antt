@@ -9,7 +9,6 @@ use Rattle.node_model.specs.Node.{IsNode, NodeState, after_hearing}
 use Rattle.cycle_engine.specs.Nodes.{IsBus}
 use Rattle.cycle_engine.specs.Stations.{announced, cycle_line}
 use Rattle.cycle_engine.proofs.FewFrames.{few-frames}
-use Rattle.cycle_engine.proofs.Along.{NodeLaws}
 use Rattle.cycle_engine.proofs.One.{one_alone}
 use Rattle.cycle_engine.proofs.OneCycle.{IsRun, begins, cycle_next, cycle_runs, cycle_stands}
 use Rattle.cycle_engine.proofs.joint.run_cycle.Goals as goal
@@ -21,15 +20,6 @@ returns c =
     let before : NodeState = c.args.stations.now.node.state in
     let nodes = before ∷ [] in
     let frames = c.run.new.frames.items in
-    let laws : NodeLaws = record {
-      positive = c.wire_lengths.ensures.not_empty;
-      own_part = c.offers_its_part.ensures.own_part;
-      trigger = c.hears_a_cycle.ensures.trigger;
-      later = c.hears_a_cycle.ensures.later;
-      stays = c.stays_a_node.ensures.hearing;
-      in_range = c.offers_in_range.ensures.in_range;
-      at_most = c.wire_lengths.ensures.at_most;
-    } in
     let are = c.are_known.ensures.known in
     let run : IsRun layout order nodes frames = record {
       is_layout = subst IsLayout (All-head (λ (node : NodeState). node.layout ≡ layout) before [] are.layouts) (All-head IsNode before [] are.are).layout;
@@ -42,20 +32,20 @@ returns c =
       runs = c.run.ensures.runs;
     } in
     let heard : c.run.new.stations.node.state ≡ fold after_hearing before frames = c.run.ensures.heard in
-    let few = few-frames (λ frame. omega (arith, c.wire_lengths.ensures.at_least frame))
+    let few = few-frames
     (offers_of cycle_line (announced layout (order.cycle * layout.cycle) (triggers_with layout.slots order.cycle order.l order.mask) nodes))
     [] (order.cycle * layout.cycle) ((order.cycle + 1) * layout.cycle) frames run.runs in
     record {
       layout = c.run.ensures.layout;
       heard = heard;
       next = ap (λ node. node.next) heard
-          ∙ All-head (λ (node : NodeState). node.next ≡ order.cycle + 1) (fold after_hearing before frames) [] (cycle_next laws layout order nodes frames run);
+          ∙ All-head (λ (node : NodeState). node.next ≡ order.cycle + 1) (fold after_hearing before frames) [] (cycle_next layout order nodes frames run);
       spare = c.run.ensures.spare;
       capacity = search rules;
       few = omega (arith, few, add-mul order.cycle 1 layout.cycle);
-      opens = begins laws layout order nodes frames run;
-      runs = cycle_runs laws layout order nodes frames run;
+      opens = begins layout order nodes frames run;
+      runs = cycle_runs layout order nodes frames run;
       stand = λ owners requests placed past is_before.
           subst (λ node. IsBus layout owners requests placed (past ++ frames) (order.cycle + 1) (node ∷ [])) (sym heard)
-          (cycle_stands laws layout order nodes frames run owners requests placed past is_before);
+          (cycle_stands layout order nodes frames run owners requests placed past is_before);
     }

@@ -9,7 +9,7 @@ use Rattle.cycle_engine.proofs.Along.{told-layout}
 use Rattle.cycle_engine.proofs.NodesApart.{AreDue-triggers}
 use Rattle.cycle_engine.proofs.One.{one_alone}
 use Rattle.cycle_engine.proofs.OneCycle.{announced-same}
-use Rattle.cycle_engine.proofs.TwoParts.{PartLaws, before-window}
+use Rattle.cycle_engine.proofs.TwoParts.{before-window}
 use Rattle.cycle_engine.proofs.joint.run_up_to_window.Goals as goal
 
 pub announce-requires-clause-due : goal.announce-requires-clause-due
@@ -32,7 +32,6 @@ returns-clause-before_window c =
     let order = c.args.order.now in
     let layout = c.args.stations.now.layout in
     let nodes = c.args.stations.now.node.state ∷ [] in
-    let laws : PartLaws = record { joined = c.trace_laws.ensures.joined; along = c.same_along.ensures.along } in
     let length : c.from.result ≡ layout.cycle = c.from.ensures ∙ c.cycle.ensures.value ∙ ap (λ l. l.cycle) c.layout.ensures.layout in
     let start : order.cycle * c.from.result ≡ order.cycle * layout.cycle = ap (λ n. order.cycle * n) length in
     let window : c.sync_start-window.result ≡ sync_start layout order.cycle order.l =
@@ -45,8 +44,7 @@ returns-clause-before_window c =
     ∙ announced-same layout layout _ _ _ _ nodes nodes refl start triggers refl in
     let is_layout : IsLayout layout = subst IsLayout c.layout.ensures.layout c.is_in_range.ensures.known in
     subst (λ from. IsBeforeWindow layout order.cycle order.l order.mask nodes (c.run_until.new.stations.node.state ∷ []) c.run_until.new.out.items from) (sym c.max.ensures)
-    (before-window laws c.wire_lengths.ensures.at_least c.wire_lengths.ensures.at_most c.offers_in_range.ensures.in_range c.stays_a_node.ensures.hearing c.sends_its_slots.ensures.stays c.sends_its_slots.ensures.opens
-    layout order.cycle order.l order.mask is_layout
+    (before-window layout order.cycle order.l order.mask is_layout
     c.requires.cycle c.requires.window c.requires.slots nodes c.are_known.ensures.known (one_alone (λ (node : NodeState). node.next ≡ order.cycle) c.args.stations.now.node.state c.requires.next)
     (stationed c.announce.new.self) (stationed c.run_until.new.stations) _ _ _ _ _ before start window c.requires.empty c.run_until.ensures.ran)
 

@@ -6,8 +6,7 @@ use Rattle.bit_sets.specs.Sets.{has_bit, most_slots}
 use Rattle.bit_sets.proofs.Shared.{has_bit-above}
 use Rattle.cycle_engine.specs.Nodes.{heard_by}
 use Rattle.cycle_engine.specs.SyncWindow.{back_to_back, due_frames, is_among}
-use Rattle.cycle_engine.proofs.Along.{opens_not}
-use Rattle.cycle_engine.proofs.BackToBack.{Follows-due, WindowLaws, behind-front, due-ids}
+use Rattle.cycle_engine.proofs.BackToBack.{Follows-due, behind-front, due-ids}
 use Rattle.node_model.specs.Node.{IsNode}
 use Rattle.node_model.specs.Window.{IsInWindow}
 use Rattle.cycle_engine.proofs.BySlots.{among-all}
@@ -53,22 +52,13 @@ returns c =
     let sent = back_to_back (due_frames nodes) c.args.from c.args.until in
     let put = c.send_slots-left.ensures.sent ∙ ap (λ fs. c.args.out.now.items ++ back_to_back fs c.args.from c.args.until) (among-all nodes c.due_slots-due.result c.due_slots-due.ensures.slots) in
     let same = behind-front c.args.out.now.items sent c.as_slice.result.now (length c.as_slice-before.result.now) (c.as_slice.ensures.value ∙ put) (ap length c.as_slice-before.ensures.value) in
-    let laws : WindowLaws = record {
-      long = c.wire_lengths.ensures.not_empty;
-      offers = c.sends_its_slots.ensures.offers;
-      frames = c.sends_its_slots.ensures.frames;
-      stays_in = λ node from until slot one known is within. c.sends_its_slots.ensures.stays node from until one (omega (arith, is));
-      same_frames = c.sends_its_slots.ensures.same_frames;
-      takes = c.sends_its_slots.ensures.takes;
-      stays = λ node one other. c.stays_a_node.ensures.hearing node one (λ opens. absurd (opens_not node.layout.slots one.frame.identifier other opens));
-    } in
     record {
       sent = record {
         frames = sent;
         appended = put;
         heard = ap (λ node. node ∷ []) c.hear_slots.ensures.heard ∙ ap (λ fs. heard_by fs nodes) same;
         no_trigger = λ k d within. omega (arith, (due-ids nodes c.args.from c.args.until k d within).0);
-        follows = λ layout. Follows-due laws layout c.args.from c.args.until nodes (one_alone IsNode c.args.node.now.state c.requires.node) (one_alone (IsInWindow c.args.from c.args.until) c.args.node.now.state c.requires.window);
+        follows = λ layout. Follows-due layout c.args.from c.args.until nodes (one_alone IsNode c.args.node.now.state c.requires.node) (one_alone (IsInWindow c.args.from c.args.until) c.args.node.now.state c.requires.window);
       };
       capacity = c.send_slots-left.ensures.capacity;
       spare = c.hear_slots.ensures.spare;

@@ -9,5 +9,4 @@ invariant_of-self c =
     let triggers = due_list c.self.inside.due in
     subst (λ state. AreStations (record { layout = c.self.inside.layout; triggers = triggers; nodes = state ∷ [] })) (sym c.learn_in.ensures.learnt)
     (AreStations-learning (record { layout = c.self.inside.layout; triggers = triggers; nodes = c.self.inside.node.state ∷ [] }) placed
-    (λ node. c.stays_a_node.ensures.learning placed node c.requires.well_placed)
-    (λ one other differ. c.nodes_are_apart.ensures.learning placed one other differ c.requires.well_placed) c.self.invariant)
+    c.requires.well_placed c.self.invariant)

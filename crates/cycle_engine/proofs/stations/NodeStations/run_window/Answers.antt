@@ -15,7 +15,7 @@ invariant_of-self c =
     let sent = c.run_window.ensures.sent in
     let told : AreNodes layout (heard_by sent.frames before)
     = subst (AreNodes layout) (told-heard sent.frames (nodes_alone layout before))
-    (AreNodes-told layout sent.frames (nodes_alone layout before) c.stays_a_node.ensures.hearing c.nodes_are_apart.ensures.hearing sent.no_trigger c.self.invariant.nodes) in
+    (AreNodes-told layout sent.frames (nodes_alone layout before) sent.no_trigger c.self.invariant.nodes) in
     subst (λ nodes. AreStations (nodes_alone layout nodes)) (sym sent.heard) (AreStations-alone layout (heard_by sent.frames before) told)
 
 pub run_window-requires-clause-node : goal.run_window-requires-clause-node

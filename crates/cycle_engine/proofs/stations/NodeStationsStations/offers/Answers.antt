@@ -8,8 +8,7 @@ use Rattle.cycle_engine.proofs.stations.NodeStationsStations.offers.Goals as goa
 pub push_offer-requires-clause-distinct : goal.push_offer-requires-clause-distinct
 push_offer-requires-clause-distinct c =
     let triggers = due_list c.self.inside.due in
-    let both = offers-distinct c.offers_in_range.ensures.in_range (record { layout = c.self.inside.layout; triggers = triggers; nodes = c.self.inside.node.state ∷ [] }) c.args.at
-    (λ one other id. c.nodes_are_apart.ensures.never_both one other c.args.at id) c.self.invariant in
+    let both = offers-distinct (record { layout = c.self.inside.layout; triggers = triggers; nodes = c.self.inside.node.state ∷ [] }) c.args.at c.self.invariant in
     let all = ap (λ ids. ids ++ cons_option c.offer.result []) c.push_trigger.ensures.pushed
     ∙ ap (λ o. offered_trigger triggers c.args.at ++ cons_option o []) c.offer.ensures.offer in
     subst AreDistinct (sym all) both.0
@@ -17,8 +16,7 @@ push_offer-requires-clause-distinct c =
 pub returns-clause-range : goal.returns-clause-range
 returns-clause-range c =
     let triggers = due_list c.self.inside.due in
-    let both = offers-distinct c.offers_in_range.ensures.in_range (record { layout = c.self.inside.layout; triggers = triggers; nodes = c.self.inside.node.state ∷ [] }) c.args.at
-    (λ one other id. c.nodes_are_apart.ensures.never_both one other c.args.at id) c.self.invariant in
+    let both = offers-distinct (record { layout = c.self.inside.layout; triggers = triggers; nodes = c.self.inside.node.state ∷ [] }) c.args.at c.self.invariant in
     let all = c.push_offer.ensures.pushed ∙ ap (λ ids. ids ++ cons_option c.offer.result []) c.push_trigger.ensures.pushed
     ∙ ap (λ o. offered_trigger triggers c.args.at ++ cons_option o []) c.offer.ensures.offer in
     subst (All (λ id. id ≤ 0x7EF)) (sym all) both.1

@@ -13,7 +13,7 @@ hear-requires c =
     let Hears : NodeState → Type 0 = λ node. c.args.sent.now.frame.identifier ≡ opening_identifier node.layout.slots → node.next < 2 ^ 42 in
     record {
       cycle = All-head Hears c.self.inside.node.state []
-          (can-hear c.self.inside.layout (due_list c.self.inside.due) (c.self.inside.node.state ∷ []) c.args.sent.now c.offers_in_range.ensures.in_range sending.offered.contends c.self.invariant);
+          (can-hear c.self.inside.layout (due_list c.self.inside.due) (c.self.inside.node.state ∷ []) c.args.sent.now sending.offered.contends c.self.invariant);
     }
 
 pub invariant_of-self : goal.invariant_of-self
@@ -27,5 +27,4 @@ invariant_of-self c =
     c.take_due.ensures.left ∙ ap (λ id. triggers_after id triggers) c.id.ensures.value in
     subst (λ state. AreStations (record { layout = layout; triggers = due_list c.take_due.new.due; nodes = state ∷ [] })) (sym c.hear.ensures.heard)
     (subst (λ ts. AreStations (record { layout = layout; triggers = ts; nodes = all_hear before sent })) (sym left)
-    (AreStations-told layout triggers before sent c.offers_in_range.ensures.in_range (λ node. c.stays_a_node.ensures.hearing node sent)
-    (λ one other. c.nodes_are_apart.ensures.hearing one other sent sent) sending.offered.contends c.self.invariant))
+    (AreStations-told layout triggers before sent sending.offered.contends c.self.invariant))
