@@ -2,24 +2,14 @@
 use Rattle.std.proofs.Common.{◌≡◌, ◌+◌, Bool, true, false, List, [], ◌∷◌, ◌++◌, All, cond, refl, sym, ap, ◌∙◌, subst, append_assoc, add-zero}
 use Rattle.std.proofs.lemmas.List.{append-nil}
 use Rattle.std.proofs.lemmas.List.Elements.{All-head, All-tail}
-use Rattle.std.proofs.lemmas.List.Sums.{fold-append, sum_by_push}
 use Rattle.requirement_table.specs.declared.entries.Placed.{Placed}
 use Rattle.admission_rules.specs.declared.Rules.{Rules}
 use Rattle.admission.specs.Verdict.{is_accepted}
 use Rattle.master_core.specs.declared.event.Event.{Event}
 use Rattle.master_core.specs.declared.event.Event.TheVariants.{Submit, Look, Open}
 use Rattle.master_core.specs.History.{AllAfter, IsLegal, IsRight, is_changed, is_changed_after, is_open, next_of, placed_after, placed_of}
-use Rattle.master_core.specs.Openings.{opening_of, openings_after, openings_of}
-
--- One event more
-
-AllAfter-push : (holds : List Event → Event → Type 0) (before events : List Event) (event : Event) → AllAfter holds before events
-    → holds (before ++ events) event → AllAfter holds before (events ++ event ∷ [])
-AllAfter-push holds before [] event all last = (subst (λ h. holds h event) (append-nil before) last, tt)
-AllAfter-push holds before (x ∷ events) event all last = (
-  all.0,
-  AllAfter-push holds (before ++ x ∷ []) events event all.1 (subst (λ h. holds h event) (sym (append_assoc before (x ∷ []) events)) last),
-)
+use Rattle.master_core.specs.Openings.{opening_of, openings_of}
+pub use Rattle.master_core.proofs.Shared.{is_changed-push, legal-push, next_of-push, openings_of-push, placed_of-push}
 
 pub AllAfter-parts : (holds : List Event → Event → Type 0) (before events later : List Event) → AllAfter holds before (events ++ later)
     → AllAfter holds before events × AllAfter holds (before ++ events) later
@@ -28,35 +18,11 @@ AllAfter-parts holds before (x ∷ events) later all =
     let rest = AllAfter-parts holds (before ++ x ∷ []) events later all.1 in
     ((all.0, rest.0), subst (λ h. AllAfter holds h later) (append_assoc before (x ∷ []) events) rest.1)
 
-pub legal-push : (rules : Rules) (history : List Event) (event : Event) → IsLegal rules history → IsRight rules history event → IsLegal rules (history ++ event ∷ [])
-legal-push rules history event legal right = AllAfter-push (IsRight rules) [] history event legal right
-
 pub legal-parts : (rules : Rules) (history later : List Event) → IsLegal rules (history ++ later) → IsLegal rules history × AllAfter (IsRight rules) history later
 legal-parts rules history later legal = AllAfter-parts (IsRight rules) [] history later legal
 
 pub legal-but_last : (rules : Rules) (history : List Event) (event : Event) → IsLegal rules (history ++ event ∷ []) → IsLegal rules history × IsRight rules history event
 legal-but_last rules history event legal = let parts = legal-parts rules history (event ∷ []) legal in (parts.0, parts.1.0)
-
-pub placed_of-push : (history : List Event) (event : Event) → placed_of (history ++ event ∷ []) ≡ placed_after (placed_of history) event
-placed_of-push history event = fold-append placed_after [] history (event ∷ [])
-
-is_changed-push : (history : List Event) (event : Event) → is_changed (history ++ event ∷ []) ≡ is_changed_after (is_changed history) event
-is_changed-push history event = fold-append is_changed_after false history (event ∷ [])
-
-pub next_of-push : (history : List Event) (event : Event) → next_of (history ++ event ∷ []) ≡ next_of history + cond (is_open event) 1 0
-next_of-push history event = sum_by_push (λ e. cond (is_open e) 1 0) history event
-
-openings_after-push : (before events : List Event) (event : Event)
-    → openings_after before (events ++ event ∷ []) ≡ openings_after before events ++ opening_of (before ++ events) event
-openings_after-push before [] event = append-nil (opening_of before event) ∙ ap (λ h. opening_of h event) (sym (append-nil before))
-openings_after-push before (first ∷ events) event =
-    ap (λ l. opening_of before first ++ l)
-    (openings_after-push (before ++ first ∷ []) events event
-    ∙ ap (λ h. openings_after (before ++ first ∷ []) events ++ opening_of h event) (append_assoc before (first ∷ []) events))
-    ∙ sym (append_assoc (opening_of before first) (openings_after (before ++ first ∷ []) events) (opening_of (before ++ first ∷ events) event))
-
-pub openings_of-push : (history : List Event) (event : Event) → openings_of (history ++ event ∷ []) ≡ openings_of history ++ opening_of history event
-openings_of-push history event = openings_after-push [] history event
 
 -- Events that open no cycle
 

@@ -1,7 +1,5 @@
 mod Histories
 mod Lists
-mod Master
-mod Numbers
 mod Opened
 mod Plans
 mod Ready

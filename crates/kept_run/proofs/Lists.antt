@@ -1,39 +1,17 @@
 -- Elements of lists, and what a filter keeps.
-use Rattle.std.proofs.Common.{◌≡◌, ◌≢◌, ℕ, zero, suc, ◌<◌, ◌&&◌, ◌⊎◌, Bool, true, false, cond, List, [], ◌∷◌, length, get_or, map, filter, All, AllPairs, Contains, Some, refl, sym, ap, ◌∙◌, subst, inl, inr, arith, zero-add}
+use Rattle.std.proofs.Common.{◌≡◌, ◌≢◌, ℕ, ◌<◌, ◌&&◌, Bool, cond, List, [], ◌∷◌, length, get_or, map, filter, All, AllPairs, Contains, Some, refl, sym, ap, ◌∙◌, inl, inr, arith, zero-add}
 use Rattle.std.specs.Prelude.{slice_get}
 use Rattle.std.specs.List.{range_with_len}
 use Rattle.std.proofs.lemmas.Bool.{cases_Bool, cond-true, cond-false, and_left}
 use Rattle.std.proofs.lemmas.List.{get_or-map, length-map}
-use Rattle.std.proofs.lemmas.List.Elements.{All-head, All-tail}
 use Rattle.std.proofs.lemmas.List.FromFn.{get_or-range_with_len, length-range_with_len}
 use Rattle.std.proofs.lemmas.Option.{slice_get-get_or}
+pub use Rattle.cycle_engine.proofs.Shared.{Contains-cases, Contains-filter, Contains-from_map, Contains-here, Contains-later, Contains-nil}
+pub use Rattle.bus_line.proofs.Shared.{filter-none}
 
-module _ {X : Type 0} where
-  pub Contains-here : (x : X) (xs : List X) → Contains (x ∷ xs) x
-  Contains-here x xs = (0, omega arith, refl)
-
-  pub Contains-later : (x : X) (xs : List X) (y : X) → Contains xs y → Contains (x ∷ xs) y
-  Contains-later x xs y (k, within, is) = (suc k, omega arith, is)
-
-  -- an element of a list is its first one, or one behind it
-  pub Contains-cases : (x : X) (xs : List X) (y : X) → Contains (x ∷ xs) y → (x ≡ y) ⊎ Contains xs y
-  Contains-cases x xs y (zero, within, is) = inl is
-  Contains-cases x xs y (suc k, within, is) = inr (k, omega arith, is)
-
-  pub Contains-nil : (y : X) → Contains [] y → ⊥
-  Contains-nil y (k, within, is) = omega arith
-
-  -- where an element stands
-  pub place-of : (xs : List X) (x : X) → Contains xs x → (k : ℕ) × (slice_get xs k ≡ Some x)
-  place-of xs x (k, within, is) = (k, slice_get-get_or xs k x within ∙ ap Some is)
-
--- an element behind a function comes from an element
-pub Contains-from_map : {X Y : Type 0} (f : X → Y) (xs : List X) (y : Y) → Contains (map f xs) y → (x : X) × Contains xs x × (f x ≡ y)
-Contains-from_map f [] y has = absurd (Contains-nil y has)
-Contains-from_map f (x ∷ xs) y has = elim (Contains-cases (f x) (map f xs) y has) [
-  | inl same ↦ (x, Contains-here x xs, same)
-  | inr later ↦ let found = Contains-from_map f xs y later in (found.0, Contains-later x xs found.0 found.1, found.2)
-]
+-- where an element stands
+pub place-of : {X : Type 0} (xs : List X) (x : X) → Contains xs x → (k : ℕ) × (slice_get xs k ≡ Some x)
+place-of xs x (k, within, is) = (k, slice_get-get_or xs k x within ∙ ap Some is)
 
 -- the elements of a list have the numbers below `n`, in their order
 module _ {X : Type 0} (number : X → ℕ) (xs : List X) (n : ℕ) (in_order : map number xs ≡ range_with_len 0 n) where
@@ -81,25 +59,3 @@ filter-filter p q (x ∷ xs) =
           ∙ filter-filter p q xs
           ∙ sym (cond-false (q x && p x) (x ∷ filter (λ x. q x && p x) xs) (filter (λ x. q x && p x) xs) (and_left _ _ off))
     ]
-
--- an element that passes is kept
-pub Contains-filter : {X : Type 0} (p : X → Bool) (xs : List X) (x : X) → Contains xs x → p x ≡ true → Contains (filter p xs) x
-Contains-filter p [] x among passes = absurd (Contains-nil x among)
-Contains-filter p (y ∷ ys) x among passes =
-    elim (Contains-cases y ys x among) [
-      | inl here ↦ subst (λ l. Contains l x) (sym (cond-true (p y) (y ∷ filter p ys) (filter p ys) (subst (λ z. p z ≡ true) (sym here) passes)))
-          (subst (λ z. Contains (z ∷ filter p ys) x) (sym here) (Contains-here x (filter p ys)))
-      | inr later ↦
-          let kept = Contains-filter p ys x later passes in
-          elim (cases_Bool (p y)) [
-            | inl on ↦ subst (λ l. Contains l x) (sym (cond-true (p y) (y ∷ filter p ys) (filter p ys) on)) (Contains-later y (filter p ys) x kept)
-            | inr off ↦ subst (λ l. Contains l x) (sym (cond-false (p y) (y ∷ filter p ys) (filter p ys) off)) kept
-          ]
-    ]
-
--- a filter that nothing passes
-pub filter-none : {X : Type 0} (p : X → Bool) (xs : List X) → All (λ x. p x ≡ false) xs → filter p xs ≡ []
-filter-none p [] none = refl
-filter-none p (x ∷ xs) none =
-    cond-false (p x) (x ∷ filter p xs) (filter p xs) (All-head (λ y. p y ≡ false) x xs none)
-    ∙ filter-none p xs (All-tail (λ y. p y ≡ false) x xs none)

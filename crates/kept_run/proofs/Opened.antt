@@ -1,5 +1,5 @@
 -- What the openings of a legal history are to its final list of placed entries.
-use Rattle.std.proofs.Common.{◌≡◌, ℕ, ◌<◌, List, All, Contains, map}
+use Rattle.std.proofs.Common.{◌≡◌, ℕ, ◌<◌, List, All, Contains}
 use Rattle.std.specs.Prelude.{option_map}
 use Rattle.requirement_table.specs.declared.entries.Placed.{Placed}
 use Rattle.requirement_table.specs.Opening.{Opening}
@@ -10,9 +10,9 @@ use Rattle.admission_rules.specs.declared.Rules.{Rules}
 use Rattle.master_core.specs.declared.event.Event.{Event}
 use Rattle.master_core.specs.History.{IsLegal, next_of, placed_of, plan_of}
 use Rattle.master_core.specs.Openings.{openings_of}
+use Rattle.master_core.proofs.Shared.{opened-of_legal, sound-of_legal}
 use Rattle.cycle_engine.specs.Offered.{AreOfDistinctCycles}
 use Rattle.kept_run.proofs.Lists.{number-below, numbers-differ, of-number}
-use Rattle.kept_run.proofs.Master.{MasterLaws}
 
 -- the openings are of the cycles below `next`, each once, and each has the mask and, but for ends that came later, the
 -- instances of this list, which is well placed and never misses a deadline
@@ -25,17 +25,18 @@ pub record AreOpenedBy (rules : Rules) (placed : List Placed) (next : ℕ) (open
   pub masks : All (λ o. o.mask ≡ mask_at (plan_of rules placed) o.cycle) openings
   pub instances : All (λ o. (slot : ℕ) → option_map without_end (instance_in o.placed slot o.cycle) ≡ option_map without_end (instance_in placed slot o.cycle)) openings
 
-pub opened-legal : MasterLaws → (rules : Rules) (history : List Event) → IsLegal rules history
+pub opened-legal : (rules : Rules) (history : List Event) → IsLegal rules history
     → AreOpenedBy rules (placed_of history) (next_of history) (openings_of history)
-opened-legal laws rules history legal =
+opened-legal rules history legal =
     let cycle : Opening → ℕ = λ o. o.cycle in
-    let in_order : map (λ o. o.cycle) (openings_of history) ≡ _ = laws.cycles rules history legal in
+    let sound = sound-of_legal rules history legal in
+    let opened = opened-of_legal rules history legal in
     record {
-      well = laws.well_placed rules history legal;
-      in_time = laws.in_time rules history legal;
-      opened = of-number cycle (openings_of history) (next_of history) in_order;
-      below = number-below cycle (openings_of history) (next_of history) in_order;
-      each_once = numbers-differ cycle (openings_of history) (next_of history) in_order;
-      masks = laws.masks rules history legal;
-      instances = laws.instances rules history legal;
+      well = sound.well_placed;
+      in_time = sound.in_time;
+      opened = of-number cycle (openings_of history) (next_of history) opened.cycles;
+      below = number-below cycle (openings_of history) (next_of history) opened.cycles;
+      each_once = numbers-differ cycle (openings_of history) (next_of history) opened.cycles;
+      masks = λ i d within. (opened.each i d within).mask;
+      instances = λ i d within. (opened.each i d within).instances;
     }

@@ -2,34 +2,22 @@
 use Rattle.std.proofs.Common.{◌≡◌, ℕ, ◌+◌, ◌-◌, ◌<◌, ◌≤◌, Bool, true, List, Contains, IsSome, sym, ap, ◌∙◌, subst, arith, zero-add}
 use Rattle.std.proofs.lemmas.Bool.{false≢true}
 use Rattle.requirement_table.specs.declared.entries.Placed.{Placed}
-use Rattle.requirement_table.specs.Flags.{IsFlaggedOnce, IsGoodCycle}
+use Rattle.requirement_table.specs.Flags.{IsFlaggedOnce}
 use Rattle.requirement_table.specs.Instance.{Exists, IsLastCycle, release_of}
 use Rattle.bit_sets.specs.Sets.{has_bit, set_of, most_slots}
 use Rattle.requirement_table.specs.Table.{IsWellPlaced, instance_in, width_in, worst_in}
+use Rattle.requirement_table.proofs.Shared.{flagged_once-holds}
 use Rattle.bit_sets.proofs.Shared.{has_bit-none, sum_where-same, set_of-has, set_of-passes}
-use Rattle.planner_policies.specs.Plan.{HasNoMiss, IsValid, NeverMisses, Planning, flags_of, mask_at, pending_at, planned_at, planned_in}
+use Rattle.planner_policies.specs.Plan.{IsValid, NeverMisses, Planning, flags_of, mask_at, pending_at, planned_at, planned_in}
+use Rattle.planner_policies.proofs.Shared.{good-cycle, planned-fits, planned-sendable, state-planned, valid-along}
 use Rattle.admission_rules.specs.declared.Rules.{Rules}
 use Rattle.master_core.specs.History.{plan_of}
-
--- the laws of plans, and of tables that are kept
-pub record PlanLaws : Type 0 where
-  pub good : (plan : Planning) (n m : ℕ) → HasNoMiss plan n → m < n → IsGoodCycle plan.placed (flags_of plan) plan.from (has_bit plan.pending) m
-  pub once : (placed : List Placed) (flags : ℕ → ℕ → Bool) (from n : ℕ) (held : ℕ → Bool) → IsWellPlaced placed
-      → ((m : ℕ) → m < n → IsGoodCycle placed flags from held m)
-      → (p : Placed) (k last : ℕ) → Contains placed p → Exists p (release_of p k) → from ≤ release_of p k
-      → IsLastCycle p k last → last < from + n → IsFlaggedOnce flags p.entry.slot (release_of p k) last
-  pub planned : (plan : Planning) (n : ℕ) → set_of most_slots (planned_in plan (plan.from + n) (has_bit (pending_at plan n))) ≡ mask_at plan n
-  pub fits : (plan : Planning) (c : ℕ) (before : ℕ → Bool) → width_in plan.placed c (planned_in plan c before) ≤ plan.window
-  pub sendable : (plan : Planning) (c pending slot : ℕ) → IsWellPlaced plan.placed → IsValid plan.placed c pending
-      → planned_in plan c (has_bit pending) slot ≡ true → IsSome (instance_in plan.placed slot c)
-  pub along : (plan : Planning) (n : ℕ) → IsWellPlaced plan.placed → IsValid plan.placed plan.from plan.pending
-      → HasNoMiss plan n → IsValid plan.placed (plan.from + n) (pending_at plan n)
 
 -- nothing is pending before cycle 0
 nothing-pending : (placed : List Placed) (c : ℕ) → IsValid placed c 0
 nothing-pending placed c slot held = absurd (false≢true (sym (has_bit-none slot) ∙ held))
 
-module _ (laws : PlanLaws) (rules : Rules) (placed : List Placed) (well : IsWellPlaced placed) (in_time : NeverMisses (plan_of rules placed)) where
+module _ (rules : Rules) (placed : List Placed) (well : IsWellPlaced placed) (in_time : NeverMisses (plan_of rules placed)) where
   abbrev plan : Planning
   plan = plan_of rules placed
 
@@ -43,24 +31,24 @@ module _ (laws : PlanLaws) (rules : Rules) (placed : List Placed) (well : IsWell
   pub planned_once : (n : ℕ) (p : Placed) (k last : ℕ) → Contains placed p → Exists p (release_of p k) → IsLastCycle p k last → last < n
       → IsFlaggedOnce (flags_of plan) p.entry.slot (release_of p k) last
   planned_once n p k last stands exists is_last below =
-      laws.once placed (flags_of plan) 0 n (has_bit 0) well (λ m before. laws.good plan n m (λ c slot _ known. in_time c slot known) before)
+      flagged_once-holds placed (flags_of plan) 0 n (has_bit 0) well (λ m before. good-cycle plan n m (λ c slot _ known. in_time c slot known) before)
       p k last stands exists (omega arith) is_last (omega arith)
 
   -- each slot of the mask has an instance that may be sent
   pub mask-sendable : (c slot : ℕ) → has_bit (mask_at plan c) slot ≡ true → IsSome (instance_in placed slot c)
   mask-sendable c slot flagged =
-      let valid = laws.along plan c well (nothing-pending placed 0) (λ m s _ known. in_time m s known) in
-      let planned = set_of-passes most_slots (planned_in plan (0 + c) (has_bit (pending_at plan c))) slot (ap (λ mask. has_bit mask slot) (laws.planned plan c) ∙ flagged) in
-      subst (λ n. IsSome (instance_in placed slot n)) (zero-add c) (laws.sendable plan (0 + c) (pending_at plan c) slot well valid planned)
+      let valid = valid-along plan c well (nothing-pending placed 0) (λ m s _ known. in_time m s known) in
+      let planned = set_of-passes most_slots (planned_in plan (0 + c) (has_bit (pending_at plan c))) slot (ap (λ mask. has_bit mask slot) (state-planned plan c) ∙ flagged) in
+      subst (λ n. IsSome (instance_in placed slot n)) (zero-add c) (planned-sendable plan (0 + c) (pending_at plan c) slot well valid planned)
 
   -- the frames of the mask's slots fit the window together
   pub mask-fits : (c : ℕ) → width_in placed c (has_bit (mask_at plan c)) ≤ rules.window
   mask-fits c =
       let before : ℕ → Bool = has_bit (pending_at plan c) in
       let start : 0 + c ≡ c = zero-add c in
-      let mask : mask_at plan c ≡ set_of most_slots (planned_in plan c before) = sym (laws.planned plan c) ∙ ap (λ n. set_of most_slots (planned_in plan n before)) start in
+      let mask : mask_at plan c ≡ set_of most_slots (planned_in plan c before) = sym (state-planned plan c) ∙ ap (λ n. set_of most_slots (planned_in plan n before)) start in
       let same : width_in placed c (has_bit (mask_at plan c)) ≡ width_in placed c (planned_in plan c before) =
       ap (λ m. width_in placed c (has_bit m)) mask
       ∙ sum_where-same most_slots (has_bit (set_of most_slots (planned_in plan c before))) (planned_in plan c before) (worst_in placed c) (λ slot known. set_of-has most_slots (planned_in plan c before) slot known) in
-      let fits = laws.fits plan c before in
+      let fits = planned-fits plan c before in
       subst (λ w. w ≤ rules.window) (sym same) fits

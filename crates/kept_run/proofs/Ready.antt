@@ -1,8 +1,7 @@
 -- The nodes of a run: what they know once they have learnt the list of an order and heard a cycle.
-use Rattle.std.proofs.Common.{◌≡◌, ℕ, ◌+◌, ◌*◌, ◌^◌, ◌<◌, ◌≤◌, eqb, Bool, length, true, false, cond, List, [], ◌∷◌, ◌++◌, map, fold, All, Contains, Option, Some, None, refl, ap, sym, ◌∙◌, subst}
+use Rattle.std.proofs.Common.{◌≡◌, ℕ, ◌+◌, ◌*◌, ◌^◌, ◌<◌, ◌≤◌, Bool, length, true, false, cond, List, [], ◌∷◌, ◌++◌, map, All, Contains, Option, Some, None, refl, ap, sym, ◌∙◌, subst}
 use Rattle.std.specs.Prelude.{IfSome, is_some}
 use Rattle.std.proofs.lemmas.List.Elements.{All-contains, All-map, All-weaker}
-use Rattle.can_frame.specs.DataFrame.{DataFrame}
 use Rattle.can_frame.specs.declared.data_frame.TimedFrame.{TimedFrame}
 use Rattle.cycle_layout.specs.Layout.{CycleLayout}
 use Rattle.requirement_table.specs.declared.entries.Order.{Order}
@@ -17,38 +16,24 @@ use Rattle.master_core.specs.declared.event.Event.{Event}
 use Rattle.master_core.specs.declared.event.Event.TheVariants.{Open}
 use Rattle.master_core.specs.History.{IsLegal, IsRight, is_changed, is_open, next_of, placed_of, plan_of}
 use Rattle.master_core.specs.Orders.{IsOrder}
+use Rattle.master_core.proofs.Shared.{sound-of_legal}
 use Rattle.async_window.specs.declared.request.Owner.{Owner}
 use Rattle.async_window.specs.declared.request.Request.{Request}
-use Rattle.trigger_kind.specs.Kind.{opening_identifier}
-use Rattle.node_model.specs.Node.{NodeState, NodeView, after_frame, after_hearing, counted, entries_of, is_own_slot, learnt}
+use Rattle.node_model.specs.Node.{NodeState, NodeView, entries_of, learnt}
 use Rattle.node_model.specs.Own.{StandsOnBus}
 use Rattle.node_model.proofs.Shared.{instance-of_own}
 use Rattle.cycle_engine.specs.Cycle.{FitsWindow}
 use Rattle.cycle_engine.specs.Nodes.{CanLearn, FitsOrder, HaveSpare, IsBefore, IsBus, IsNumber, IsOwned, IsSlotKnown, NodesView, heard_by, learnt_by, opening_of, states_of}
+use Rattle.cycle_engine.proofs.Shared.{number_kept_all}
 use Rattle.kept_run.specs.Progress.{AreNodesReady, IsUnderWay}
 use Rattle.kept_run.specs.Setting.{IsSetting, Setting}
 use Rattle.kept_run.proofs.Histories.{next_of-closed, next_of-push, placed_of-push, unchanged-closed}
 use Rattle.kept_run.proofs.Lists.{Contains-from_map}
-use Rattle.kept_run.proofs.Numbers.{IsOfNode, legal-of_nodes}
 
 -- Nodes keep their numbers
 
 abbrev numbers_of : List NodeState → List ℕ
 numbers_of nodes = map (λ node. node.number) nodes
-
-number-either : (test : Bool) (one other : NodeState) (number : ℕ) → one.number ≡ number → other.number ≡ number → (cond test one other).number ≡ number
-number-either true one other number is_one is_other = is_one
-number-either false one other number is_one is_other = is_other
-
-number-frame : (node : NodeState) (frame : DataFrame) → (after_frame node frame).number ≡ node.number
-number-frame node frame =
-    number-either (eqb frame.identifier (opening_identifier node.layout.slots)) _ _ node.number refl
-    (number-either (eqb frame.identifier 0) _ _ node.number refl (number-either (is_own_slot node.entries frame.identifier) _ _ node.number refl refl))
-
-number-heard : (frames : List TimedFrame) (node : NodeState) → (fold after_hearing node frames).number ≡ node.number
-number-heard [] node = refl
-number-heard (sent ∷ later) node =
-    number-heard later (after_hearing node sent) ∙ number-frame (record node { frames = counted node.frames }) sent.frame
 
 numbers-learnt : (placed : List Placed) (nodes : List NodeState) → numbers_of (map (learnt placed) nodes) ≡ numbers_of nodes
 numbers-learnt placed [] = refl
@@ -61,7 +46,7 @@ numbers-learnt_by (Some placed) nodes = numbers-learnt placed nodes
 numbers-heard : (frames : List TimedFrame) (nodes : List NodeState) → numbers_of (heard_by frames nodes) ≡ numbers_of nodes
 numbers-heard frames [] = refl
 numbers-heard frames (node ∷ nodes) =
-    ap (λ n. n ∷ numbers_of (heard_by frames nodes)) (number-heard frames node) ∙ ap (λ l. node.number ∷ l) (numbers-heard frames nodes)
+    ap (λ n. n ∷ numbers_of (heard_by frames nodes)) (number_kept_all frames node) ∙ ap (λ l. node.number ∷ l) (numbers-heard frames nodes)
 
 -- Nodes that learn a list
 
@@ -137,11 +122,11 @@ ready-answered setting trace nodes history event closed ready = record {
 
 -- nodes know an instance of the slot, since each entry is that of a node
 known-instance : (layout : CycleLayout) (owners : List Owner) (requests : List Request) (count : ℕ) (placed : List Placed) (past : List TimedFrame) (next slot : ℕ) (nodes : List NodeState)
-    → IsBus layout owners requests placed past next nodes → ((number : ℕ) → number < count → IsNumber nodes number) → All (IsOfNode count) placed
+    → IsBus layout owners requests placed past next nodes → ((number : ℕ) → number < count → IsNumber nodes number) → All (λ p. p.entry.node < count) placed
     → (i : Instance) → instance_in placed slot next ≡ Some i → IsSlotKnown nodes next slot
 known-instance layout owners requests count placed past next slot nodes bus numbers of_nodes i found =
     let sends = subst (λ x. IfSome x (λ y. Contains placed y.placed × (y.placed.entry.slot ≡ slot) × MaySend y.placed y.number next)) found (instance_in-sound placed slot next) in
-    let few = All-contains (IsOfNode count) placed i.placed of_nodes sends.0 in
+    let few = All-contains (λ p. p.entry.node < count) placed i.placed of_nodes sends.0 in
     let its = Contains-from_map (λ (node : NodeState). node.number) nodes i.placed.entry.node (numbers i.placed.entry.node few) in
     let node : NodeState = its.0 in
     let stands = All-contains (StandsOnBus layout owners requests placed past next) nodes node bus.stand its.1 in
@@ -155,9 +140,9 @@ pub order-right : (rules : Rules) (history : List Event) (order : Order) → IsO
 order-right rules history order is = (is.cycle, is.mask ∙ ap (λ n. mask_at (plan_of rules (placed_of history)) n) (sym is.cycle))
 
 -- what the nodes are to learn is well placed
-pub order-learned : (rules : Rules) (history : List Event) (order : Order) → IsWellPlaced (placed_of history) → IsOrder rules history order → IfSome order.learned IsWellPlaced
-order-learned rules history order well is =
-    subst (λ o. IfSome o IsWellPlaced) (sym is.learned) (well-learned (placed_of history) (is_changed history) well)
+pub order-learned : (rules : Rules) (history : List Event) (order : Order) → IsLegal rules history → IsOrder rules history order → IfSome order.learned IsWellPlaced
+order-learned rules history order legal is =
+    subst (λ o. IfSome o IsWellPlaced) (sym is.learned) (well-learned (placed_of history) (is_changed history) (sound-of_legal rules history legal).well_placed)
 
 -- nodes with room for the placed entries can learn it without memory
 can-learn : (placed : List Placed) (changed : Bool) (nodes : List NodeView) → HaveSpare (length placed) nodes
@@ -216,13 +201,14 @@ module _ (setting : Setting) (history : List Event) (trace : List TimedFrame) (n
         let found = is.present slot known flagged in
         known-instance setting.layout setting.owners setting.requests setting.rules.nodes (placed_of history) trace (next_of history) slot after (bus-now well ready is)
         (λ number few. subst (λ l. Contains l number) (sym (numbers-learnt_by order.learned (states_of nodes.nodes))) (ready.numbers number few))
-        (legal-of_nodes setting.rules history legal) found.0 found.1;
+        (sound-of_legal setting.rules history legal).nodes found.0 found.1;
   }
 
   -- the nodes that have learnt it stand for a bus before the cycle of the order
-  pub order-before : IsWellPlaced (placed_of history) → IsUnderWay setting history trace → AreNodesReady setting history trace nodes → IsOrder setting.rules history order
+  pub order-before : IsUnderWay setting history trace → AreNodesReady setting history trace nodes → IsOrder setting.rules history order
       → IsBefore nodes.layout setting.owners setting.requests (placed_of history) trace order after
-  order-before well way ready is =
+  order-before way ready is =
+      let well = (sound-of_legal setting.rules history way.legal).well_placed in
       subst (λ l. IsBefore l setting.owners setting.requests (placed_of history) trace order after) (sym ready.same_layout)
       (record {
         bus = subst (λ n. IsBus setting.layout setting.owners setting.requests (placed_of history) trace n after) (sym is.cycle) (bus-now well ready is);

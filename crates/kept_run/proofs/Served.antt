@@ -23,7 +23,7 @@ use Rattle.cycle_engine.specs.Cycle.{IsRequestFrame, IsSentOnce, IsSlotFrame, Ru
 use Rattle.kept_run.specs.Served.{AllGuarded, AllServed, ForgetsEnds, IsSentInWindow, NoStrangers, frames_of}
 use Rattle.kept_run.proofs.Lists.{Contains-cases, Contains-filter, Contains-nil, filter-filter, filter-none, filter-same, place-of}
 use Rattle.kept_run.proofs.Opened.{AreOpenedBy}
-use Rattle.kept_run.proofs.Plans.{PlanLaws, mask-planned, mask-sendable, planned_once}
+use Rattle.kept_run.proofs.Plans.{mask-planned, mask-sendable, planned_once}
 
 -- The frames of one cycle
 
@@ -110,7 +110,7 @@ pub record IsRunOf (sends : Instance → List ℕ) (rules : Rules) (layout : Cyc
   pub within : All (λ sent. sent.start < next * layout.cycle) trace
   pub cycles : RunsCycles sends layout openings trace
 
-module _ (sends : Instance → List ℕ) (laws : PlanLaws) (rules : Rules) (layout : CycleLayout) (placed : List Placed) (next : ℕ) (openings : List Opening) (trace : List TimedFrame)
+module _ (sends : Instance → List ℕ) (rules : Rules) (layout : CycleLayout) (placed : List Placed) (next : ℕ) (openings : List Opening) (trace : List TimedFrame)
     (run : IsRunOf sends rules layout placed next openings trace) where
   abbrev plan : Planning
   plan = plan_of rules placed
@@ -123,7 +123,7 @@ module _ (sends : Instance → List ℕ) (laws : PlanLaws) (rules : Rules) (layo
   flagged-as_planned : (o : Opening) (slot : ℕ) → Contains openings o → slot < most_slots → has_bit o.mask slot ≡ flags_of plan o.cycle slot
   flagged-as_planned o slot opened known =
       ap (λ m. has_bit m slot) (All-contains (λ x. x.mask ≡ mask_at plan x.cycle) openings o run.opened.masks opened)
-      ∙ mask-planned laws rules placed run.opened.well run.opened.in_time o.cycle slot known
+      ∙ mask-planned rules placed run.opened.well run.opened.in_time o.cycle slot known
 
   -- a frame of the trace is among those of its cycle
   in-its_cycle : (o : Opening) (sent : TimedFrame) → o.cycle ≡ cycle_of layout sent → Contains trace sent → Contains (frames_in layout o.cycle trace) sent
@@ -179,7 +179,7 @@ module _ (sends : Instance → List ℕ) (laws : PlanLaws) (rules : Rules) (layo
   all_served forgets p k last stands exists is_last early =
       let known = (All-contains IsInRange placed p run.opened.well.in_range stands).entry.slot in
       let slot : ℕ = p.entry.slot in
-      let once = planned_once laws rules placed run.opened.well run.opened.in_time next p k last stands exists is_last early in
+      let once = planned_once rules placed run.opened.well run.opened.in_time next p k last stands exists is_last early in
       let after = once.after in
       let before = once.before in
       let opened = run.opened.opened once.cycle (omega arith) in
@@ -260,7 +260,7 @@ module _ (sends : Instance → List ℕ) (laws : PlanLaws) (rules : Rules) (layo
       let o : Opening = frame.opening in
       let mask : o.mask ≡ mask_at plan o.cycle = All-contains (λ x. x.mask ≡ mask_at plan x.cycle) openings o run.opened.masks frame.opened in
       let flagged : has_bit (mask_at plan o.cycle) slot ≡ true = ap (λ m. has_bit m slot) (sym mask) ∙ slot-flagged o sent slot known same frame.is in
-      let some = some-of (instance_in placed slot o.cycle) (mask-sendable laws rules placed run.opened.well run.opened.in_time o.cycle slot flagged) in
+      let some = some-of (instance_in placed slot o.cycle) (mask-sendable rules placed run.opened.well run.opened.in_time o.cycle slot flagged) in
       let i : Instance = some.0 in
       let may_send = subst (λ x. IfSome x (λ y. Contains placed y.placed × (y.placed.entry.slot ≡ slot) × MaySend y.placed y.number o.cycle)) some.1 (instance_in-sound placed slot o.cycle) in
       record {

@@ -18,9 +18,12 @@ use Rattle.kept_run.specs.Kept.{Kept}
 use Rattle.kept_run.specs.Progress.{AreNodesReady, IsOnTheWay, IsUnderWay}
 use Rattle.kept_run.specs.Setting.{IsSetting, Setting}
 use Rattle.kept_run.specs.Served.{ForgetsEnds}
-pub use Rattle.kept_run.proofs.Histories.{AllAfter-parts, next_of-push}
+pub use Rattle.master_core.proofs.Shared.{next_of-push}
+pub use Rattle.kept_run.proofs.Histories.{AllAfter-parts, legal-but_last, legal-parts}
 pub use Rattle.kept_run.proofs.Lists.{Contains-filter, number-below}
+pub use Rattle.kept_run.proofs.Opened.{opened-legal}
 pub use Rattle.kept_run.proofs.Served.{bytes_of-forgets, second_identifiers}
+pub use Rattle.kept_run.proofs.Steps.{answered, begins, opened, opened-fits}
 
 -- a run that is under way keeps what is promised
 pub record Promises : Type 0 where

@@ -2,9 +2,8 @@
 use Rattle.std.proofs.Common.{◌≡◌, ℕ, ◌+◌, ◌*◌, ◌<◌, ◌≤◌, true, false, List, [], ◌∷◌, ◌++◌, All, IsSome, sym, ap, ◌∙◌, subst, arith}
 use Rattle.std.proofs.lemmas.List.Elements.{All-nil}
 use Rattle.can_frame.specs.declared.data_frame.TimedFrame.{TimedFrame}
-use Rattle.cycle_layout.specs.Layout.{CycleLayout, IsLayout}
+use Rattle.cycle_layout.specs.Layout.{CycleLayout}
 use Rattle.requirement_table.specs.declared.entries.Placed.{Placed}
-use Rattle.requirement_table.specs.Instance.{Instance}
 use Rattle.requirement_table.specs.Opening.{Opening}
 use Rattle.bit_sets.specs.Sets.{has_bit, most_slots}
 use Rattle.requirement_table.specs.Table.{IsWellPlaced, instance_in, width_in}
@@ -14,41 +13,18 @@ use Rattle.master_core.specs.declared.event.Event.{Event}
 use Rattle.master_core.specs.declared.event.Event.TheVariants.{Open}
 use Rattle.master_core.specs.History.{IsLegal, is_open, next_of, placed_of, plan_of}
 use Rattle.master_core.specs.Openings.{openings_of}
-use Rattle.async_window.specs.declared.request.Request.{Request}
 use Rattle.bus_line.specs.Trace.{Follows, end_of}
-use Rattle.node_model.specs.Opening.{end_of_cycle}
 use Rattle.cycle_engine.specs.Cycle.{FitsWindow, FollowsTrace, RunsCycle, RunsCycles}
-use Rattle.cycle_engine.specs.Offered.{AreAsynchronous, AreOfDistinctCycles, IsCanTrace, SendsWhole, offered_in}
+use Rattle.cycle_engine.specs.Offered.{IsCanTrace, SendsWhole, offered_in}
+use Rattle.cycle_engine.proofs.Shared.{more-can_trace, more-cycles, more-ended, more-runs, one-can_trace}
 use Rattle.kept_run.specs.Kept.{Kept}
 use Rattle.kept_run.specs.Progress.{IsUnderWay}
 use Rattle.kept_run.specs.Setting.{IsSetting, Setting}
 use Rattle.kept_run.specs.Served.{ForgetsEnds}
 use Rattle.kept_run.proofs.Histories.{legal-but_last, next_of-closed, next_of-push, openings_of-closed, openings_of-push}
-use Rattle.kept_run.proofs.Master.{MasterLaws}
 use Rattle.kept_run.proofs.Opened.{opened-legal}
-use Rattle.kept_run.proofs.Plans.{PlanLaws, mask-fits, mask-sendable}
+use Rattle.kept_run.proofs.Plans.{mask-fits, mask-sendable}
 use Rattle.kept_run.proofs.Served.{IsRunOf, all_guarded, all_served, no_strangers}
-
--- the laws of opened cycles
-pub record CycleLaws : Type 0 where
-  pub can_trace : (sends : Instance → List ℕ) (layout : CycleLayout) (requests : List Request) (openings : List Opening) (opening : Opening) (trace frames : List TimedFrame)
-      → IsLayout layout → FollowsTrace sends layout requests openings opening trace frames
-      → IsCanTrace sends layout requests (openings ++ opening ∷ []) (opening.cycle + 1) (trace ++ frames)
-  pub ended : (sends : Instance → List ℕ) (layout : CycleLayout) (requests : List Request) (openings : List Opening) (opening : Opening) (trace frames : List TimedFrame)
-      → IsLayout layout → FollowsTrace sends layout requests openings opening trace frames → SendsWhole sends → AreAsynchronous requests → FitsWindow layout opening
-      → All (λ sent. end_of sent ≤ end_of_cycle layout opening) (trace ++ frames)
-  pub runs : (sends : Instance → List ℕ) (layout : CycleLayout) (requests : List Request) (openings : List Opening) (opening : Opening) (trace frames : List TimedFrame)
-      → IsLayout layout → FollowsTrace sends layout requests openings opening trace frames → SendsWhole sends → AreAsynchronous requests → FitsWindow layout opening
-      → RunsCycle sends layout opening frames
-  pub all_run : (sends : Instance → List ℕ) (layout : CycleLayout) (requests : List Request) (openings : List Opening) (opening : Opening) (trace frames : List TimedFrame)
-      → IsLayout layout → FollowsTrace sends layout requests openings opening trace frames → SendsWhole sends → AreAsynchronous requests → FitsWindow layout opening
-      → RunsCycles sends layout openings trace → RunsCycles sends layout (openings ++ opening ∷ []) (trace ++ frames)
-
--- there is only one trace that arbitration decides
-pub record IsTheOnlyTrace : Type 0 where
-  pub is : (sends : Instance → List ℕ) (layout : CycleLayout) (requests : List Request) (openings : List Opening) (count : ℕ) (one other : List TimedFrame)
-      → IsLayout layout → AreAsynchronous requests → AreOfDistinctCycles openings
-      → IsCanTrace sends layout requests openings count one → IsCanTrace sends layout requests openings count other → one ≡ other
 
 -- Nothing was called
 
@@ -83,17 +59,17 @@ answered setting trace history event closed legal way =
 -- A cycle is opened and run
 
 -- the flagged slots of the plan have instances to send, and fit the window
-fits-window : (laws : PlanLaws) (rules : Rules) (layout : CycleLayout) (placed : List Placed) (cycle mask : ℕ) → IsWellPlaced placed → NeverMisses (plan_of rules placed)
+fits-window : (rules : Rules) (layout : CycleLayout) (placed : List Placed) (cycle mask : ℕ) → IsWellPlaced placed → NeverMisses (plan_of rules placed)
     → rules.window ≡ layout.window → mask ≡ mask_at (plan_of rules placed) cycle → FitsWindow layout (record { cycle = cycle; mask = mask; placed = placed })
-fits-window laws rules layout placed cycle mask well in_time window is =
+fits-window rules layout placed cycle mask well in_time window is =
     let present : (slot : ℕ) → slot < most_slots → has_bit mask slot ≡ true → IsSome (instance_in placed slot cycle) =
-    λ slot known flagged. mask-sendable laws rules placed well in_time cycle slot (ap (λ m. has_bit m slot) (sym is) ∙ flagged) in
+    λ slot known flagged. mask-sendable rules placed well in_time cycle slot (ap (λ m. has_bit m slot) (sym is) ∙ flagged) in
     let fits : width_in placed cycle (has_bit mask) ≤ rules.window =
-    subst (λ m. width_in placed cycle (has_bit m) ≤ rules.window) (sym is) (mask-fits laws rules placed well in_time cycle) in
+    subst (λ m. width_in placed cycle (has_bit m) ≤ rules.window) (sym is) (mask-fits rules placed well in_time cycle) in
     record { present = present; width = subst (λ w. width_in placed cycle (has_bit mask) ≤ w) window fits }
 
 -- a cycle that is opened right after a legal history
-module _ (master : MasterLaws) (plans : PlanLaws) (setting : Setting) (history : List Event) (cycle mask : ℕ)
+module _ (setting : Setting) (history : List Event) (cycle mask : ℕ)
     (known : IsSetting setting) (legal : IsLegal setting.rules (history ++ Open cycle mask ∷ [])) where
   abbrev opening : Opening
   opening = record { cycle = cycle; mask = mask; placed = placed_of history }
@@ -110,30 +86,30 @@ module _ (master : MasterLaws) (plans : PlanLaws) (setting : Setting) (history :
   pub opened-fits : FitsWindow setting.layout opening
   opened-fits =
       let right = (legal-but_last setting.rules history (Open cycle mask) legal).1 in
-      let by = opened-legal master setting.rules history so_far in
-      fits-window plans setting.rules setting.layout (placed_of history) cycle mask by.well by.in_time known.same_window right.1
+      let by = opened-legal setting.rules history so_far in
+      fits-window setting.rules setting.layout (placed_of history) cycle mask by.well by.in_time known.same_window right.1
 
-  module _ (cycles : CycleLaws) (whole : SendsWhole setting.sends) (trace frames : List TimedFrame)
+  module _ (whole : SendsWhole setting.sends) (trace frames : List TimedFrame)
       (way : IsUnderWay setting history trace)
       (follows : Follows (offered_in setting.sends setting.layout setting.requests opening) trace (cycle * setting.layout.cycle) ((cycle + 1) * setting.layout.cycle) frames) where
     behind : FollowsTrace setting.sends setting.layout setting.requests openings opening trace frames
     behind = record {
-      below = subst (λ n. All (λ earlier. earlier.cycle < n) openings) (sym now) (opened-legal master setting.rules history so_far).below;
+      below = subst (λ n. All (λ earlier. earlier.cycle < n) openings) (sym now) (opened-legal setting.rules history so_far).below;
       can_trace = subst (λ n. IsCanTrace setting.sends setting.layout setting.requests openings n trace) (sym now) way.can_trace;
       ended = subst (λ n. All (λ sent. end_of sent ≤ n * setting.layout.cycle) trace) (sym now) way.ended;
       follows = follows;
     }
 
     pub opened-runs : RunsCycle setting.sends setting.layout opening frames
-    opened-runs = cycles.runs setting.sends setting.layout setting.requests openings opening trace frames known.known behind whole known.asynchronous opened-fits
+    opened-runs = more-runs setting.sends setting.layout setting.requests openings opening trace frames known.known behind whole known.asynchronous opened-fits
 
     pub opened : IsUnderWay setting (history ++ Open cycle mask ∷ []) (trace ++ frames)
     opened =
         let more : openings_of (history ++ Open cycle mask ∷ []) ≡ openings ++ opening ∷ [] = openings_of-push history (Open cycle mask) in
         let next : next_of (history ++ Open cycle mask ∷ []) ≡ cycle + 1 = next_of-push history (Open cycle mask) ∙ ap (λ n. n + 1) (sym now) in
-        let can_trace = cycles.can_trace setting.sends setting.layout setting.requests openings opening trace frames known.known behind in
-        let ended = cycles.ended setting.sends setting.layout setting.requests openings opening trace frames known.known behind whole known.asynchronous opened-fits in
-        let run = cycles.all_run setting.sends setting.layout setting.requests openings opening trace frames known.known behind whole known.asynchronous opened-fits way.cycles in
+        let can_trace = more-can_trace setting.sends setting.layout setting.requests openings opening trace frames known.known behind in
+        let ended = more-ended setting.sends setting.layout setting.requests openings opening trace frames known.known behind whole known.asynchronous opened-fits in
+        let run = more-cycles setting.sends setting.layout setting.requests openings opening trace frames known.known behind whole known.asynchronous opened-fits way.cycles in
         record {
           legal = legal;
           can_trace = subst (λ os. IsCanTrace setting.sends setting.layout setting.requests os (next_of (history ++ Open cycle mask ∷ [])) (trace ++ frames)) (sym more)
@@ -144,10 +120,10 @@ module _ (master : MasterLaws) (plans : PlanLaws) (setting : Setting) (history :
 
 -- A run that is under way keeps what is promised
 
-pub keeps : (master : MasterLaws) (plans : PlanLaws) (only : IsTheOnlyTrace) (setting : Setting) (history : List Event) (trace : List TimedFrame)
+pub keeps : (setting : Setting) (history : List Event) (trace : List TimedFrame)
     → IsSetting setting → ForgetsEnds setting.sends → IsUnderWay setting history trace → Kept setting history trace
-keeps master plans only setting history trace known forgets way =
-    let by = opened-legal master setting.rules history way.legal in
+keeps setting history trace known forgets way =
+    let by = opened-legal setting.rules history way.legal in
     let range = known.known.cycle_range.above in
     let run : IsRunOf setting.sends setting.rules setting.layout (placed_of history) (next_of history) (openings_of history) trace =
     record { some_time = omega arith; opened = by; within = way.can_trace.within; cycles = way.cycles } in
@@ -155,8 +131,8 @@ keeps master plans only setting history trace known forgets way =
       legal = way.legal;
       can_trace = way.can_trace;
       only_trace = λ other is.
-          only.is setting.sends setting.layout setting.requests (openings_of history) (next_of history) other trace known.known known.asynchronous by.each_once is way.can_trace;
-      served = all_served setting.sends plans setting.rules setting.layout (placed_of history) (next_of history) (openings_of history) trace run forgets;
-      no_strangers = no_strangers setting.sends plans setting.rules setting.layout (placed_of history) (next_of history) (openings_of history) trace run;
-      guarded = all_guarded setting.sends plans setting.rules setting.layout (placed_of history) (next_of history) (openings_of history) trace run;
+          one-can_trace setting.sends setting.layout setting.requests (openings_of history) (next_of history) other trace known.known known.asynchronous by.each_once is way.can_trace;
+      served = all_served setting.sends setting.rules setting.layout (placed_of history) (next_of history) (openings_of history) trace run forgets;
+      no_strangers = no_strangers setting.sends setting.rules setting.layout (placed_of history) (next_of history) (openings_of history) trace run;
+      guarded = all_guarded setting.sends setting.rules setting.layout (placed_of history) (next_of history) (openings_of history) trace run;
     }

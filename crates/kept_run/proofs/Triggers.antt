@@ -1,7 +1,6 @@
 -- The triggers up to a frame count the cycles up to its own.
-use Rattle.std.proofs.Common.{◌≡◌, ◌≢◌, ℕ, suc, ◌+◌, ◌*◌, ◌/◌, ◌<◌, ◌≤◌, ◌⊎◌, Bool, true, false, cond, List, [], ◌∷◌, ◌++◌, length, map, get_or, filter, All, AllPairs, Contains, sym, ap, subst, ◌∙◌, ⊎_elim, inl, inr, arith}
+use Rattle.std.proofs.Common.{◌≡◌, ◌≢◌, ℕ, suc, ◌+◌, ◌*◌, ◌/◌, ◌<◌, ◌≤◌, ◌⊎◌, Bool, true, false, cond, List, [], ◌∷◌, ◌++◌, length, get_or, filter, All, AllPairs, Contains, sym, ap, subst, ◌∙◌, ⊎_elim, inl, inr, arith}
 use Rattle.std.specs.Prelude.{◌==◌}
-use Rattle.std.specs.List.{range_with_len}
 use Rattle.std.proofs.lemmas.Bool.{cases_eq, cond-false, cond-true, eq-eqb, ne_eqb}
 use Rattle.std.proofs.lemmas.List.Elements.{All-append, All-contains, All-head, All-tail, Contains-get_or}
 use Rattle.std.proofs.lemmas.Nat.{le-div}
@@ -13,6 +12,7 @@ use Rattle.requirement_table.specs.Opening.{Opening}
 use Rattle.master_core.specs.declared.event.Event.{Event}
 use Rattle.master_core.specs.History.{next_of}
 use Rattle.master_core.specs.Openings.{openings_of}
+use Rattle.master_core.proofs.Shared.{opened-of_legal}
 use Rattle.cycle_engine.specs.Cycle.{IsRequestFrame, IsSlotFrame, RunsCycle, cycle_of, frames_in}
 use Rattle.kept_run.specs.Progress.{IsUnderWay}
 use Rattle.kept_run.specs.Setting.{IsSetting, Setting}
@@ -172,10 +172,10 @@ begins-of layout opening frames runs = record {
 }
 
 pub triggers-counted : (setting : Setting) (history : List Event) (trace : List TimedFrame)
-    → map (λ o. o.cycle) (openings_of history) ≡ range_with_len 0 (next_of history) → IsSetting setting → IsUnderWay setting history trace
+    → IsSetting setting → IsUnderWay setting history trace
     → (front later : List TimedFrame) (sent : TimedFrame) → trace ≡ front ++ sent ∷ later
     → length (filter is_trigger (front ++ sent ∷ [])) ≡ cycle_of setting.layout sent + 1
-triggers-counted setting history trace cycles known way front later sent split =
+triggers-counted setting history trace known way front later sent split =
     let layout = setting.layout in
     let range = known.known.cycle_range.above in
     let some_time : 0 < setting.layout.cycle = omega arith in
@@ -190,7 +190,7 @@ triggers-counted setting history trace cycles known way front later sent split =
       from = λ k d within. omega arith;
       old = λ k d within none. absurd (omega arith);
       each = λ c after below.
-          let opened = of-number (λ o. o.cycle) (openings_of history) (next_of history) cycles c below in
+          let opened = of-number (λ o. o.cycle) (openings_of history) (next_of history) (opened-of_legal setting.rules history way.legal).cycles c below in
           let runs = All-contains (λ o. RunsCycle setting.sends setting.layout o (frames_in setting.layout o.cycle trace)) (openings_of history) opened.0 way.cycles opened.1 in
           subst (λ n. BeginsWithTrigger (frames_in setting.layout n trace)) opened.2
           (begins-of setting.layout opened.0 (frames_in setting.layout opened.0.cycle trace) runs);

@@ -1,4 +1,4 @@
-//! Laws about runs. Each function has an empty body but for calls of other laws, and its contract is the law.
+//! Laws about runs. Each function has an empty body, and its contract is the law.
 //!
 //! A run keeps two things between its steps: its history and its trace are under way, and its nodes are ready. It
 //! begins so, each step keeps it, and whatever is under way keeps what is promised. The setting says what bytes an
@@ -28,27 +28,13 @@ ghost use Rattle.kept_run.specs.Progress.{AreNodesReady, IsUnderWay};
 ghost use Rattle.kept_run.specs.Setting.{IsSetting, Setting};
 ghost use Rattle.kept_run.specs.Served.{ForgetsEnds};
 
-use cycle_engine::laws::{next_cycle, one_can_trace};
-use master_core::laws::{legal_histories, opened_cycles};
-use planner_policies::laws::{keeping, planned_slots, states, valid_states};
-use requirement_table::laws::flagged_once;
-
 /// A run that is under way keeps what is promised, whatever bytes an instance sends, if they stay the same where its
 /// entry gets an end.
 pub fn promise()
     ensures kept { (setting : Setting) (history : List Event) (trace : List TimedFrame)
         → IsSetting setting → ForgetsEnds setting.sends → IsUnderWay setting history trace
         → Kept setting history trace }
-{
-    legal_histories();
-    opened_cycles();
-    one_can_trace();
-    flagged_once();
-    keeping();
-    planned_slots();
-    states();
-    valid_states();
-}
+{}
 
 /// Requests whose identifiers have owners are asynchronous, as a setting's are to be.
 pub fn requests_of_owners()
@@ -120,9 +106,7 @@ pub fn orders()
         → IsOrder setting.rules history order
         → IsBefore nodes.layout setting.owners setting.requests (placed_of history) trace order
         (learnt_by order.learned (states_of nodes.nodes)) }
-{
-    legal_histories();
-}
+{}
 
 /// A cycle that is opened right after the history, with whatever slots the plan gives, and whose frames follow the
 /// trace by what is offered in it, keeps a run under way, whatever bytes an instance sends, if they are as many as its
@@ -163,16 +147,7 @@ pub fn cycles_run()
         → IsBus nodes.layout setting.owners setting.requests (placed_of history)
         (trace ++ frames) (order.cycle + 1) (states_of new.nodes)
         → AreNodesReady setting (history ++ Open order.cycle order.mask ∷ []) (trace ++ frames) new }
-{
-    legal_histories();
-    opened_cycles();
-    next_cycle();
-    flagged_once();
-    keeping();
-    planned_slots();
-    states();
-    valid_states();
-}
+{}
 
 /// In a run under way the first trigger frames up to a frame, itself included, are one more than the number of the
 /// cycle in which it starts: its start divided by the length of a cycle.
@@ -182,6 +157,4 @@ pub fn triggers_count_cycles()
         → (front later : List TimedFrame) (sent : TimedFrame) → trace ≡ front ++ sent ∷ later
         → length (filter (λ other. other.frame.identifier == 0) (front ++ sent ∷ []))
         ≡ cycle_of setting.layout sent + 1 }
-{
-    opened_cycles();
-}
+{}

@@ -1,5 +1,5 @@
--- What proofs of the crates above may take from here: calls have one plainly legal history, and what answers the first of
--- them begins it.
+-- What proofs of the crates above may take from here: what is known of legal histories and of those with one event more,
+-- that calls have one plainly legal history, and that what answers the first of them begins it.
 use Rattle.std.proofs.Common.{◌≡◌, ℕ, List, [], ◌∷◌, ◌++◌, map, refl, sym, ap, ◌∙◌, subst, append-nil}
 use Rattle.requirement_table.specs.declared.entries.Placed.{Placed}
 use Rattle.change_protocol.specs.Applied.{applied}
@@ -13,6 +13,9 @@ use Rattle.master_core.specs.declared.event.Event.TheVariants.{Submit, Look, Ope
 use Rattle.master_core.specs.History.{AllAfter, IsPlainlyLegal, IsPlannedNow, IsRight, IsRightAnswer, next_of, placed_of, plan_of}
 use Rattle.change_protocol.specs.declared.operations.Act.TheVariants as act
 use Rattle.master_core.specs.Calls.{Call, asked, call_of}
+pub use Rattle.master_core.proofs.Earlier.{opened-of_legal}
+pub use Rattle.master_core.proofs.Histories.{is_changed-push, legal-push, next_of-push, openings_of-push, placed_of-push}
+pub use Rattle.master_core.proofs.Legal.{sound-of_legal}
 
 -- there is one verdict
 pub record OneVerdict : Type 0 where
