@@ -4,9 +4,9 @@ use Rattle.std.specs.Prelude.{nat_lt, nat_le, ◌==◌, ◌&&◌, ◌||◌}
 use Rattle.std.proofs.lemmas.Bool.{and_from, and_parts, cases_lt, eq-eqb, eqb-true, leb-true, le-leb, lt-ltb, or_left, or_right}
 use Rattle.std.proofs.lemmas.List.Elements.{All-contains, All-drop, All-filter, Contains-get_or, filter_passes}
 use Rattle.profile.specs.Limits.{least_asynchronous}
-use Rattle.can_frame.specs.DataFrame.{DataFrame}
 use Rattle.can_frame.specs.Wire.{wire_length}
 use Rattle.can_frame.specs.declared.data_frame.TimedFrame.{TimedFrame}
+use Rattle.can_frame.proofs.Shared.{wire-most}
 use Rattle.stuff_bound.specs.Stuffing.{worst}
 use Rattle.cycle_layout.specs.Layout.{CycleLayout, IsLayout}
 use Rattle.requirement_table.specs.Instance.{Instance}
@@ -38,7 +38,6 @@ either false false len = omega arith
 
 module _ (sends : Instance → List ℕ) (layout : CycleLayout) (known : IsLayout layout) (requests : List Request) (openings : List Opening)
     (count : ℕ) (trace : List TimedFrame) (run : IsBoundedRun sends layout requests openings count trace)
-    (at_most : (frame : DataFrame) → wire_length frame ≤ worst (length frame.bytes)) (positive : (frame : DataFrame) → 0 < wire_length frame)
     (streams : List BurstStream) (are : AreStreams streams) (of : AreOfStreams streams requests) where
   -- the request at a place of an identifier's
   abbrev IsAt : ℕ → ℕ → Request → Type 0
@@ -65,7 +64,7 @@ module _ (sends : Instance → List ℕ) (layout : CycleLayout) (known : IsLayou
   async-of stream has = (All-contains IsStream streams stream are has).asynchronous
 
   started-arrived : (stream : BurstStream) → Contains streams stream → (at : ℕ) → begun stream.id at trace ≤ arrived at (requests_of requests stream.id)
-  started-arrived stream has at = begun-arrived sends layout requests openings count trace run positive stream.id (async-of stream has)
+  started-arrived stream has at = begun-arrived sends layout requests openings count trace run stream.id (async-of stream has)
       (rise-of stream has) at
 
   -- the stream of a request's frame
@@ -77,7 +76,7 @@ module _ (sends : Instance → List ℕ) (layout : CycleLayout) (known : IsLayou
 
   frame-of : (sent : TimedFrame) → Contains trace sent → least_asynchronous ≤ sent.frame.identifier → IsFrameOf sent
   frame-of sent has high =
-      let its = of-request sends layout requests openings count trace run positive sent has high in
+      let its = of-request sends layout requests openings count trace run sent has high in
       let own = of-stream sent.frame.identifier (begun sent.frame.identifier sent.start trace) its.request its.is in
       let whole = All-contains (λ s. s.len ≡ wire_length s.frame) trace sent run.can_trace.ordered.lengths has in
       let few : length sent.frame.bytes ≤ own.stream.bytes = subst (λ f. length f.bytes ≤ own.stream.bytes) (sym its.its_frame) own.short in
@@ -85,7 +84,7 @@ module _ (sends : Instance → List ℕ) (layout : CycleLayout) (known : IsLayou
         stream = own.stream;
         among = own.among;
         same = ap (λ f. f.identifier) its.its_frame ∙ own.same;
-        short = omega (arith, whole, few, at_most sent.frame);
+        short = omega (arith, whole, few, wire-most sent.frame);
       }
 
   module _ (stream : BurstStream) (longest blocked span : ℕ) (bound : IsBound layout streams stream longest blocked span) where
@@ -122,7 +121,7 @@ module _ (sends : Instance → List ℕ) (layout : CycleLayout) (known : IsLayou
         both sent = is_ahead stream.id low (low + span) sent || is_own mid (low + span) mid-order stream.id sent
 
         abbrev Filled : ℕ → Type 0
-        Filled at = IsFilled sends layout known requests openings count trace run at_most longest blocked low (low + span) both inside_run (ends-soon low) at
+        Filled at = IsFilled sends layout known requests openings count trace run longest blocked low (low + span) both inside_run (ends-soon low) at
 
         -- up to the arrival a request of a lower identifier waits
         filled-before : (at : ℕ) → low ≤ at → at < low + span → at < q.at → Filled at
@@ -197,7 +196,7 @@ module _ (sends : Instance → List ℕ) (layout : CycleLayout) (known : IsLayou
         refuted : IsClearOf requests trace stream.id low streams → ⊥
         refuted clear =
             let order : low ≤ low + span = omega arith in
-            let all = fills sends layout known requests openings count trace run at_most longest blocked low (low + span) both inside_run (ends-soon low) filled in
+            let all = fills sends layout known requests openings count trace run longest blocked low (low + span) both inside_run (ends-soon low) filled in
             let need = time-demand low (low + span) order streams stream.id span trace
             (λ k d there passes.
             let sent = get_or trace k d in
@@ -275,12 +274,12 @@ module _ (sends : Instance → List ℕ) (layout : CycleLayout) (known : IsLayou
         → StartsWithin trace place span q
     starts-within place q at_place within =
         let is = from-place place (requests_of requests stream.id) q at_place in
-        let found = crossing stream.id q.at (q.at + span) place trace (some-long sends layout requests openings count trace run positive) run.can_trace.ordered.apart
+        let found = crossing stream.id q.at (q.at + span) place trace (some-long sends layout requests openings count trace run) run.can_trace.ordered.apart
         (omega arith) (few-before place q is) (all-start place q is within) in
         let sent = found.starts.sent in
         let same = found.starts.same in
         let now = found.starts.now in
-        let its = of-request sends layout requests openings count trace run positive sent found.starts.among (omega (arith, same, async-of stream bound.among)) in
+        let its = of-request sends layout requests openings count trace run sent found.starts.among (omega (arith, same, async-of stream bound.among)) in
         let its_id = subst (λ n. IsAt n (begun n sent.start trace) its.request) same its.is in
         let its_at = subst (λ n. IsAt stream.id (begun stream.id n trace) its.request) now its_id in
         let its_place = subst (λ n. IsAt stream.id n its.request) found.number its_at in
@@ -295,5 +294,5 @@ module _ (sends : Instance → List ℕ) (layout : CycleLayout) (known : IsLayou
           number = ap (λ n. begun n sent.start trace) (id-of stream.id place q is) ∙ number;
           from = omega (arith, found.from, now);
           before = omega (arith, found.before, now);
-          ends = omega (arith, found.before, now, whole, few, at_most sent.frame);
+          ends = omega (arith, found.before, now, whole, few, wire-most sent.frame);
         }

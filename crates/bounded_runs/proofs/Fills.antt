@@ -5,10 +5,7 @@ use Rattle.std.proofs.lemmas.Bool.{and_from, and_parts, cases_lt, leb-true, le-l
 use Rattle.std.proofs.lemmas.List.Elements.{All-contains}
 use Rattle.std.proofs.lemmas.Nat.{div-add-mod'}
 use Rattle.profile.specs.Limits.{least_asynchronous}
-use Rattle.can_frame.specs.DataFrame.{DataFrame}
-use Rattle.can_frame.specs.Wire.{wire_length}
 use Rattle.can_frame.specs.declared.data_frame.TimedFrame.{TimedFrame}
-use Rattle.stuff_bound.specs.Stuffing.{worst}
 use Rattle.cycle_layout.specs.Layout.{CycleLayout, IsAllowed, IsLayout, async_open, trigger_part}
 use Rattle.requirement_table.specs.Instance.{Instance}
 use Rattle.requirement_table.specs.Opening.{Opening, width_of}
@@ -41,8 +38,7 @@ count-more test low (suc k) =
     rw (add-suc low k) (omega (arith, sofar))
 
 module _ (sends : Instance → List ℕ) (layout : CycleLayout) (known : IsLayout layout) (requests : List Request) (openings : List Opening)
-    (count : ℕ) (trace : List TimedFrame) (run : IsBoundedRun sends layout requests openings count trace)
-    (at_most : (frame : DataFrame) → wire_length frame ≤ worst (length frame.bytes)) where
+    (count : ℕ) (trace : List TimedFrame) (run : IsBoundedRun sends layout requests openings count trace) where
   -- a request that waits in the room of a cycle is offered
   offered-request : (longest at cycle : ℕ) (request : Request) → IsRoom layout longest at cycle → cycle < count → WaitsOnBus requests trace longest at request
       → offered sends layout requests openings (started_before at trace) at request.frame
@@ -84,7 +80,7 @@ module _ (sends : Instance → List ℕ) (layout : CycleLayout) (known : IsLayou
         let found = Contains-any (λ s. (s.start ≤ at) × (at < end_of s)) trace busy in
         let sent = found.0 in
         let covers = found.2 in
-        let request = is-request sends layout known requests openings count trace run at_most cycle below sent found.1 at covers.0 covers.1 room.open_ (omega (arith, room.whole, now.waits.short)) in
+        let request = is-request sends layout known requests openings count trace run cycle below sent found.1 at covers.0 covers.1 room.open_ (omega (arith, room.whole, now.waits.short)) in
         let late : low ≤ sent.start = elim (cases_lt sent.start low) [
           | inl early ↦
               let ended = All-contains (λ s. least_asynchronous ≤ s.frame.identifier → s.start < low → end_of s ≤ low + blocked) trace sent soon found.1 request early in
@@ -93,7 +89,7 @@ module _ (sends : Instance → List ℕ) (layout : CycleLayout) (known : IsLayou
         ] in
         let opened : async_open layout cycle ≤ sent.start = elim (cases_lt sent.start (async_open layout cycle)) [
           | inl early ↦
-              let ended = free-at sends layout known requests openings count trace run at_most cycle below sent found.1 early in
+              let ended = free-at sends layout known requests openings count trace run cycle below sent found.1 early in
               absurd (omega (arith, ended, covers, room.open_))
           | inr is ↦ is
         ] in

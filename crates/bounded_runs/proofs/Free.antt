@@ -7,7 +7,7 @@ use Rattle.profile.specs.Limits.{least_asynchronous}
 use Rattle.can_frame.specs.DataFrame.{DataFrame}
 use Rattle.can_frame.specs.Wire.{wire_length}
 use Rattle.can_frame.specs.declared.data_frame.TimedFrame.{TimedFrame}
-use Rattle.stuff_bound.specs.Stuffing.{worst}
+use Rattle.can_frame.proofs.Shared.{wire-most}
 use Rattle.cycle_layout.specs.Layout.{CycleLayout, IsLayout, async_open, trigger_part}
 use Rattle.requirement_table.specs.Instance.{Instance}
 use Rattle.requirement_table.specs.Opening.{Opening, width_of}
@@ -23,8 +23,7 @@ use Rattle.bounded_runs.specs.Runs.{IsBoundedRun}
 use Rattle.async_bound.proofs.Shared.{Contains-here, Contains-cases, Contains-filter, Contains-map}
 
 module _ (sends : Instance → List ℕ) (layout : CycleLayout) (known : IsLayout layout) (requests : List Request) (openings : List Opening)
-    (count : ℕ) (trace : List TimedFrame) (run : IsBoundedRun sends layout requests openings count trace)
-    (at_most : (frame : DataFrame) → wire_length frame ≤ worst (length frame.bytes)) where
+    (count : ℕ) (trace : List TimedFrame) (run : IsBoundedRun sends layout requests openings count trace) where
   -- a frame of a cycle ends by the cycle's end, and has ended when the asynchronous window opens, or starts from then on
   pub record IsApart (cycle : ℕ) (sent : TimedFrame) : Type 0 where
     pub ends : end_of sent ≤ (cycle + 1) * layout.cycle
@@ -32,7 +31,7 @@ module _ (sends : Instance → List ℕ) (layout : CycleLayout) (known : IsLayou
     pub guarded : (end_of sent ≤ async_open layout cycle) ⊎ ((least_asynchronous ≤ sent.frame.identifier) ⊎ ((cycle + 1) * layout.cycle ≤ sent.start + layout.window))
 
   eight-long : (frame : DataFrame) → length frame.bytes ≡ 8 → wire_length frame ≤ 135
-  eight-long frame eight = omega (arith, eight, at_most frame)
+  eight-long frame eight = omega (arith, eight, wire-most frame)
 
   module _ (opening : Opening) (narrow : width_of opening ≤ layout.window)
       (runs : RunsCycle sends layout opening (frames_in layout opening.cycle trace)) where

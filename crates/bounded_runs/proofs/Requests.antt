@@ -2,9 +2,8 @@
 use Rattle.std.proofs.Common.{◌≡◌, ℕ, zero, suc, ◌<◌, ◌≤◌, List, All, AllPairs, Contains, Some, inl, inr, subst, arith, drop, slice_get, get_or}
 use Rattle.std.proofs.lemmas.List.Elements.{All-contains}
 use Rattle.profile.specs.Limits.{least_asynchronous}
-use Rattle.can_frame.specs.DataFrame.{DataFrame}
-use Rattle.can_frame.specs.Wire.{wire_length}
 use Rattle.can_frame.specs.declared.data_frame.TimedFrame.{TimedFrame}
+use Rattle.can_frame.proofs.Shared.{wire-positive}
 use Rattle.cycle_layout.specs.Layout.{CycleLayout}
 use Rattle.requirement_table.specs.Instance.{Instance}
 use Rattle.requirement_table.specs.Opening.{Opening, width_of}
@@ -19,8 +18,7 @@ use Rattle.bounded_runs.proofs.Begun.{begun, begun-step, begun-zero}
 use Rattle.bounded_runs.proofs.Arrivals.{arrived, arrived-le, arrived-least}
 
 module _ (sends : Instance → List ℕ) (layout : CycleLayout) (requests : List Request) (openings : List Opening)
-    (count : ℕ) (trace : List TimedFrame) (run : IsBoundedRun sends layout requests openings count trace)
-    (positive : (frame : DataFrame) → 0 < wire_length frame) where
+    (count : ℕ) (trace : List TimedFrame) (run : IsBoundedRun sends layout requests openings count trace) where
   -- the frame is that of the first request of its identifier which had not started
   pub record OfRequest (sent : TimedFrame) : Type 0 where
     pub request : Request
@@ -51,7 +49,7 @@ module _ (sends : Instance → List ℕ) (layout : CycleLayout) (requests : List
   pub some-long : All (λ s. 0 < s.len) trace
   some-long k d within =
       let long = run.can_trace.ordered.lengths k d within in
-      let some = positive (get_or trace k d).frame in
+      let some = wire-positive (get_or trace k d).frame in
       omega (arith, long, some)
 
   -- what has started has arrived

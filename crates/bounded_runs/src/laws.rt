@@ -23,11 +23,6 @@ ghost use Rattle.bounded_runs.specs.Requests.{AreOfStreams, arrive_within};
 ghost use Rattle.bounded_runs.specs.Runs.{EndSoon, IsBoundedRun, IsPressed, StartsWithin, is_ahead, time_of};
 
 use async_bound::laws::fitting_is_bound;
-use bus_line::laws::{same_along, trace_laws};
-use can_frame::laws::wire_lengths;
-use cycle_engine::laws::{OneCycle, OpenedCycles};
-use kept_run::laws::{beginning, calls_between, cycles_run, one_call_more};
-use master_core::laws::opened_cycles;
 
 /// Of the requests of one stream no more than `arrivals` says arrive within `span` bit times, whenever these begin.
 pub fn few_arrive()
@@ -48,9 +43,7 @@ pub fn waiting_fills_the_bus()
         → ((at : ℕ) → low ≤ at → at < high → IsPressed requests trace longest id at)
         → count_below (is_usable layout longest) high
         ≤ count_below (is_usable layout longest) (low + blocked) + time_of (is_ahead id low high) trace }
-{
-    wire_lengths();
-}
+{}
 
 /// Where requests belong to streams, and `span` is a bound of one stream, each request of it starts less than `span` bit
 /// times behind its arrival, if so many bit times are run.
@@ -63,9 +56,7 @@ pub fn requests_start_in_time()
         → AreStreams streams → AreOfStreams streams requests → IsBound layout streams stream longest blocked span
         → slice_get (requests_of requests stream.id) place ≡ Some request
         → request.at + span ≤ count * layout.cycle → StartsWithin trace place span request }
-{
-    wire_lengths();
-}
+{}
 
 /// What `async_bound::start_bound` answers is such a bound: each request of the stream starts less than so many bit
 /// times behind its arrival, if so many bit times are run.
@@ -99,9 +90,6 @@ pub fn runs_keep_bounds()
         → request.at + span ≤ next_of history * setting.layout.cycle → StartsWithin trace place span request }
 {
     bounds_hold();
-    opened_cycles();
-    cycles_run();
-    one_call_more();
 }
 
 /// What is kept is under way: the CAN trace of a legal history sends in each cycle what its opening says.
@@ -109,15 +97,7 @@ pub fn kept_is_under_way()
     ensures under_way { (setting : Setting) (history : List Event) (trace : List TimedFrame)
         → IsSetting setting → SendsWhole setting.sends → Kept setting history trace
         → IsUnderWay setting history trace }
-{
-    opened_cycles();
-    cycles_run();
-    one_call_more();
-    beginning();
-    calls_between();
-    trace_laws::<OpenedCycles>();
-    same_along::<OpenedCycles, OneCycle>();
-}
+{}
 
 /// So in each run that is kept, each request of a stream with a bound starts within it: whatever changes were made,
 /// whatever slots were flagged, and whatever the other requests were. An instance sends whatever bytes, if they are as

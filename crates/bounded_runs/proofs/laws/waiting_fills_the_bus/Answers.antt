@@ -4,5 +4,5 @@ use Rattle.bounded_runs.proofs.laws.waiting_fills_the_bus.Goals as goal
 pub returns : goal.returns
 returns c = record {
   filled = λ sends layout requests openings count trace longest id low high blocked known run within soon pressed.
-      level-fills sends layout known requests openings count trace run c.wire_lengths.ensures.at_most longest id low high blocked within soon pressed;
+      level-fills sends layout known requests openings count trace run longest id low high blocked within soon pressed;
 }
