@@ -1,5 +1,5 @@
 -- A wheel whose lists have the same items.
-use Rattle.std.proofs.Common.{◌≡◌, ℕ, ◌≤◌, Option, None, length, sym, subst, arith}
+use Rattle.std.proofs.Common.{◌≡◌, ◌≤◌, Option, None, length, sym, subst, arith}
 use Rattle.profile.specs.Limits.{cycles_end}
 use Rattle.planner_policies.specs.Plan.{IsValid, Ranking}
 use Rattle.release_wheel.specs.declared.near.Near.{Near}

@@ -7,7 +7,7 @@ use Rattle.std.proofs.lemmas.List.{get_or-replicate, get_or-set_other, get_or-se
 use Rattle.std.proofs.lemmas.List.Folds.{Any-from_list_any}
 use Rattle.std.proofs.lemmas.List.Sums.{get_or-le-sum_by, sum_by-cons, sum_by_more}
 use Rattle.requirement_table.specs.declared.entries.Placed.{Placed}
-use Rattle.requirement_table.specs.Instance.{Exists, IsReleasedIn, MaySend, release_of, released_by, worst, worst_of}
+use Rattle.requirement_table.specs.Instance.{Exists, IsReleasedIn, MaySend, released_by, worst, worst_of}
 use Rattle.bit_sets.specs.Sets.{has_bit, most_slots, set_of, sum_where}
 use Rattle.requirement_table.specs.Table.{IsInRange, IsWellPlaced, instance_in, is_last_in, releases_in, width_in, worst_in}
 use Rattle.requirement_table.proofs.Shared.{IsReleasedIn-from_released_by, found-of}

@@ -34,12 +34,6 @@ alike-near all near since until c well is from before =
       releases = λ slot. releases_in-near_of since until all.placed slot c well from before;
     })
 
--- a state is valid for both
-pub valid-alike : (all some : Ranking) (c slots : ℕ) → IsAlike all some c → IsValid all.placed c slots → IsValid some.placed c slots
-valid-alike all some c slots alike valid slot waits =
-    let held = valid slot waits in
-    record { instance = held.instance; found = alike.instances slot ∙ held.found; before = held.before }
-
 module _ (all : Ranking) (placed : List Placed) (window c slots : ℕ)
     (instances : (slot : ℕ) → instance_in placed slot c ≡ instance_in all.placed slot c)
     (releases : (slot : ℕ) → releases_in placed c slot ≡ releases_in all.placed c slot) where

@@ -1,5 +1,5 @@
 -- Releases that are made row by row.
-use Rattle.std.proofs.Common.{◌≡◌, ◌≢◌, ℕ, ◌+◌, ◌-◌, ◌%◌, ◌^◌, ◌<◌, ◌≤◌, ◌&&◌, ◌||◌, not, Bool, true, false, nat_eq, min, None, List, get_or, length, refl, sym, ap, subst, ◌∙◌, arith}
+use Rattle.std.proofs.Common.{◌≡◌, ◌≢◌, ℕ, ◌+◌, ◌-◌, ◌%◌, ◌^◌, ◌<◌, ◌&&◌, ◌||◌, not, Bool, true, false, nat_eq, min, None, get_or, length, refl, sym, ap, subst, ◌∙◌, arith}
 use Rattle.std.proofs.Math.Bool.{and-false, and-true, or-false}
 use Rattle.std.proofs.lemmas.Bool.{and_parts, both_ways, eq-eqb, eqb-true}
 use Rattle.std.proofs.lemmas.List.{get_or-set_other, get_or-set_same}
@@ -13,7 +13,7 @@ use Rattle.requirement_table.proofs.Shared.{Exists-from_test, exists-true}
 use Rattle.release_wheel.specs.declared.dues.Dues.{Dues}
 use Rattle.release_wheel.specs.declared.rows.Rows.{Rows}
 use Rattle.release_wheel.specs.declared.wheel.Wheel.{Wheel}
-use Rattle.release_wheel.specs.Wheel.{HasRoom, IsAlways, IsNextRelease, IsOnWheel, IsReleased, IsReleasing, IsRowBegun, IsRowReleased, IsSameBut, IsTurned, ReleasedAt, RowStandsAt, TurnedAt, is_found, is_there, no_entry}
+use Rattle.release_wheel.specs.Wheel.{HasRoom, IsAlways, IsNextRelease, IsOnWheel, IsReleased, IsReleasing, IsRowBegun, IsRowReleased, IsSameBut, IsTurned, ReleasedAt, TurnedAt, is_found, is_there, no_entry}
 use Rattle.release_wheel.proofs.RowDues.{due-released, due-stay, first-release, next-after, not-held, stands-later}
 use Rattle.bit_sets.proofs.Shared.{has_bit-none}
 use Rattle.release_wheel.proofs.RowSteps.{by-row, on_wheel-other, other-row, released-other, there-is, there-not, turned-other}

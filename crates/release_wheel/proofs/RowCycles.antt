@@ -24,7 +24,7 @@ use Rattle.release_wheel.specs.declared.dues.Sum.{Sum}
 use Rattle.release_wheel.specs.declared.rows.Rows.{Rows}
 use Rattle.release_wheel.specs.declared.wheel.Wheel.{Wheel}
 use Rattle.release_wheel.specs.Taking.{AreDue, AreOfDistinctSlots, AreOfRows, IsLineOfRows, IsTook, goes_by, last_of}
-use Rattle.release_wheel.specs.Wheel.{AreInTime, HasRoom, IsBelow, IsPart, IsPlannedOn, IsQuiet, IsReleased, IsSlotsOf, IsSumOf, IsTurned, IsWheelReady, RowStandsAt, any_below, cost_at, cost_below, due_of_row, is_found, no_entry, slot_at}
+use Rattle.release_wheel.specs.Wheel.{AreInTime, HasRoom, IsBelow, IsPart, IsPlannedOn, IsReleased, IsSlotsOf, IsSumOf, IsTurned, IsWheelReady, RowStandsAt, any_below, cost_at, cost_below, due_of_row, is_found, no_entry, slot_at}
 use Rattle.planner_policies.proofs.Shared.{all-planned, planned-set, planned-width, split-of, IsSplit, has_slot, instance-with, last-is, slots-contain, same-test, held-parts, due_in-of, fresh, sends-test, sends_of, stands-in, whole_line-of, cost_of}
 use Rattle.release_wheel.proofs.Releasing.{releasing-end, releasing-from}
 use Rattle.release_wheel.proofs.RowDues.{held-is}

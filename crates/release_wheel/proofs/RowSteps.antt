@@ -1,9 +1,8 @@
 -- Rows of which one changes.
-use Rattle.std.proofs.Common.{◌≡◌, ◌≢◌, ℕ, ◌+◌, ◌%◌, ◌<◌, ◌≤◌, not, Bool, true, false, nat_eq, get_or, length, refl, sym, ap, subst, ⊎_elim, arith}
+use Rattle.std.proofs.Common.{◌≡◌, ◌≢◌, ℕ, ◌+◌, ◌%◌, ◌≤◌, Bool, true, false, nat_eq, get_or, refl, sym, subst, ⊎_elim, arith}
 use Rattle.std.proofs.Math.Bool.{and-false}
 use Rattle.std.proofs.lemmas.Bool.{cases_Bool, eq-eqb, eqb-false, eqb-true}
 use Rattle.std.proofs.Math.Nat.{mod-lt}
-use Rattle.requirement_table.specs.declared.entries.Placed.{Placed}
 use Rattle.release_wheel.specs.declared.dues.Dues.{Dues}
 use Rattle.release_wheel.specs.declared.rows.Rows.{Rows}
 use Rattle.release_wheel.specs.Wheel.{IsOnWheel, IsSameBut, ReleasedAt, RowStandsAt, TurnedAt, is_there, no_entry}

@@ -1,4 +1,4 @@
-use Rattle.std.proofs.Common.{◌+◌, ◌-◌, ◌<◌, get_or, set, refl, sym, subst, arith}
+use Rattle.std.proofs.Common.{◌+◌, ◌-◌, get_or, set, refl, sym, subst, arith}
 use Rattle.release_wheel.proofs.Demands.{IsAdding, adding-end, adding-next, adding-start}
 use Rattle.release_wheel.proofs.demand.add_releases.Goals as goal
 

@@ -1,4 +1,4 @@
-use Rattle.std.proofs.Common.{subst, sym, refl, ◌∙◌, arith}
+use Rattle.std.proofs.Common.{subst, sym, ◌∙◌, arith}
 use Rattle.release_wheel.specs.Wheel.{IsPutDown}
 use Rattle.release_wheel.proofs.RowDues.{begins-always}
 use Rattle.release_wheel.proofs.RowSums.{costs-small}

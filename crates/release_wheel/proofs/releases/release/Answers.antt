@@ -1,7 +1,6 @@
-use Rattle.std.proofs.Common.{◌∙◌, ◌%◌, ℕ, refl, sym, subst, get_or, ap, arith}
+use Rattle.std.proofs.Common.{◌∙◌, ℕ, refl, sym, subst, get_or, ap, arith}
 use Rattle.bit_sets.specs.Sets.{has_bit}
 use Rattle.planner_policies.proofs.Shared.{same-read}
-use Rattle.release_wheel.specs.declared.wheel.Wheel.{Wheel}
 use Rattle.release_wheel.specs.Wheel.{IsReleasing}
 use Rattle.bit_sets.specs.Rows.{rows_left}
 use Rattle.release_wheel.proofs.Releasing.{releasing-end, releasing-start}

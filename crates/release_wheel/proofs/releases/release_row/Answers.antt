@@ -1,4 +1,4 @@
-use Rattle.std.proofs.Common.{◌+◌, ◌-◌, length, refl, rules, subst, ap, ◌∙◌, min, arith}
+use Rattle.std.proofs.Common.{◌+◌, ◌-◌, length, rules, subst, arith}
 use Rattle.release_wheel.specs.Wheel.{IsMovedOn}
 use Rattle.release_wheel.proofs.RowSums.{costs-small}
 use Rattle.release_wheel.proofs.releases.release_row.Goals as goal

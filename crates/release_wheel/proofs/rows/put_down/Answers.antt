@@ -1,4 +1,4 @@
-use Rattle.std.proofs.Common.{◌%◌, ◌||◌, ◌&&◌, ap, ◌∙◌, arith, get_or, rules}
+use Rattle.std.proofs.Common.{◌||◌, ◌&&◌, ap, ◌∙◌, arith, get_or, rules}
 use Rattle.release_wheel.specs.Wheel.{is_there}
 use Rattle.bit_sets.specs.Sets.{has_bit}
 use Rattle.release_wheel.proofs.rows.put_down.Goals as goal

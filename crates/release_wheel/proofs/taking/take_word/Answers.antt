@@ -1,4 +1,4 @@
-use Rattle.std.proofs.Common.{nat_le, ◌≡◌, ◌+◌, ◌∙◌, sym, refl, subst, ℕ, arith}
+use Rattle.std.proofs.Common.{nat_le, ◌≡◌, ◌+◌, ◌∙◌, sym, subst, ℕ, arith}
 use Rattle.release_wheel.specs.Taking.{IsTaking}
 use Rattle.release_wheel.specs.Wheel.{cost_at}
 use Rattle.bit_sets.specs.Rows.{rows_left}

@@ -1,12 +1,10 @@
-use Rattle.std.proofs.Common.{◌≡◌, ◌+◌, ◌^◌, ◌<◌, ℕ, true, List, IsPermutation, sym, subst, ap, ◌∙◌, arith}
+use Rattle.std.proofs.Common.{◌≡◌, ◌+◌, ◌^◌, ◌<◌, ℕ, true, sym, subst, ap, ◌∙◌, arith}
 use Rattle.std.proofs.lemmas.Bool.{both_ways}
-use Rattle.requirement_table.specs.declared.entries.Placed.{Placed}
 use Rattle.bit_sets.specs.Sets.{has_bit}
 use Rattle.requirement_table.specs.Table.{IsWellPlaced}
 use Rattle.release_wheel.specs.declared.wheel.Wheel.{Wheel}
 use Rattle.planner_policies.specs.Due.{IsPlanned}
 use Rattle.planner_policies.specs.Plan.{IsValid, Ranking, planning_of}
-use Rattle.planner_policies.specs.Ranked.{AreRanked}
 use Rattle.release_wheel.specs.Wheel.{IsOfRanking, IsPlannedOn, IsSameTable, IsWheelKept}
 use Rattle.planner_policies.proofs.Shared.{left-valid}
 use Rattle.release_wheel.proofs.wheel.step.Goals as goal
