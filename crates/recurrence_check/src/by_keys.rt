@@ -211,8 +211,33 @@ fn meet(
     }
 }
 
-/// Puts the mark and the steps down at a place behind the end of the row, which then ends with it.
+/// Puts the mark and the steps down at a place behind the end of the row, which then ends with it. Where the row ends
+/// before this place and has room, that is all.
+#[inline(always)]
 fn lengthen(
+    row: &mut Vec<Option<(u128, u64)>>,
+    mark: u128,
+    place: u64,
+    steps: u64,
+) -> Result<(), WalkEnd>
+    requires place { place < row_places }
+    requires behind { length row.old.items ≤ place }
+    ensures short { IfOk result (λ _. length row.new.items ≤ row_places) }
+    ensures stands { IfOk result (λ _. slice_index_or row.new.items place None ≡ Some (mark, steps)) }
+    ensures same { IfOk result (λ _. (other : ℕ) → other ≢ place
+        → slice_index_or row.new.items other None ≡ slice_index_or row.old.items other None) }
+    ensures memory { IfErr result (λ end. end ≡ WalkEnd.Memory) }
+{
+    if row.len() == place as usize && row.len() < row.capacity() {
+        row.push_reserved(Some((mark, steps)));
+        return Ok(());
+    }
+    lengthen_far(row, mark, place, steps)
+}
+
+/// The same where the row does not reach up to the place, or has no room.
+#[inline(never)]
+fn lengthen_far(
     row: &mut Vec<Option<(u128, u64)>>,
     mark: u128,
     place: u64,
