@@ -49,6 +49,23 @@ impl Sum {
             cost: self.cost + cost(entry.length),
         }
     }
+
+    /// Takes the row of an entry in, in place.
+    #[inline(always)]
+    pub fn take_in(&mut self, row: usize, entry: &Entry)
+        requires row { row < 128 }
+        requires slot { entry.now.slot < most_slots }
+        requires length { entry.now.length ≤ 8 }
+        requires cost { self.old.cost < 2 ^ 31 }
+        ensures rows { (other : ℕ) → has_bit self.new.rows other ≡ (nat_eq row other || has_bit self.old.rows other) }
+        ensures slots { (slot : ℕ) → has_bit self.new.slots slot
+            ≡ (nat_eq slot entry.now.slot || has_bit self.old.slots slot) }
+        ensures cost { self.new.cost ≡ self.old.cost + worst entry.now.length }
+    {
+        self.rows = with(self.rows, row);
+        self.slots = self.slots.with(entry.slot);
+        self.cost += cost(entry.length);
+    }
 }
 
 /// What rows have to send.

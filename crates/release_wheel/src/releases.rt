@@ -98,6 +98,6 @@ fn release_row(rows: &mut Rows, dues: &mut Dues, placed: &Placed, row: usize, cy
 {
     let last = cycle + u64::from(placed.entry.deadline) - 1;
     move_on(rows, row, placed, cycle, last);
-    dues.waiting = dues.waiting.add(row, &placed.entry, true);
+    dues.waiting.take_in(row, &placed.entry);
     dues.soonest = dues.soonest.min(last);
 }

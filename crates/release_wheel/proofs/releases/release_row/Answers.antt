@@ -3,8 +3,8 @@ use Rattle.release_wheel.specs.Wheel.{IsMovedOn}
 use Rattle.release_wheel.proofs.RowSums.{costs-small}
 use Rattle.release_wheel.proofs.releases.release_row.Goals as goal
 
-pub add-dues-requires-clause-cost : goal.add-dues-requires-clause-cost
-add-dues-requires-clause-cost c =
+pub take_in-requires-clause-cost : goal.take_in-requires-clause-cost
+take_in-requires-clause-cost c =
     let rows = c.args.rows.now in
     let small = costs-small (length rows.entries.items) rows c.args.dues.now c.requires.room in omega (arith, small.0)
 
@@ -14,6 +14,6 @@ returns c = record {
     moved = subst (λ n. IsMovedOn c.args.placed.now c.args.row c.args.cycle (c.args.cycle + n - 1) c.args.rows.now c.move_on.new.rows) c.from.ensures
         c.move_on.ensures.moved;
     others = search rules;
-    added = record { rows = c.add-dues.ensures.rows; slots = c.add-dues.ensures.slots; cost = c.add-dues.ensures.cost };
+    added = record { rows = c.take_in.ensures.rows; slots = c.take_in.ensures.slots; cost = c.take_in.ensures.cost };
   };
 }
