@@ -216,7 +216,9 @@ fn turn(ready: &mut ReadySlots, slot: u8, cycle: u64) -> bool
     if !is_sendable(&next, cycle) {
         return false;
     }
-    ready[place] = next;
+    let kept = &mut ready[place];
+    kept.release = next.release;
+    kept.number = next.number;
     true
 }
 
