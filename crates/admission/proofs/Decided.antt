@@ -22,7 +22,7 @@ use Rattle.admission.specs.Verdict.{IsDecisionOnPlan, IsMissDecision, IsPlannedU
 use Rattle.admission.specs.WalkLaws.{GoesOnAlike}
 use Rattle.admission.specs.Walked.{IsWalked}
 use Rattle.admission.proofs.Complete.{recurs}
-use Rattle.admission.proofs.Cycles.{IsLike, like-refl, same-masks}
+use Rattle.admission.proofs.Cycles.{IsLike, like-refl, like-sym, same-masks, same-no_miss}
 use Rattle.admission.proofs.Reduced.{decision-reduced, held-reduced, like-reduced, miss-reduced, repeating-reduced}
 use Rattle.admission.proofs.Repeats.{is-recurrence, never-after, no-recurrence, none-within}
 use Rattle.admission.proofs.Same.{goes-on, held-tests}
@@ -114,6 +114,13 @@ module _ (rules : Rules) (list : List Placed) (from pending : ℕ) (walked : Ran
   planned-whole number masks behind planned =
       (to-reduced_plan (λ plan. IsPlannedUpTo plan number masks behind) planned).list
       ∙ same-masks (ranking_of rules list from) list rules.window from pending number (λ m below. like m)
+
+  -- where nothing of the whole list is missed, nothing is missed of the entries that are walked
+  pub none-walked : (n : ℕ) → HasNoMiss whole n → HasNoMiss walked_plan n
+  none-walked n none =
+      from-reduced_plan (λ plan. HasNoMiss plan n)
+      (same-no_miss (ranking_by rules list) (not_over from list) rules.window from pending n
+      (λ m below. like-sym rules.policy (not_over from list) list (from + m) (from + m) (like m)) none)
 
   pub safe : (one other : ℕ) (placed : List Placed) → placed ≡ list → IsLeastRepeat walk one other → IsSafe rules placed from pending
   safe one other placed same least =

@@ -7,7 +7,8 @@ ghost use Rattle.planner_policies.specs.Plan.{HasNoMiss, IsValid, pending_at, pl
 ghost use Rattle.plan_check.specs.PlanKept.{IsTaken};
 ghost use Rattle.admission.specs.Certified.{IsCertificateFrom, IsCertificateOf, IsFaultOnPlan, IsMissBehind};
 ghost use Rattle.admission.specs.Certified.{IsRepeated, end_of};
-ghost use Rattle.admission.specs.Verdict.{IsRules, masks_of, plan_from};
+ghost use Rattle.admission.specs.Verdict.{IsRules, IsVerdictOnPlan, masks_of, plan_from};
+ghost use Rattle.admission.specs.declared.verdict.Verdict.TheVariants.{Accepted};
 
 use crate::certify_fault::CertifyFault;
 use crate::deciding::{miss, plan_cycles, planner_of, walk_over};
@@ -54,6 +55,40 @@ pub fn certify(
 {
     valid_states();
     let (first, planned) = repeated(alloc, rules, placed, state)?;
+    let masks = joined(alloc, opened, planned.as_slice())?;
+    Ok(Certificate::new(0, Mask::empty(), first, masks))
+}
+
+/// Does what `certify` does, where the repeat is known of the plan that goes on from the state: it begins in the cycle
+/// `first`, and has so many cycles. No repeat is looked for, so each cycle is planned once.
+///
+/// # Errors
+///
+/// Only where memory runs out.
+pub fn certify_known(
+    alloc: Global,
+    rules: &Rules,
+    placed: &[Placed],
+    opened: &[Mask],
+    state: &PlanState,
+    first: u64,
+    length: u64,
+) -> Result<Certificate, AllocError>
+    requires rules { IsRules rules.now }
+    requires well_placed { IsWellPlaced placed.now }
+    requires next { state.now.cycle ≤ openings_end }
+    requires opened { opened.now ≡ masks_of (plan_from rules.now placed.now 0 0) state.now.cycle }
+    requires in_time { HasNoMiss (plan_from rules.now placed.now 0 0) state.now.cycle }
+    requires pending { state.now.pending ≡ pending_at (plan_from rules.now placed.now 0 0) state.now.cycle }
+    requires repeats { IsVerdictOnPlan rules.now.horizon
+        (plan_from rules.now placed.now state.now.cycle state.now.pending) (Accepted first length) }
+    ensures certificate { IfOk result (IsCertificateOf rules.now placed.now opened.now state.now) }
+    ensures whole { IfOk result (λ certificate.
+        certificate.masks ≡ masks_of (plan_from rules.now placed.now 0 0) (end_of certificate)) }
+    ensures taken { IfOk result (IsTaken placed.now rules.now.window) }
+{
+    valid_states();
+    let planned = planned(alloc, rules, placed, state, first - state.cycle + length)?;
     let masks = joined(alloc, opened, planned.as_slice())?;
     Ok(Certificate::new(0, Mask::empty(), first, masks))
 }
@@ -126,6 +161,29 @@ fn repeated(
         Err(WalkEnd::NoRepeat { walked }) => Err(CertifyFault::NoRepeat { walked }),
         Err(WalkEnd::Memory) => Err(CertifyFault::Memory),
     }
+}
+
+/// The masks of so many cycles of the plan from a state on, in which nothing is missed.
+fn planned(
+    alloc: Global,
+    rules: &Rules,
+    placed: &[Placed],
+    state: &PlanState,
+    cycles: u64,
+) -> Result<Vec<Mask>, AllocError>
+    requires rules { IsRules rules.now }
+    requires well_placed { IsWellPlaced placed.now }
+    requires valid { IsValid placed.now state.now.cycle state.now.pending }
+    requires next { state.now.cycle ≤ openings_end }
+    requires near { cycles ≤ greatest_horizon }
+    requires none_missed { HasNoMiss (plan_from rules.now placed.now state.now.cycle state.now.pending) cycles }
+    ensures masks { IfOk result (λ masks. masks.items
+        ≡ masks_of (plan_from rules.now placed.now state.now.cycle state.now.pending) cycles) }
+{
+    let planner = planner_of(alloc, rules, placed, state)?;
+    let walk = walk_over(rules, placed, state, &planner);
+    let (masks, _) = plan_cycles(alloc, &walk, cycles)?;
+    Ok(masks)
 }
 
 /// The masks of both lists, in memory of their own.

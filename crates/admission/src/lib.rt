@@ -16,7 +16,7 @@ mod walk;
 
 pub use admission_rules::Rules;
 pub use certify_fault::CertifyFault;
-pub use certifying::{certify, certify_from};
+pub use certifying::{certify, certify_from, certify_known};
 pub use deciding::{decide, decide_ranked};
 pub use decision::{Decision, Judgement, RankedTable, Trail};
 pub use safety::{are_rules, safe_list};
