@@ -110,7 +110,7 @@ impl Frame {
     }
 
     /// The number whose low bytes the data bytes are, the first of them as the most significant one.
-    pub(crate) fn number(&self) -> u64
+    pub fn number(&self) -> u64
         requires some { 0 < length self.now.bytes }
         ensures bytes { bytes_high_first (length self.now.bytes) result ≡ self.now.bytes }
     {

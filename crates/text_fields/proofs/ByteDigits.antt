@@ -17,7 +17,7 @@ use Rattle.text_fields.proofs.Ranges.{if-some}
 abbrev AllBytes : List ℕ → Type 0
 AllBytes bytes = All (λ byte. byte < 256) bytes
 
-length-data : (bytes : List ℕ) → length (flat_map (hex_digits 2) bytes) ≡ 2 * length bytes
+pub length-data : (bytes : List ℕ) → length (flat_map (hex_digits 2) bytes) ≡ 2 * length bytes
 length-data [] = refl
 length-data (b ∷ bs) =
     let rest = length-data bs in

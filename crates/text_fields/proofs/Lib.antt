@@ -1,5 +1,6 @@
 mod CsvFields
 mod CsvReading
+mod SixteenDigits
 mod DecimalDigits
 mod DigitValues
 mod HexDigits

@@ -4,6 +4,7 @@
 
 mod csv_rows;
 mod data_bytes;
+mod data_digits;
 mod decimal_pairs;
 mod decimals;
 mod digits;
@@ -18,6 +19,7 @@ mod row_parts;
 
 pub use csv_rows::{field_in, read_next, records_in};
 pub use data_bytes::{DataBytes, read_bytes, read_data};
+pub use data_digits::DataDigits;
 pub use decimals::{read_decimal, read_number};
 pub use hexadecimal::{read_hex, read_hexadecimal};
 pub use high_digits::HighDigits;
