@@ -1,7 +1,8 @@
 //! The summary of a run, which `gen` writes.
 
-ghost use Rattle.std.specs.Prelude.{◌≡◌, ◌++◌, IfOk, OnOk, count_by, string_bytes};
+ghost use Rattle.std.specs.Prelude.{◌≡◌, ◌++◌, IfOk, List, OnOk, count_by, string_bytes};
 ghost use Rattle.std.specs.List.{sum_by};
+ghost use Rattle.can_frame.specs.declared.data_frame.TimedFrame.{TimedFrame};
 ghost use Rattle.master_core.specs.History.{accepts, is_open};
 ghost use Rattle.fttcan_top.specs.Summary.{is_asynchronous, history_rows, is_synchronous, refuses, rest_rows, row, summary_text, trace_rows};
 
@@ -57,29 +58,36 @@ fn opened(history: &[Event]) -> usize
     history.iter().filter(|event| event.opens_cycle()).count()
 }
 
-/// The number of synchronous frames.
-fn synchronous(trace: &[TimedFrame]) -> usize
-    ensures count { result ≡ count_by is_synchronous trace.now }
-{
-    trace.iter().filter(|sent| is_synchronous(*sent)).count()
+/// What is counted of a trace.
+#[derive(Clone, Copy)]
+struct Counts {
+    /// The synchronous frames.
+    synchronous: usize,
+    /// The asynchronous frames.
+    asynchronous: usize,
+    /// The bit times that all frames took.
+    busy: u128,
 }
 
-/// The number of asynchronous frames.
-fn asynchronous(trace: &[TimedFrame]) -> usize
-    ensures count { result ≡ count_by is_asynchronous trace.now }
+/// Counts the frames of a trace.
+fn counted(trace: &[TimedFrame]) -> Counts
+    ensures synchronous { result.synchronous ≡ count_by is_synchronous trace.now }
+    ensures asynchronous { result.asynchronous ≡ count_by is_asynchronous trace.now }
+    ensures busy { result.busy ≡ sum_by (λ sent. sent.len) trace.now }
 {
-    trace.iter().filter(|sent| is_asynchronous(*sent)).count()
-}
-
-/// The bit times that the frames took.
-fn busy(trace: &[TimedFrame]) -> u128
-    ensures sum { result ≡ sum_by (λ sent. sent.len) trace.now }
-{
+    let mut synchronous = 0;
+    let mut asynchronous = 0;
     let mut busy = 0u128;
     for sent in trace {
+        synchronous += usize::from(is_synchronous(sent));
+        asynchronous += usize::from(is_asynchronous(sent));
         busy += u128::from(sent.len);
     }
-    busy
+    Counts {
+        synchronous,
+        asynchronous,
+        busy,
+    }
 }
 
 /// Appends a row of a name and a number.
@@ -103,12 +111,14 @@ fn push_history(text: &mut String, history: &[Event]) -> Result<(), AllocError>
 
 /// Appends how many of so many requests were left, and the bit times that the frames took.
 #[tactic(auto, unfolding(crate::specs::Summary::rest_rows))]
-fn push_rest(text: &mut String, trace: &[TimedFrame], requests: usize) -> Result<(), AllocError>
-    ensures ok { OnOk result (string_bytes text.new ≡ string_bytes text.old ++ rest_rows trace.now requests) }
+fn push_rest(text: &mut String, counts: Counts, requests: usize) -> Result<(), AllocError>
+    ensures ok { (trace : List TimedFrame) → counts.asynchronous ≡ count_by is_asynchronous trace
+        → counts.busy ≡ sum_by (λ sent. sent.len) trace
+        → OnOk result (string_bytes text.new ≡ string_bytes text.old ++ rest_rows trace requests) }
 {
-    let left = requests.saturating_sub(asynchronous(trace));
+    let left = requests.saturating_sub(counts.asynchronous);
     push_row(text, "left", left as u128)?;
-    push_row(text, "busy", busy(trace))
+    push_row(text, "busy", counts.busy)
 }
 
 /// Appends the rows of a trace, in a run with so many requests.
@@ -116,9 +126,10 @@ fn push_rest(text: &mut String, trace: &[TimedFrame], requests: usize) -> Result
 fn push_trace(text: &mut String, trace: &[TimedFrame], requests: usize) -> Result<(), AllocError>
     ensures ok { OnOk result (string_bytes text.new ≡ string_bytes text.old ++ trace_rows trace.now requests) }
 {
-    push_row(text, "synchronous", synchronous(trace) as u128)?;
-    push_row(text, "asynchronous", asynchronous(trace) as u128)?;
-    push_rest(text, trace, requests)
+    let counts = counted(trace);
+    push_row(text, "synchronous", counts.synchronous as u128)?;
+    push_row(text, "asynchronous", counts.asynchronous as u128)?;
+    push_rest(text, counts, requests)
 }
 
 /// The summary of a run of the input that a number made, with so many requests.

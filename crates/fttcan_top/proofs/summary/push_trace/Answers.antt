@@ -13,12 +13,12 @@ returns c =
     let trace = c.args.trace.now in
     let old = string_bytes c.args.text.now in
     let rest = rest_rows trace c.args.requests in
-    let first : string_bytes c.push_row.new.text ≡ old ++ row (codes "synchronous") c.synchronous.result = c.in_ok-push_row.ensures.ok in
-    let second : string_bytes c.push_row-2.new.text ≡ string_bytes c.push_row.new.text ++ row (codes "asynchronous") c.asynchronous.result =
+    let first : string_bytes c.push_row.new.text ≡ old ++ row (codes "synchronous") c.counted-counts.result.synchronous = c.in_ok-push_row.ensures.ok in
+    let second : string_bytes c.push_row-2.new.text ≡ string_bytes c.push_row.new.text ++ row (codes "asynchronous") c.counted-counts.result.asynchronous =
     c.in_ok-push_row-2.ensures.ok in
     record {
       ok = on_ok_weaker c.push_rest.result
           (λ third. three _ _ _ _ _ _ rest first second third
-          ∙ ap₂ (λ s a. old ++ (row (codes "synchronous") s ++ (row (codes "asynchronous") a ++ rest))) c.synchronous.ensures.count c.asynchronous.ensures.count)
-          c.push_rest.ensures.ok;
+          ∙ ap₂ (λ s a. old ++ (row (codes "synchronous") s ++ (row (codes "asynchronous") a ++ rest))) c.counted-counts.ensures.synchronous c.counted-counts.ensures.asynchronous)
+          (c.push_rest.ensures.ok trace c.counted-counts.ensures.asynchronous c.counted-counts.ensures.busy);
     }
