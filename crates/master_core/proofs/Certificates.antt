@@ -1,5 +1,5 @@
 -- The certificate of the table after a history.
-use Rattle.std.proofs.Common.{◌≡◌, ℕ, zero, suc, ◌+◌, ◌-◌, ◌^◌, ◌<◌, ◌≤◌, List, [], ◌∷◌, ◌++◌, Option, All, get_or, length, map, take, refl, sym, ap, ◌∙◌, subst, zero-add, arith, true, false}
+use Rattle.std.proofs.Common.{◌≡◌, ℕ, zero, suc, ◌+◌, ◌-◌, ◌^◌, ◌<◌, ◌≤◌, List, [], ◌∷◌, ◌++◌, Option, Some, IfSome, All, get_or, length, map, take, refl, sym, ap, ◌∙◌, subst, zero-add, arith, true, false}
 use Rattle.std.specs.List.{range_with_len}
 use Rattle.std.proofs.lemmas.List.{append-nil, map-append, take_more}
 use Rattle.std.proofs.lemmas.List.Elements.{All-head, All-tail}
@@ -21,11 +21,12 @@ use Rattle.admission.specs.declared.certify_fault.CertifyFault.TheVariants.{Memo
 use Rattle.admission.specs.declared.verdict.Verdict.{Verdict}
 use Rattle.admission.specs.Certified.{IsCertificateFrom, IsCertificateOf, IsFaultOnPlan, end_of}
 use Rattle.admission.specs.Recurrence.{HasNoRecurrence, IsRecurrence}
-use Rattle.admission.specs.Verdict.{IsInTime, IsTakenWhereDue, masks_of, plan_from}
+use Rattle.admission.specs.declared.verdict.Verdict.TheVariants.{Accepted}
+use Rattle.admission.specs.Verdict.{IsInTime, IsTakenWhereDue, IsVerdictOnPlan, masks_of, plan_from}
 use Rattle.master_core.specs.declared.event.Event.{Event}
 use Rattle.master_core.specs.declared.event.Event.TheVariants.{Submit, Look, Open}
 use Rattle.master_core.specs.Cores.{CoreView, IsCore, onward, state_of}
-use Rattle.master_core.specs.Certificates.{IsCertificateOfPlan, onward_of}
+use Rattle.master_core.specs.Certificates.{IsCertificateOfPlan, onward_of, told_of}
 use Rattle.master_core.specs.History.{next_of, placed_of, plan_of}
 use Rattle.master_core.specs.Keeping.{IsMasterKept}
 use Rattle.master_core.specs.Openings.{opening_of, openings_of}
@@ -33,6 +34,7 @@ use Rattle.master_core.proofs.Earlier.{AreOpened, IsBy, opened-of_legal, range-m
 use Rattle.master_core.proofs.Histories.{openings_of-push}
 use Rattle.master_core.proofs.Keeping.{kept-in_time, kept-well_placed}
 use Rattle.master_core.proofs.Repeating.{GoesRound, recurs-of_legal, recurs-onward}
+use Rattle.master_core.proofs.Told.{told-of_legal}
 
 -- The opened cycles
 
@@ -185,6 +187,14 @@ module _ (rules : Rules) (history : List Event) (list : List Placed) (since : �
       (recurs-of_legal rules history kept.ranges kept.legal)
       (subst (λ (plan : Planning). HasNoRecurrence plan rules.horizon) onward-is none))
       is
+
+  -- what was told of the planning that goes on
+  pub kept-told : (told : Option (ℕ × ℕ)) → told ≡ told_of cycle history → (again : ℕ × ℕ) → told ≡ Some again
+      → IsVerdictOnPlan rules.horizon (plan_from rules list cycle pending) (Accepted again.0 again.1)
+  kept-told told told_is again is =
+      let here = told-of_legal rules history cycle kept.legal (sym kept.next) in
+      subst (λ (plan : Planning). IsVerdictOnPlan rules.horizon plan (Accepted again.0 again.1)) (sym onward-is)
+      (subst (λ (o : Option (ℕ × ℕ)). IfSome o (λ a. IsVerdictOnPlan rules.horizon (onward_of rules history) (Accepted a.0 a.1))) (sym told_is ∙ is) here)
 
   pub kept-certificate : (opened : List ℕ) (certificate : CertificateView)
       → IsCertificateOf rules list opened (record { cycle = cycle; pending = pending }) certificate

@@ -19,6 +19,7 @@ mod Repeating
 mod Settling
 pub mod Shared
 mod States
+mod Told
 mod Unfelt
 mod Walks
 mod Whole

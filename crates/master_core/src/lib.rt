@@ -21,6 +21,7 @@ mod refusals;
 mod room;
 mod saved;
 mod table;
+mod told_repeat;
 mod upcoming;
 
 pub use answered::Answered;

@@ -23,8 +23,9 @@ use crate::event::Event;
 use crate::opened::opened_masks;
 use crate::room::{make_room, put};
 use crate::table::list_of;
+use crate::told_repeat::told_repeat;
 use crate::upcoming::Upcoming;
-use admission::{CertifyFault, Rules, Verdict, certify};
+use admission::{CertifyFault, Rules, Verdict, certify, certify_known};
 use change_protocol::Change;
 use plan_check::Certificate;
 use planner_policies::PlanState;
@@ -388,8 +389,9 @@ impl Master {
     /// first repeat of the plan that goes on from the next cycle. That repeat is within the horizon of the rules, and
     /// no deadline is missed at any cycle.
     ///
-    /// It takes time for about twice the cycles up to the end of the repeat times the entries that are not over, and
-    /// for the history; and memory for the masks and the states.
+    /// It takes time for the cycles up to the end of the repeat times the entries that are not over, and for the
+    /// history. Where a cycle was opened behind the last accepted change, or that change was planned from an earlier one,
+    /// the cycles are planned twice: once to find the repeat. The memory is that of the masks, and then of the states.
     ///
     /// # Errors
     ///
@@ -404,8 +406,16 @@ impl Master {
         let rules = self.core.rules();
         let placed = self.core.placed();
         let state = self.core.state();
-        let opened = opened_masks(alloc, self.history.as_slice())?;
-        match certify(alloc, &rules, placed, opened.as_slice(), &state) {
+        let events = self.history.as_slice();
+        let opened = opened_masks(alloc, events)?;
+        let masks = opened.as_slice();
+        if let Some(again) = told_repeat(events, state.cycle) {
+            let certificate = certify_known(
+                alloc, &rules, placed, masks, &state, again.0, again.1,
+            )?;
+            return Ok(certificate);
+        }
+        match certify(alloc, &rules, placed, masks, &state) {
             Ok(certificate) => Ok(certificate),
             Err(CertifyFault::Memory) => Err(AllocError),
             Err(CertifyFault::Miss { .. }) => unreachable!(),
