@@ -12,13 +12,13 @@ ghost use Rattle.log_reader.specs.Row.{IsLogRow, IsLogVerdict, row_text, text_of
 ghost use Rattle.log_reader.specs.declared.row.LogRow.TheVariants.{Submit, Plan, Look, Open, Frame, End};
 
 use admission::Verdict;
-use can_frame::TimedFrame;
+use can_frame::{Frame, TimedFrame};
 use change_protocol::Why;
 use log_reader::OpenRow;
 use requirement_table::Mask;
 use text_fields::{
-    HighDigits, ROOM, put_byte, put_data_bytes, put_decimal, put_field, put_first, put_identifier,
-    put_length, put_line_feed, put_mask, put_word, row_from,
+    DataDigits, HighDigits, ROOM, put_byte, put_data_bytes, put_decimal, put_field, put_first,
+    put_identifier, put_length, put_line_feed, put_mask, put_word, row_from,
 };
 
 /// The most frames whose rows are made together.
@@ -128,6 +128,25 @@ pub fn look_row<'a>(row: &'a mut [u8; ROOM], caller: u8, next: u64) -> &'a [u8]
     row_from(row, start)
 }
 
+/// Puts what stands between the start and the data bytes in the row of a frame.
+#[inline(always)]
+fn put_before_data<const N: usize>(rows: &mut [u8; N], end: usize, sent: &TimedFrame) -> usize
+    requires room { 16 ≤ end }
+    requires within { end ≤ N }
+    ensures start { result ≤ end }
+    ensures few { end ≤ result + 16 }
+    ensures row { drop result rows.new ≡ codes "," ++ (decimal sent.now.len
+        ++ (codes "," ++ (hex_digits 3 sent.now.frame.identifier ++ (codes "," ++ drop end rows.old)))) }
+    ensures len { sent.now.len < 2 ^ 32 }
+    ensures legal { IsFrame sent.now.frame }
+{
+    let place = put_byte(rows, end, b',');
+    let place = put_identifier(rows, place, sent.frame.id());
+    let place = put_byte(rows, place, b',');
+    let place = put_length(rows, place, sent.len);
+    put_byte(rows, place, b',')
+}
+
 /// Puts what stands behind the start in the row of a frame.
 #[inline(always)]
 fn put_behind_start<const N: usize>(rows: &mut [u8; N], end: usize, sent: &TimedFrame) -> usize
@@ -143,11 +162,48 @@ fn put_behind_start<const N: usize>(rows: &mut [u8; N], end: usize, sent: &Timed
 {
     let place = put_byte(rows, end, b'\n');
     let place = put_data_bytes(rows, place, sent.frame.bytes());
-    let place = put_byte(rows, place, b',');
-    let place = put_identifier(rows, place, sent.frame.id());
-    let place = put_byte(rows, place, b',');
-    let place = put_length(rows, place, sent.len);
-    put_byte(rows, place, b',')
+    put_before_data(rows, place, sent)
+}
+
+/// Puts the data bytes of a frame, one of several. `data` are the digits of bytes that some of them have.
+#[inline(always)]
+fn put_data(rows: &mut [u8; ROWS_ROOM], end: usize, data: &DataDigits, frame: &Frame) -> usize
+    requires room { 16 ≤ end }
+    requires within { end ≤ 1024 }
+    ensures start { result ≤ end }
+    ensures few { end ≤ result + 16 }
+    ensures row { drop result rows.new ≡ flat_map (hex_digits 2) frame.now.bytes ++ drop end rows.old }
+{
+    if frame.dlc() != 8 {
+        return put_data_bytes(rows, end, frame.bytes());
+    }
+    if frame.number() != data.number() {
+        return put_data_bytes(rows, end, frame.bytes());
+    }
+    data.put(rows, end)
+}
+
+/// Does what `put_behind_start` does, for one of several frames. `data` are the digits of bytes that some of them have.
+#[inline(always)]
+fn put_behind_its_start(
+    rows: &mut [u8; ROWS_ROOM],
+    end: usize,
+    data: &DataDigits,
+    sent: &TimedFrame,
+) -> usize
+    requires room { 33 ≤ end }
+    requires within { end ≤ 1024 }
+    ensures start { result ≤ end }
+    ensures few { end ≤ result + 33 }
+    ensures row { drop result rows.new ≡ codes "," ++ (decimal sent.now.len
+        ++ (codes "," ++ (hex_digits 3 sent.now.frame.identifier ++ (codes ","
+        ++ (flat_map (hex_digits 2) sent.now.frame.bytes ++ (codes "\n" ++ drop end rows.old)))))) }
+    ensures len { sent.now.len < 2 ^ 32 }
+    ensures legal { IsFrame sent.now.frame }
+{
+    let place = put_byte(rows, end, b'\n');
+    let place = put_data(rows, place, data, &sent.frame);
+    put_before_data(rows, place, sent)
 }
 
 /// Puts the row of a frame of which no other frame is told meanwhile.
@@ -166,12 +222,14 @@ fn put_lone_frame(row: &mut [u8; ROOM], end: usize, sent: &TimedFrame) -> usize
     put_word(row, place, b"frame,")
 }
 
-/// Puts the row of a frame, one of several. `starts` are the digits of the start that was put before.
+/// Puts the row of a frame, one of several. `starts` are the digits of the start that was put before, and `data` those of
+/// bytes that some of the frames have.
 #[inline(always)]
 fn put_frame(
     rows: &mut [u8; ROWS_ROOM],
     end: usize,
     starts: &mut HighDigits,
+    data: &DataDigits,
     sent: &TimedFrame,
 ) -> usize
     requires room { 59 ≤ end }
@@ -182,9 +240,35 @@ fn put_frame(
     ensures in_range { IsLogRow (Frame sent.now) }
 {
     let start = sent.start;
-    let place = put_behind_start(rows, end, sent);
+    let place = put_behind_its_start(rows, end, data, sent);
     let place = starts.put(rows, place, start);
     put_word(rows, place, b"frame,")
+}
+
+/// From how many frames on the digits of eight bytes are kept for them: to make these costs as much as to put those of a
+/// few frames.
+const SEVERAL: usize = 6;
+
+/// The digits of the data bytes of the last of several frames.
+fn digits_for(frames: &[TimedFrame]) -> DataDigits {
+    if frames.len() < SEVERAL {
+        return DataDigits::zeros();
+    }
+    DataDigits::of(last_number(frames))
+}
+
+/// The number whose bytes the last of these frames has, where these are eight, and else 0. Frames of one cycle have most
+/// often the same.
+fn last_number(frames: &[TimedFrame]) -> u64 {
+    match frames.last() {
+        Some(sent) => number_of(&sent.frame),
+        None => 0,
+    }
+}
+
+/// The number whose bytes a frame has, where these are eight, and else 0.
+fn number_of(frame: &Frame) -> u64 {
+    if frame.dlc() == 8 { frame.number() } else { 0 }
 }
 
 /// Puts the rows of frames, from that of the last frame to that of the first one.
@@ -196,9 +280,10 @@ fn put_frames(rows: &mut [u8; ROWS_ROOM], frames: &[TimedFrame]) -> usize
     ensures in_range { All IsLogRow (map Frame frames.now) }
 {
     let mut starts = HighDigits::new();
+    let data = digits_for(frames);
     let mut place = ROWS_ROOM;
     for number in (0..frames.len()).rev() {
-        place = put_frame(rows, place, &mut starts, &frames[number]);
+        place = put_frame(rows, place, &mut starts, &data, &frames[number]);
     }
     place
 }
