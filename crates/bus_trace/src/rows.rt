@@ -12,7 +12,7 @@ ghost use Rattle.log_reader.specs.Row.{IsLogRow, IsLogVerdict, row_text, text_of
 ghost use Rattle.log_reader.specs.declared.row.LogRow.TheVariants.{Submit, Plan, Look, Open, Frame, End};
 
 use admission::Verdict;
-use can_frame::{Frame, TimedFrame};
+use can_frame::TimedFrame;
 use change_protocol::Why;
 use log_reader::OpenRow;
 use requirement_table::Mask;
@@ -167,7 +167,12 @@ fn put_behind_start<const N: usize>(rows: &mut [u8; N], end: usize, sent: &Timed
 
 /// Puts the data bytes of a frame, one of several. `data` are the digits of bytes that some of them have.
 #[inline(always)]
-fn put_data(rows: &mut [u8; ROWS_ROOM], end: usize, data: &DataDigits, frame: &Frame) -> usize
+fn put_data(
+    rows: &mut [u8; ROWS_ROOM],
+    end: usize,
+    data: &DataDigits,
+    frame: &can_frame::Frame,
+) -> usize
     requires room { 16 ≤ end }
     requires within { end ≤ 1024 }
     ensures start { result ≤ end }
@@ -267,7 +272,7 @@ fn last_number(frames: &[TimedFrame]) -> u64 {
 }
 
 /// The number whose bytes a frame has, where these are eight, and else 0.
-fn number_of(frame: &Frame) -> u64 {
+fn number_of(frame: &can_frame::Frame) -> u64 {
     if frame.dlc() == 8 { frame.number() } else { 0 }
 }
 
