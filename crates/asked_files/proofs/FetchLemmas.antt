@@ -136,7 +136,7 @@ module _ (told : Option NamedFiles) (files : List NamedFile) (old now i : ℕ) (
 -- a file, where there is a place of one
 some-file : (files : List NamedFile) (i : ℕ) → i < length files → NamedFile
 some-file [] i within = absurd (omega (arith, within))
-some-file (file ∷ rest) i within = file
+some-file (file ∷ _) i within = file
 
 -- the file at a place was fetched too, whatever came of it
 pub most-fetched : (told : Option NamedFiles) (files : List NamedFile) (old now i : ℕ) (inputs : Inputs)

@@ -1,6 +1,6 @@
 -- The files that the words of a call name, in the order in which they are fetched, and at which of them a call stopped.
 -- Only fetches are counted: a shelf tells no names of what was fetched.
-use Rattle.std.specs.Prelude.{◌≡◌, ℕ, ⊤, ◌⊎◌, List, [], ◌∷◌, ◌++◌, fold, length, Option, None, Some, Ok}
+use Rattle.std.specs.Prelude.{◌≡◌, ℕ, ⊤, ◌⊎◌, List, [], ◌∷◌, ◌++◌, fold, Option, None, Some, Ok}
 use Rattle.std.specs.Option.{ForSome}
 use Rattle.ftt_io.specs.Counts.{Rose, next_count}
 use Rattle.ftt_io.specs.Files.{IsAbsent, NamedFiles}
