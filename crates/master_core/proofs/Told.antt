@@ -27,8 +27,8 @@ stays-told : (rules : Rules) (before : List Event) (event : Event) (next : ℕ) 
     → IsTold rules (before ++ event ∷ []) next told
 stays-told rules before event next told same closed was at =
     let more = next_of-push before event in
-    let none : cond (is_open event) 1 0 ≡ 0 = ap (λ (b : Bool). cond b 1 0) closed in
-    let here : next_of before ≡ next_of (before ++ event ∷ []) = omega arith in
+    let none : cond {A = ℕ} (is_open event) 1 0 ≡ 0 = ap (λ (b : Bool). cond {A = ℕ} b 1 0) closed in
+    let here : next_of before ≡ next_of (before ++ event ∷ []) = omega (arith, more, none) in
     let list : placed_of before ≡ placed_of (before ++ event ∷ []) = sym (placed_of-push before event ∙ same) in
     subst (λ (n : ℕ). IfSome told (λ again. IsVerdictOnPlan rules.horizon (onward_at rules (placed_of (before ++ event ∷ [])) n) (Accepted again.0 again.1))) here
     (subst (λ (l : List Placed). IfSome told (λ again. IsVerdictOnPlan rules.horizon (onward_at rules l (next_of before)) (Accepted again.0 again.1))) list
