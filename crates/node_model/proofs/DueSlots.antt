@@ -1,5 +1,5 @@
 -- The slots that a node is to send in the cycle that is open for it, and their instances.
-use Rattle.std.proofs.Common.{◌≡◌, ℕ, ◌<◌, ◌≤◌, ◌&&◌, ◌||◌, true, false, not, Option, None, Some, option_map, List, [], get_or, sym, ap, ◌∙◌, arith}
+use Rattle.std.proofs.Common.{◌≡◌, ℕ, ◌<◌, ◌≤◌, ◌&&◌, ◌||◌, true, false, Option, None, Some, option_map, List, [], get_or, sym, ap, ◌∙◌, arith}
 use Rattle.std.specs.Prelude.{IfSome}
 use Rattle.std.specs.Option.{option_map_or}
 use Rattle.std.proofs.lemmas.Bool.{false≢true, lt-ltb}
@@ -26,9 +26,6 @@ with-due node o others result open_cycle knows is slot within =
     ∙ ap (λ b. b && (has_bit others slot || has_bit o.due slot)) (lt-ltb slot most_slots within)
     ∙ ap (λ b. has_bit others slot || b) (knows slot within)
     ∙ ap (λ opened. has_bit others slot || option_map_or (λ x. is_due node.entries x slot) opened false) (sym open_cycle)
-
-module _ (o : Open) (sendable : ℕ)
-    (unheard : (slot : ℕ) → has_bit o.due slot ≡ (has_bit o.mask slot && (has_bit sendable slot && not (has_bit o.heard slot)))) where
 
 -- the frame of a slot that is due is known
 bytes-some : (found : Option Instance) (bytes : List ℕ) → option_map bytes_of found ≡ Some bytes → option_map_or bytes_of found [] ≡ bytes
