@@ -79,9 +79,9 @@ fn counted(trace: &[TimedFrame]) -> Counts
     let mut asynchronous = 0;
     let mut busy = 0u128;
     for sent in trace {
+        busy += u128::from(sent.len);
         synchronous += usize::from(is_synchronous(sent));
         asynchronous += usize::from(is_asynchronous(sent));
-        busy += u128::from(sent.len);
     }
     Counts {
         synchronous,
