@@ -119,11 +119,18 @@ high-byte k m n =
     ∙ ap (λ y. y % 256) (sym (div-div-eq-div-mul n (256 ^ m) (256 ^ k)))
     ∙ sym (byte_at-pow k (n / 256 ^ m))
 
-high-bytes : (k m n : ℕ) → take k (bytes_high_first (k + m) n) ≡ bytes_high_first k (n / 256 ^ m)
+pub high-bytes : (k m n : ℕ) → take k (bytes_high_first (k + m) n) ≡ bytes_high_first k (n / 256 ^ m)
 high-bytes zero m n = refl
 high-bytes (suc k) m n =
     let next : suc k + m ≡ suc (k + m) = omega arith in
     ap (λ w. take (suc k) (bytes_high_first w n)) next ∙ ap₂ (λ b bs. b ∷ bs) (high-byte k m n) (high-bytes k m n)
+
+-- all bytes of a number but the last one
+pub front-bytes : (n number : ℕ) (bytes : List ℕ) → 0 < n → bytes_high_first n number ≡ bytes
+    → bytes_high_first (n - 1) (number / 256) ≡ take (n - 1) bytes
+front-bytes n number bytes some are =
+    let whole : n - 1 + 1 ≡ n = omega (arith, some) in
+    sym (high-bytes (n - 1) 1 number) ∙ ap (λ k. take (n - 1) (bytes_high_first k number)) whole ∙ ap (take (n - 1)) are
 
 -- the first of eight places are the low bytes of a number: that of all of them, shifted
 pub places-number : (places : List ℕ) (len : ℕ) → length places ≡ 8 → All (λ byte. byte < 256) places → len ≤ 8

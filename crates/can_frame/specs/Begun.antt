@@ -1,6 +1,7 @@
 -- What is known of a frame once the bits before its data and its first data bytes were gone through.
 use Rattle.std.specs.Prelude.{◌≡◌, ℕ, ◌+◌, ◌-◌, ◌*◌, ◌^◌, ◌<◌, ◌≤◌, Bool, List, ◌++◌, length, take}
 use Rattle.std.specs.List.{flat_map}
+use Rattle.std.specs.Int.{bytes_high_first}
 use Rattle.stuff_bound.specs.Fields.{bits}
 use Rattle.stuff_bound.specs.Sending.{Counted, WasGiven}
 use Rattle.can_frame.specs.DataFrame.{DataFrame}
@@ -26,13 +27,16 @@ pub record HaveOneFront (one other : DataFrame) : Type 0 where
   pub bytes : length one.bytes ≡ length other.bytes
   pub front : take (length one.bytes - 1) one.bytes ≡ take (length one.bytes - 1) other.bytes
 
--- a frame with a data byte, and what is known of it before its last one
+-- a frame with a data byte, the number of its data bytes before the last one, and what is known of the bits before that one
 pub record FrontView : Type 0 where
   pub frame : DataFrame
+  pub front : ℕ
   pub sum : ℕ
   pub sender : Counted
 
 -- what is kept is that of the frame
 pub record IsKnownFront (known : FrontView) : Type 0 where
   pub some : 0 < length known.frame.bytes
+  pub bytes : bytes_high_first (length known.frame.bytes - 1) known.front
+      ≡ take (length known.frame.bytes - 1) known.frame.bytes
   pub begun : HasBegun known.frame (length known.frame.bytes - 1) known.sum known.sender

@@ -19,6 +19,8 @@ use stuff_bound::Sender;
 pub struct KnownFront {
     /// A frame with these bits, and a data byte behind them.
     frame: Frame,
+    /// The number whose low bytes the data bytes of that frame are, without the last of them.
+    front: u64,
     /// What they add to the CRC sequence, where one data byte stands behind them.
     sum: u16,
     /// A sender that was given them.
@@ -30,11 +32,11 @@ impl Model for KnownFront {
 
     ghost Value = { FrontView };
 
-    ghost view = { λ k. record { frame = k.frame; sum = k.sum; sender = k.sender } };
+    ghost view = { λ k. record { frame = k.frame; front = k.front; sum = k.sum; sender = k.sender } };
 
-    ghost invariant = { λ k. IsKnownFront (record { frame = k.frame; sum = k.sum; sender = k.sender }) };
+    ghost invariant = { λ k. IsKnownFront (record { frame = k.frame; front = k.front; sum = k.sum; sender = k.sender }) };
 
-    ghost inverse = { λ v. record { frame = v.frame; sum = v.sum; sender = v.sender } };
+    ghost inverse = { λ v. record { frame = v.frame; front = v.front; sum = v.sum; sender = v.sender } };
 }
 
 impl KnownFront {
@@ -55,6 +57,7 @@ impl KnownFront {
         let Begun { sum, sender } = begin_anew(frame, usize::from(frame.dlc()) - 1);
         KnownFront {
             frame: *frame,
+            front: frame.number() / 256,
             sum,
             sender,
         }
@@ -69,7 +72,7 @@ impl KnownFront {
     {
         self.frame.dlc() == frame.dlc()
             && self.frame.id() == frame.id()
-            && self.frame.number() / 256 == number / 256
+            && self.front == number / 256
     }
 
     /// Has the bits before the last data byte of a frame known, whose data bytes are the low ones of a number. Only a

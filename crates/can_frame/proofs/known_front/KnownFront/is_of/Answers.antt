@@ -1,28 +1,26 @@
--- Numbers that differ in their last byte at most have the same bytes before it.
-use Rattle.std.proofs.Common.{rules, ◌≡◌, ◌-◌, ◌/◌, length, take, sym, ap, ◌∙◌, subst, arith}
+-- Frames whose numbers differ in their last byte at most have the same bytes before it.
+use Rattle.std.proofs.Common.{rules, ◌≡◌, ◌-◌, ◌/◌, length, take, sym, subst, ap, ◌∙◌, arith}
 use Rattle.std.specs.Int.{bytes_high_first}
 use Rattle.std.proofs.lemmas.Bool.{eqb-true}
-use Rattle.can_frame.specs.Begun.{FrontView}
-use Rattle.can_frame.specs.DataFrame.{DataFrame}
-use Rattle.can_frame.proofs.LowBytes.{same-high}
+use Rattle.can_frame.specs.Begun.{FrontView, HaveOneFront}
+use Rattle.can_frame.proofs.LowBytes.{front-bytes}
 use Rattle.can_frame.proofs.known_front.KnownFront.is_of.Goals as goal
 
 pub returns-then-id-clause-same : goal.returns-then-id-clause-same
 returns-then-id-clause-same c = λ equal.
-    let known = c.args.self.now.frame in
     let frame = c.args.frame.now in
-    let n = length known.bytes in
-    let kept : c.self.inside.frame ≡ known = ap (λ (k : FrontView). k.frame) c.self.view_is in
-    let length_is : length c.self.inside.frame.bytes ≡ length frame.bytes = search rules in
+    let n = length frame.bytes in
+    let kept : c.self.inside.frame ≡ c.args.self.now.frame = ap (λ (k : FrontView). k.frame) c.self.view_is in
+    let length_is : length c.self.inside.frame.bytes ≡ n = search rules in
     let identifier_is : c.self.inside.frame.identifier ≡ frame.identifier = search rules in
-    let same : n ≡ length frame.bytes = ap (λ (f : DataFrame). length f.bytes) (sym kept) ∙ length_is in
-    let numbers : c.number.result / 256 ≡ c.args.number / 256 = eqb-true _ _ equal in
-    let own : bytes_high_first n c.number.result ≡ known.bytes =
-    subst (λ (f : DataFrame). bytes_high_first (length f.bytes) c.number.result ≡ f.bytes) kept c.number.ensures.bytes in
-    record {
-      some = omega (arith, same, c.requires.some);
-      identifier = ap (λ (f : DataFrame). f.identifier) (sym kept) ∙ identifier_is;
-      bytes = same;
-      front = ap (take (n - 1)) (sym own) ∙ same-high n 1 c.number.result c.args.number numbers
-          ∙ ap (λ k. take (n - 1) (bytes_high_first k c.args.number)) same ∙ ap (take (n - 1)) c.requires.number;
-    }
+    let own : HaveOneFront c.self.inside.frame frame = record {
+      some = omega (arith, length_is, c.requires.some);
+      identifier = identifier_is;
+      bytes = length_is;
+      front = sym c.self.invariant.bytes
+          ∙ ap (λ k. bytes_high_first (k - 1) c.self.inside.front) length_is
+          ∙ ap (bytes_high_first (n - 1)) (eqb-true _ _ equal)
+          ∙ front-bytes n c.args.number frame.bytes c.requires.some c.requires.number
+          ∙ ap (λ k. take (k - 1) frame.bytes) (sym length_is);
+    } in
+    subst (λ known. HaveOneFront known frame) kept own
