@@ -3,52 +3,50 @@ use Rattle.std.proofs.Common.{◌≡◌, ◌≢◌, ℕ, zero, suc, ◌+◌, ◌
 use Rattle.std.proofs.Math.Nat.{one-le-pow, pow-suc, pow-le-pow_right}
 use Rattle.std.proofs.lemmas.Bool.{cases_eq}
 use Rattle.std.proofs.lemmas.List.{get_or-drop, get_or-set_other, get_or-set_same, length-drop, length-set}
-use Rattle.async_window.specs.Tournament.{never, HasLesser, Renews, IsTreeBut, IsTree}
+use Rattle.async_window.specs.Tournament.{never, HasLesser, IsTreeBut, IsTree}
 use Rattle.async_window.proofs.Levels.{IsAbove, IsLesser, IsOnTheWay, is_inner, least-top, least-top_some, levels-low}
 
--- a number is written over an inner node
-pub Renews-set : (nodes : List ℕ) (node lesser : ℕ) → node < length nodes
-    → lesser ≡ min (get_or nodes (2 * node) 0) (get_or nodes (2 * node + 1) 0) → Renews nodes (set nodes node lesser) node
-Renews-set nodes node lesser within is = record {
-  length = length-set nodes node lesser;
-  renewed = get_or-set_same nodes node lesser 0 within ∙ is;
-  others = λ other apart. get_or-set_other nodes node other lesser 0 apart;
-}
-
-HasLesser-kept : (old new : List ℕ) (node other : ℕ) → Renews old new node → other ≢ node → 2 * other ≢ node → 2 * other + 1 ≢ node
-    → HasLesser old other → HasLesser new other
-HasLesser-kept old new node other renews apart left right has =
-    renews.others other apart
+-- a number is written over a node that stands apart from another one and from the two below that one
+HasLesser-set : (nodes : List ℕ) (place number node : ℕ) → node ≢ place → 2 * node ≢ place → 2 * node + 1 ≢ place → HasLesser nodes node
+    → HasLesser (set nodes place number) node
+HasLesser-set nodes place number node apart left right has =
+    get_or-set_other nodes place node number 0 apart
     ∙ has
-    ∙ ap (λ n. min n (get_or old (2 * other + 1) 0)) (sym (renews.others (2 * other) left))
-    ∙ ap (λ n. min (get_or new (2 * other) 0) n) (sym (renews.others (2 * other + 1) right))
+    ∙ ap (λ n. min n (get_or nodes (2 * node + 1) 0)) (sym (get_or-set_other nodes place (2 * node) number 0 left))
+    ∙ ap (λ n. min (get_or (set nodes place number) (2 * node) 0) n) (sym (get_or-set_other nodes place (2 * node + 1) number 0 right))
 
-HasLesser-renewed : (old new : List ℕ) (node : ℕ) → 1 ≤ node → Renews old new node → HasLesser new node
-HasLesser-renewed old new node one renews =
-    renews.renewed
-    ∙ ap (λ n. min n (get_or old (2 * node + 1) 0)) (sym (renews.others (2 * node) (λ same. absurd (omega arith))))
-    ∙ ap (λ n. min (get_or new (2 * node) 0) n) (sym (renews.others (2 * node + 1) (λ same. absurd (omega arith))))
+-- the lesser number of the two below it is written over an inner node
+HasLesser-set_lesser : (nodes : List ℕ) (node lesser : ℕ) → 1 ≤ node → node < length nodes
+    → lesser ≡ min (get_or nodes (2 * node) 0) (get_or nodes (2 * node + 1) 0) → HasLesser (set nodes node lesser) node
+HasLesser-set_lesser nodes node lesser one within is =
+    get_or-set_same nodes node lesser 0 within
+    ∙ is
+    ∙ ap (λ n. min n (get_or nodes (2 * node + 1) 0))
+    (sym (get_or-set_other nodes node (2 * node) lesser 0 (λ same. absurd (omega arith))))
+    ∙ ap (λ n. min (get_or (set nodes node lesser) (2 * node) 0) n)
+    (sym (get_or-set_other nodes node (2 * node + 1) lesser 0 (λ same. absurd (omega arith))))
 
--- the node above the gap is renewed: what is left open is the gap above it
-pub IsTreeBut-mended : (levels node : ℕ) (old new : List ℕ) → 1 ≤ node → Renews old new node → IsTreeBut node levels old
-    → IsTreeBut (node / 2) levels new
-IsTreeBut-mended levels node old new one renews has = record {
-  size = renews.length ∙ has.size;
+-- the node of the gap gets its number: what is left open is the node above it
+IsTreeBut-mended : (levels node lesser : ℕ) (nodes : List ℕ) → 1 ≤ node → node < length nodes
+    → lesser ≡ min (get_or nodes (2 * node) 0) (get_or nodes (2 * node + 1) 0) → IsTreeBut node levels nodes
+    → IsTreeBut (node / 2) levels (set nodes node lesser)
+IsTreeBut-mended levels node lesser nodes one within is has = record {
+  size = length-set nodes node lesser ∙ has.size;
   low = has.low;
   lesser = λ other from to apart. elim (cases_eq other node) [
-    | inl same ↦ subst (λ n. HasLesser new n) (sym same) (HasLesser-renewed old new node one renews)
-    | inr elsewhere ↦ HasLesser-kept old new node other renews elsewhere (λ same. absurd (omega arith)) (λ same. absurd (omega arith))
-        (has.lesser other from to elsewhere)
+    | inl same ↦ subst (λ n. HasLesser (set nodes node lesser) n) (sym same) (HasLesser-set_lesser nodes node lesser one within is)
+    | inr elsewhere ↦ HasLesser-set nodes node lesser other elsewhere (λ same. absurd (apart (omega arith)))
+        (λ same. absurd (apart (omega arith))) (has.lesser other from to elsewhere)
   ];
 }
 
 -- where it had its number before, nothing is left open
-IsTree-closed : (levels node : ℕ) (nodes : List ℕ) → Renews nodes nodes node → IsTreeBut node levels nodes → IsTree levels nodes
-IsTree-closed levels node nodes renews has = record {
+IsTree-closed : (levels node : ℕ) (nodes : List ℕ) → HasLesser nodes node → IsTreeBut node levels nodes → IsTree levels nodes
+IsTree-closed levels node nodes is has = record {
   size = has.size;
   low = has.low;
   lesser = λ other from to apart. elim (cases_eq other node) [
-    | inl same ↦ subst (λ n. HasLesser nodes n) (sym same) renews.renewed
+    | inl same ↦ subst (λ n. HasLesser nodes n) (sym same) is
     | inr elsewhere ↦ has.lesser other from to elsewhere
   ];
 }
@@ -60,32 +58,30 @@ IsTreeBut-leaf levels leaf number nodes low has = record {
   size = length-set nodes leaf number ∙ has.size;
   low = has.low;
   lesser = λ node from to apart.
-      get_or-set_other nodes leaf node number 0 (λ same. absurd (omega arith))
-      ∙ has.lesser node from to (λ same. absurd (omega arith))
-      ∙ ap (λ n. min n (get_or nodes (2 * node + 1) 0))
-      (sym (get_or-set_other nodes leaf (2 * node) number 0 (λ same. absurd (apart (omega arith)))))
-      ∙ ap (λ n. min (get_or (set nodes leaf number) (2 * node) 0) n)
-      (sym (get_or-set_other nodes leaf (2 * node + 1) number 0 (λ same. absurd (apart (omega arith)))));
+      HasLesser-set nodes leaf number node (λ same. absurd (omega arith)) (λ same. absurd (apart (omega arith)))
+      (λ same. absurd (apart (omega arith))) (has.lesser node from to (λ same. absurd (omega arith)));
 }
 
--- on the way from a changed leaf to the top: what is left open is the node above this one
-pub record IsMendedTo (levels rest node : ℕ) (old nodes : List ℕ) : Type 0 where
+-- on the way from a changed leaf to the top: what is left open is the node above this one, whose number is `least`
+pub record IsMendedTo (levels rest node least : ℕ) (old nodes : List ℕ) : Type 0 where
   pub from : 2 ^ rest ≤ node
   pub to : node < 2 * 2 ^ rest
+  pub number : get_or nodes node 0 ≡ least
   pub tree : IsTreeBut (node / 2) levels nodes
   pub leaves : (other : ℕ) → 2 ^ levels ≤ other → get_or nodes other 0 ≡ get_or old other 0
 
-pub IsMendedTo-leaf : (levels leaf : ℕ) (nodes : List ℕ) → 2 ^ levels ≤ leaf → leaf < 2 * 2 ^ levels → IsTreeBut (leaf / 2) levels nodes
-    → IsMendedTo levels levels leaf nodes nodes
-IsMendedTo-leaf levels leaf nodes from to tree = record {
+pub IsMendedTo-leaf : (levels leaf number : ℕ) (nodes : List ℕ) → 2 ^ levels ≤ leaf → leaf < 2 * 2 ^ levels
+    → get_or nodes leaf 0 ≡ number → IsTreeBut (leaf / 2) levels nodes → IsMendedTo levels levels leaf number nodes nodes
+IsMendedTo-leaf levels leaf number nodes from to is tree = record {
   from = from;
   to = to;
+  number = is;
   tree = tree;
   leaves = λ other low. refl;
 }
 
-module _ (levels rest node : ℕ) (old nodes : List ℕ) (has : IsMendedTo levels (suc rest) node old nodes) (within : suc rest ≤ levels) where
-  pub mended-inner : (1 ≤ node / 2) × (2 * (node / 2) + 1 < length nodes) × (node / 2 < 2 ^ levels)
+module _ (levels rest node least : ℕ) (old nodes : List ℕ) (has : IsMendedTo levels (suc rest) node least old nodes) (within : suc rest ≤ levels) where
+  pub mended-inner : (1 ≤ node / 2) × (2 * (node / 2) + 1 < length nodes) × (node / 2 < 2 ^ levels) × (length nodes ≤ 4096)
   mended-inner =
       let some : 1 ≤ 2 ^ rest = one-le-pow rest 2 (omega arith) in
       let twice : 2 ^ suc rest ≡ 2 ^ rest * 2 = pow-suc 2 rest in
@@ -93,26 +89,49 @@ module _ (levels rest node : ℕ) (old nodes : List ℕ) (has : IsMendedTo level
         omega (arith, has.from, twice, some),
         omega (arith, has.to, has.tree.size, wide, twice),
         omega (arith, has.to, wide, twice, some),
+        omega (arith, has.tree.size, levels-low levels has.tree.low),
       )
 
-  pub IsMendedTo-above : (new : List ℕ) → Renews nodes new (node / 2) → IsMendedTo levels rest (node / 2) old new
-  IsMendedTo-above new renews =
+  -- the sibling of a node is the other one of the two below the node above
+  lesser-above : (beside : ℕ) → beside ≡ get_or nodes (4 * (node / 2) + 1 - node) 0
+      → min least beside ≡ min (get_or nodes (2 * (node / 2)) 0) (get_or nodes (2 * (node / 2) + 1) 0)
+  lesser-above beside is = elim (cases_eq node (2 * (node / 2))) [
+    | inl left ↦
+        let this : get_or nodes node 0 ≡ get_or nodes (2 * (node / 2)) 0 = ap (λ n. get_or nodes n 0) left in
+        let other : get_or nodes (4 * (node / 2) + 1 - node) 0 ≡ get_or nodes (2 * (node / 2) + 1) 0
+        = ap (λ n. get_or nodes n 0) (omega arith) in
+        omega (arith, has.number)
+    | inr elsewhere ↦
+        let right : node ≡ 2 * (node / 2) + 1 = omega arith in
+        let this : get_or nodes node 0 ≡ get_or nodes (2 * (node / 2) + 1) 0 = ap (λ n. get_or nodes n 0) right in
+        let other : get_or nodes (4 * (node / 2) + 1 - node) 0 ≡ get_or nodes (2 * (node / 2)) 0
+        = ap (λ n. get_or nodes n 0) (omega arith) in
+        omega (arith, has.number)
+  ]
+
+  pub IsMendedTo-above : (beside lesser : ℕ) → beside ≡ get_or nodes (4 * (node / 2) + 1 - node) 0 → lesser ≡ min least beside
+      → IsMendedTo levels rest (node / 2) lesser old (set nodes (node / 2) lesser)
+  IsMendedTo-above beside lesser at is =
       let some : 1 ≤ 2 ^ rest = one-le-pow rest 2 (omega arith) in
       let twice : 2 ^ suc rest ≡ 2 ^ rest * 2 = pow-suc 2 rest in
       record {
         from = omega (arith, has.from, twice);
         to = omega (arith, has.to, twice);
-        tree = IsTreeBut-mended levels (node / 2) nodes new mended-inner.0 renews has.tree;
-        leaves = λ other low. renews.others other (λ same. absurd (omega (arith, mended-inner.2))) ∙ has.leaves other low;
+        number = get_or-set_same nodes (node / 2) lesser 0 (omega (arith, mended-inner.1));
+        tree = IsTreeBut-mended levels (node / 2) lesser nodes mended-inner.0 (omega (arith, mended-inner.1))
+            (is ∙ lesser-above beside at) has.tree;
+        leaves = λ other low.
+            get_or-set_other nodes (node / 2) other lesser 0 (λ same. absurd (omega (arith, mended-inner.2)))
+            ∙ has.leaves other low;
       }
 
-  pub IsTree-above : (new : List ℕ) → Renews nodes new (node / 2) → new ≡ nodes → IsTree levels new
-  IsTree-above new renews same =
-      subst (λ xs. IsTree levels xs) (sym same)
-      (IsTree-closed levels (node / 2) nodes (subst (λ xs. Renews nodes xs (node / 2)) same renews) has.tree)
+  pub IsTree-above : (beside lesser : ℕ) → beside ≡ get_or nodes (4 * (node / 2) + 1 - node) 0 → lesser ≡ min least beside
+      → get_or nodes (node / 2) 0 ≡ lesser → IsTree levels nodes
+  IsTree-above beside lesser at is same =
+      IsTree-closed levels (node / 2) nodes (same ∙ is ∙ lesser-above beside at) has.tree
 
-pub IsMendedTo-top : (levels node : ℕ) (old nodes : List ℕ) → IsMendedTo levels 0 node old nodes → IsTree levels nodes
-IsMendedTo-top levels node old nodes has =
+pub IsMendedTo-top : (levels node least : ℕ) (old nodes : List ℕ) → IsMendedTo levels 0 node least old nodes → IsTree levels nodes
+IsMendedTo-top levels node least old nodes has =
     let from : 2 ^ zero ≤ node = has.from in
     let to : node < 2 * 2 ^ zero = has.to in
     let top : node / 2 ≡ 0 = omega arith in

@@ -30,13 +30,6 @@ abbrev pub HasLesser : List ℕ → ℕ → Type 0
 HasLesser nodes node =
     slice_index_or nodes node 0 ≡ min (slice_index_or nodes (2 * node) 0) (slice_index_or nodes (2 * node + 1) 0)
 
--- one inner node gets the lesser number of the two below it, and the others stay
-pub record Renews (old new : List ℕ) (node : ℕ) : Type 0 where
-  pub length : length new ≡ length old
-  pub renewed : slice_index_or new node 0
-      ≡ min (slice_index_or old (2 * node) 0) (slice_index_or old (2 * node + 1) 0)
-  pub others : (other : ℕ) → other ≢ node → slice_index_or new other 0 ≡ slice_index_or old other 0
-
 -- a tree, whose leaves are the numbers, in which each inner node has the lesser number of the two below it, but perhaps
 -- for one
 pub record IsTreeBut (gap levels : ℕ) (nodes : List ℕ) : Type 0 where

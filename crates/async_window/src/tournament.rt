@@ -3,7 +3,7 @@
 
 ghost use Rattle.std.specs.Prelude.{◌≡◌, ◌≢◌, ℕ, ◌+◌, ◌*◌, ◌/◌, ◌^◌, ◌<◌, ◌≤◌};
 ghost use Rattle.std.specs.Prelude.{IfOk, MatchOption, false, length, min, slice_index_or};
-ghost use Rattle.async_window.specs.Tournament.{IsFirstWithin, IsTree, IsTreeBut, Renews, never};
+ghost use Rattle.async_window.specs.Tournament.{IsFirstWithin, IsTree, IsTreeBut, never};
 
 use crate::mailbox::NEVER;
 use std::alloc::{AllocError, Global};
@@ -69,7 +69,7 @@ impl Tournament {
         ensures here { slice_index_or self.new place 0 ≡ number }
         ensures others { (other : ℕ) → other ≢ place → slice_index_or self.new other 0 ≡ slice_index_or self.old other 0 }
     {
-        put(&mut self.nodes, self.levels, place, number);
+        put(self.nodes.as_mut_slice(), self.levels, place, number);
     }
 
     /// The least number.
@@ -112,50 +112,42 @@ fn all_never(alloc: Global, count: usize) -> Result<Vec<u64>, AllocError>
 }
 
 /// Sets the number of a leaf, and mends the nodes above it.
-fn put(nodes: &mut Vec<u64>, levels: u32, place: usize, number: u64)
-    requires tree { IsTree levels nodes.old.items }
+fn put(nodes: &mut [u64], levels: u32, place: usize, number: u64)
+    requires tree { IsTree levels nodes.old }
     requires place { place < 2 ^ levels }
-    ensures tree { IsTree levels nodes.new.items }
-    ensures here { slice_index_or nodes.new.items (2 ^ levels + place) 0 ≡ number }
+    ensures tree { IsTree levels nodes.new }
+    ensures here { slice_index_or nodes.new (2 ^ levels + place) 0 ≡ number }
     ensures others { (other : ℕ) → other ≢ place
-        → slice_index_or nodes.new.items (2 ^ levels + other) 0 ≡ slice_index_or nodes.old.items (2 ^ levels + other) 0 }
+        → slice_index_or nodes.new (2 ^ levels + other) 0 ≡ slice_index_or nodes.old (2 ^ levels + other) 0 }
 {
     let leaf = nodes.len() / 2 + place;
     nodes[leaf] = number;
-    mend(nodes, levels, leaf);
+    mend(nodes, levels, leaf, number);
 }
 
 /// Brings the nodes above a leaf up to date, from the leaf upwards, until one of them need not change.
-fn mend(nodes: &mut Vec<u64>, levels: u32, leaf: usize)
+///
+/// The number of the node that was reached is carried up, so that a level costs one look, at the node beside that one.
+/// The two nodes below node `n` are `4 * n + 1` together.
+fn mend(nodes: &mut [u64], levels: u32, leaf: usize, number: u64)
     requires leaf { 2 ^ levels ≤ leaf }
     requires within { leaf < 2 * 2 ^ levels }
-    requires tree { IsTreeBut (leaf / 2) levels nodes.old.items }
-    ensures tree { IsTree levels nodes.new.items }
-    ensures leaves { (node : ℕ) → 2 ^ levels ≤ node → slice_index_or nodes.new.items node 0 ≡ slice_index_or nodes.old.items node 0 }
+    requires number { slice_index_or nodes.old leaf 0 ≡ number }
+    requires tree { IsTreeBut (leaf / 2) levels nodes.old }
+    ensures tree { IsTree levels nodes.new }
+    ensures leaves { (node : ℕ) → 2 ^ levels ≤ node → slice_index_or nodes.new node 0 ≡ slice_index_or nodes.old node 0 }
 {
     let mut node = leaf;
+    let mut least = number;
     for _ in 0..levels {
-        node /= 2;
-        if !renew(nodes, node) {
+        let above = node / 2;
+        least = least.min(nodes[4 * above + 1 - node]);
+        if nodes[above] == least {
             return;
         }
+        nodes[above] = least;
+        node = above;
     }
-}
-
-/// Gives an inner node the lesser number of the two below it, and answers whether it had another one.
-#[inline(always)]
-fn renew(nodes: &mut Vec<u64>, node: usize) -> bool
-    requires below { 2 * node + 1 < length nodes.old.items }
-    requires few { length nodes.old.items ≤ 4096 }
-    ensures renewed { Renews nodes.old.items nodes.new.items node }
-    ensures same { result ≡ false → nodes.new.items ≡ nodes.old.items }
-{
-    let lesser = nodes[2 * node].min(nodes[2 * node + 1]);
-    if nodes[node] == lesser {
-        return false;
-    }
-    nodes[node] = lesser;
-    true
 }
 
 /// The first leaf whose number is at most a bound, where the top's number is.

@@ -1,46 +1,63 @@
-use Rattle.std.proofs.Common.{◌≡◌, ℕ, suc, ◌-◌, get_or, subst, arith, ap, ◌∙◌}
-use Rattle.async_window.proofs.Levels.{levels-low}
+use Rattle.std.proofs.Common.{◌≡◌, suc, ◌+◌, ◌*◌, ◌-◌, ◌/◌, ◌^◌, ◌<◌, ◌≤◌, length, get_or, refl, subst, arith}
 use Rattle.async_window.proofs.Trees.{IsMendedTo, IsMendedTo-above, IsMendedTo-leaf, IsMendedTo-top, IsTree-above, mended-inner}
 use Rattle.async_window.proofs.tournament.mend.Goals as goal
+use Rattle.async_window.proofs.tournament.mend.Goals.{In-loop}
 
 pub loop-init : goal.loop-init
 loop-init c rest is =
     let whole : c.args.levels ≡ rest = omega arith in
-    subst (λ n. IsMendedTo c.args.levels n c.args.leaf c.args.nodes.now.items c.args.nodes.now.items) whole
-    (IsMendedTo-leaf c.args.levels c.args.leaf c.args.nodes.now.items c.requires.leaf c.requires.within c.requires.tree)
+    subst (λ n. IsMendedTo c.args.levels n c.args.leaf c.args.number c.args.nodes.now c.args.nodes.now) whole
+    (IsMendedTo-leaf c.args.levels c.args.leaf c.args.number c.args.nodes.now c.requires.leaf c.requires.within c.requires.number
+    c.requires.tree)
 
-pub renew-requires-clause-below : goal.renew-requires-clause-below
-renew-requires-clause-below c =
-    let rest : ℕ = c.args.levels - c.loop.counter - 1 in
-    (mended-inner c.args.levels rest c.loop.node c.args.nodes.now.items c.loop.nodes.items
-    (c.loop.invariant (suc rest) (omega (arith, c.loop-test.true))) (omega (arith, c.loop-test.true))).1
+-- where the loop stands
+standing : (c : In-loop)
+    → IsMendedTo c.args.levels (suc (c.args.levels - c.loop.counter - 1)) c.loop.node c.loop.least c.args.nodes.now c.loop.nodes
+standing c = c.loop.invariant (suc (c.args.levels - c.loop.counter - 1)) (omega (arith, c.loop-test.true))
 
-pub renew-requires-clause-few : goal.renew-requires-clause-few
-renew-requires-clause-few c =
-    let has = c.loop.invariant (c.args.levels - c.loop.counter) (omega (arith, c.loop-test.true)) in
-    omega (arith, has.tree.size, levels-low c.args.levels has.tree.low)
+inner : (c : In-loop) → (1 ≤ c.loop.node / 2) × (2 * (c.loop.node / 2) + 1 < length c.loop.nodes)
+    × (c.loop.node / 2 < 2 ^ c.args.levels) × (length c.loop.nodes ≤ 4096)
+inner c =
+    mended-inner c.args.levels (c.args.levels - c.loop.counter - 1) c.loop.node c.loop.least c.args.nodes.now c.loop.nodes
+    (standing c) (omega (arith, c.loop-test.true))
+
+pub overflow_mul-above : goal.overflow_mul-above
+overflow_mul-above c = omega (arith, inner c)
+
+pub overflow_add-above : goal.overflow_add-above
+overflow_add-above c = omega (arith, inner c)
+
+pub offset_bounds-nodes-above : goal.offset_bounds-nodes-above
+offset_bounds-nodes-above c = omega (arith, inner c)
+
+pub bounds-nodes-above : goal.bounds-nodes-above
+bounds-nodes-above c = omega (arith, inner (goal.at.bounds-nodes-above c).In-loop)
+
+pub offset_bounds-nodes-above-in-loop : goal.offset_bounds-nodes-above-in-loop
+offset_bounds-nodes-above-in-loop c = omega (arith, inner (goal.at.offset_bounds-nodes-above-in-loop c).In-loop)
+
+pub bounds-nodes-above-in-loop : goal.bounds-nodes-above-in-loop
+bounds-nodes-above-in-loop c = omega (arith, inner (goal.at.bounds-nodes-above-in-loop c).In-loop)
 
 pub loop-preserved : goal.loop-preserved
 loop-preserved c rest is =
-    IsMendedTo-above c.args.levels rest c.loop.node c.args.nodes.now.items c.loop.nodes.items (c.loop.invariant (suc rest) (omega (arith, is)))
-    (omega (arith, is)) c.renew.new.nodes.items c.renew.ensures.renewed
+    IsMendedTo-above c.args.levels rest c.loop.node c.loop.least c.args.nodes.now c.loop.nodes (c.loop.invariant (suc rest) (omega (arith, is)))
+    (omega (arith, is)) (get_or c.loop.nodes (4 * (c.loop.node / 2) + 1 - c.loop.node) 0) c.min-least.result refl c.min-least.ensures
 
-pub returns-then-not-renew-clause-tree : goal.returns-then-not-renew-clause-tree
-returns-then-not-renew-clause-tree c =
-    let rest : ℕ = c.args.levels - c.loop.counter - 1 in
-    IsTree-above c.args.levels rest c.loop.node c.args.nodes.now.items c.loop.nodes.items
-    (c.loop.invariant (suc rest) (omega (arith, c.loop-test.true))) (omega (arith, c.loop-test.true)) c.renew.new.nodes.items
-    c.renew.ensures.renewed (c.renew.ensures.same c.if-not-renew.true)
-
-pub returns-then-not-renew-clause-leaves : goal.returns-then-not-renew-clause-leaves
-returns-then-not-renew-clause-leaves c node low =
-    let has = c.loop.invariant (c.args.levels - c.loop.counter) (omega (arith, c.loop-test.true)) in
-    ap (λ xs. get_or xs node 0) (c.renew.ensures.same c.if-not-renew.true) ∙ has.leaves node low
+pub returns-then-nodes-above : goal.returns-then-nodes-above
+returns-then-nodes-above c =
+    let has = standing (goal.at.returns-then-nodes-above c).In-loop in
+    record {
+      tree = IsTree-above c.args.levels (c.args.levels - c.loop.counter - 1) c.loop.node c.loop.least c.args.nodes.now c.loop.nodes has
+          (omega (arith, c.loop-test.true)) (get_or c.loop.nodes (4 * (c.loop.node / 2) + 1 - c.loop.node) 0) c.min-least.result refl
+          c.min-least.ensures c.if-nodes-above.true;
+      leaves = has.leaves;
+    }
 
 pub returns : goal.returns
 returns c =
     let has = c.loop.invariant 0 (omega (arith, c.loop-test.false, c.loop.auto)) in
     record {
-      tree = IsMendedTo-top c.args.levels c.loop.node c.args.nodes.now.items c.loop.nodes.items has;
+      tree = IsMendedTo-top c.args.levels c.loop.node c.loop.least c.args.nodes.now c.loop.nodes has;
       leaves = has.leaves;
     }

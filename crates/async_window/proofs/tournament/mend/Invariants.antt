@@ -3,4 +3,4 @@ use Rattle.async_window.proofs.Trees.{IsMendedTo}
 use Rattle.async_window.proofs.tournament.mend.Given as goal
 
 abbrev pub invariant-loop : goal.invariant-loop
-invariant-loop l = (rest : ℕ) → l.counter + rest ≡ l.levels → IsMendedTo l.levels rest l.node l.initial.nodes.items l.nodes.items
+invariant-loop l = (rest : ℕ) → l.counter + rest ≡ l.levels → IsMendedTo l.levels rest l.node l.least l.initial.nodes l.nodes
