@@ -8,7 +8,7 @@ ghost use Rattle.release_wheel.specs.Wheel.{HasRoom, IsReleased, IsReleasing, Is
 ghost use Rattle.bit_sets.specs.Rows.{rows_left};
 
 use crate::dues::Dues;
-use crate::rows::{Rows, is_always, move_on, place_of, take_off};
+use crate::rows::{Rows, move_on, place_of, take_off};
 use crate::wheel::Wheel;
 use bit_sets::rows::{Rest, first_left, next_word, rest_of, without_first};
 use requirement_table::{Mask, Placed};
@@ -69,7 +69,10 @@ fn look_at(rows: &mut Rows, dues: &mut Dues, row: usize, cycle: u64)
         return;
     }
     let placed = rows.entries[row];
-    if is_always(&placed) {
+    if placed.end.is_some() {
+        return release_row(rows, dues, &placed, row, cycle);
+    }
+    if placed.entry.period == 1 {
         return begin_row(rows, dues, &placed, row, cycle);
     }
     release_row(rows, dues, &placed, row, cycle);
