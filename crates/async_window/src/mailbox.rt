@@ -50,6 +50,10 @@ impl Mailbox {
         ensures pushed { IfOk result (λ _. self.new
             ≡ record { identifier = self.old.identifier; unsent = self.old.unsent ++ request.now ∷ [] }) }
     {
+        if self.requests.len() < self.requests.capacity() {
+            self.requests.push_reserved(*request);
+            return Ok(());
+        }
         self.requests.push(*request)?;
         Ok(())
     }
