@@ -1,5 +1,6 @@
 -- The fields of a row and the numbers that they write.
 use Rattle.std.proofs.Common.{◌≡◌, ℕ, ◌+◌, ◌*◌, ◌-◌, ◌^◌, ◌<◌, ◌≤◌, ◌==◌, if◌then◌else◌, true, false, List, [], ◌∷◌, length, map, get_or, slice_get, Option, Some, None, option_map, option_and_then, nat_le, zero, suc, refl, inl, inr, arith}
+use Rattle.std.proofs.Math.Nat.{pow-le-pow_right}
 use Rattle.std.proofs.lemmas.Bool.{cases_Bool}
 use Rattle.std.proofs.lemmas.Bool.Decides.{nat_tests}
 use Rattle.std.proofs.lemmas.Option.{none-some}
@@ -77,9 +78,16 @@ no_more_digits number [] none small =
     rw (least, fits) refl
 
 -- the number of a field that is not empty
-pub field_number : (field : List ℕ) → (length field == 0) ≡ false → option_and_then (within 0 (2 ^ 64 - 1)) (number_of field) ≡ decimal_from 0 field
+pub field_number : (field : List ℕ) → 0 < length field → option_and_then (within 0 (2 ^ 64 - 1)) (number_of field) ≡ decimal_from 0 field
 field_number field some =
+    let test : (length field == 0) ≡ false = grind (arith, nat_tests, some) in
     elim (cases_Bool (list_all is_ascii_digit field)) [
-      | inl e ↦ rw (some, e) refl
-      | inr e ↦ rw (some, e) refl
+      | inl e ↦ rw (test, e) refl
+      | inr e ↦ rw (test, e) refl
     ]
+
+-- a number of at most 18 digits is below 10 ^ 18, and so leaves room for one digit more
+pub few_digits : (number count : ℕ) → number < 10 ^ count → count ≤ 18 → number < 10 ^ 18
+few_digits number count small few =
+    let more : 10 ^ count ≤ 10 ^ 18 = pow-le-pow_right {n = 10} (omega arith) few in
+    omega (arith, small, more)

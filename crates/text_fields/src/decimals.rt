@@ -1,6 +1,6 @@
 //! Decimal numbers as text.
 
-ghost use Rattle.std.specs.Prelude.{◌≡◌, ℕ, ◌+◌, ◌*◌, ◌-◌, ◌^◌, ◌<◌, if◌then◌else◌};
+ghost use Rattle.std.specs.Prelude.{◌≡◌, ℕ, ◌+◌, ◌*◌, ◌-◌, ◌^◌, ◌<◌, ◌≤◌, if◌then◌else◌, length};
 ghost use Rattle.std.specs.Prelude.{IfSome, IfNone, None, option_and_then};
 ghost use Rattle.std.specs.Char.{digit_value, is_ascii_digit};
 ghost use Rattle.std.specs.Fmt.{decimal};
@@ -19,12 +19,33 @@ fn with_digit(number: u64, byte: u8) -> Option<u64>
     tens.checked_add(u64::from(byte - b'0'))
 }
 
-/// The number that the field writes, where it fits its type. Leading zeros are allowed.
-pub fn read_number(field: &[u8]) -> Option<u64>
+/// The number of digits up to which each number fits its type.
+const FEW: usize = 19;
+
+/// The number that a field of at most 19 bytes writes.
+fn read_few(field: &[u8]) -> Option<u64>
+    requires few { length field.now ≤ 19 }
     ensures value { result ≡ option_and_then (within 0 (2 ^ 64 - 1)) (number_of field.now) }
 {
     if field.is_empty() {
         return None;
+    }
+    let mut number = 0u64;
+    for byte in field {
+        if !byte.is_ascii_digit() {
+            return None;
+        }
+        number = number * 10 + u64::from(*byte - b'0');
+    }
+    Some(number)
+}
+
+/// The number that the field writes, where it fits its type. Leading zeros are allowed.
+pub fn read_number(field: &[u8]) -> Option<u64>
+    ensures value { result ≡ option_and_then (within 0 (2 ^ 64 - 1)) (number_of field.now) }
+{
+    if field.len() <= FEW {
+        return read_few(field);
     }
     let mut number = 0u64;
     let mut left = field;
