@@ -1,7 +1,6 @@
 -- Draws behind draws, and lists of what is made of each number.
-use Rattle.std.proofs.Common.{◌≡◌, ◌∙◌, ap, refl, sym, ℕ, zero, suc, ◌+◌, ◌*◌, ◌/◌, ◌%◌, ◌^◌, ◌<◌, List, [], ◌∷◌, ◌++◌, arith, length, take, get_or, set}
+use Rattle.std.proofs.Common.{◌≡◌, ◌∙◌, ap, refl, sym, ℕ, zero, suc, ◌+◌, ◌*◌, ◌/◌, ◌%◌, ◌^◌, ◌<◌, List, [], ◌∷◌, ◌++◌, arith, length, get_or}
 use Rattle.std.proofs.Math.Nat.{mod-add-mod}
-use Rattle.std.proofs.lemmas.List.{take_more_set}
 use Rattle.std.proofs.lemmas.List.FromFn.{get_or-map-range_with_len, length-map-range_with_len, map-range_with_len_more}
 use Rattle.requirement_table.specs.declared.entries.Entry.{Entry}
 use Rattle.change_protocol.specs.declared.operations.Op.TheVariants.{Add}
@@ -88,14 +87,11 @@ state_framed number =
     ∙ after_again number 2 (1 + draw number 3 % 9)
     ∙ ap (state_after number) further
 
--- one byte more
-pub byte_more : (number state place byte : ℕ) (bytes : List ℕ) → place < length bytes → take place bytes ≡ each_below place (λ place. draw number (2 + place) % 256)
-    → state ≡ state_after number (1 + place) → byte ≡ draw state 1 % 256
-    → take (place + 1) (set bytes place byte) ≡ each_below (place + 1) (λ place. draw number (2 + place) % 256)
-byte_more number state place byte bytes inside so_far state_is byte_is =
+-- the draw of one byte more
+pub byte_drawn : (number state place byte : ℕ) → state ≡ state_after number (1 + place) → byte ≡ draw state 1 % 256 → byte ≡ draw number (2 + place) % 256
+byte_drawn number state place byte state_is byte_is =
     let further : 1 + place + 1 ≡ 2 + place = omega arith in
-    let drawn : byte ≡ draw number (2 + place) % 256 = byte_is ∙ ap (λ s. draw s 1 % 256) state_is ∙ ap (λ d. d % 256) (draw_again number (1 + place) 1 ∙ ap (draw number) further) in
-    take_more_set bytes place byte inside ∙ (λ i. so_far i ++ drawn i ∷ []) ∙ sym (each_more place (λ place. draw number (2 + place) % 256))
+    byte_is ∙ ap (λ s. draw s 1 % 256) state_is ∙ ap (λ d. d % 256) (draw_again number (1 + place) 1 ∙ ap (draw number) further)
 
 pub byte_state : (number state after place : ℕ) → state ≡ state_after number (1 + place) → after ≡ state_after state 1 → after ≡ state_after number (1 + (place + 1))
 byte_state number state after place state_is after_is =

@@ -1,3 +1,4 @@
+mod ByteNumbers
 mod GeneratorDraws
 mod GeneratorRequests
 mod GeneratorLegal

@@ -16,7 +16,7 @@ ghost use Rattle.system_file.specs.SystemFile.{IsSystem};
 
 use admission_rules::Rules;
 use async_window::{Owner, Request};
-use can_frame::{Frame, MAX_BYTES};
+use can_frame::Frame;
 use change_protocol::{Act, Change, Op, Ops};
 use cycle_layout::Layout;
 use planner_policies::{Fill, Policy};
@@ -136,15 +136,12 @@ impl Draws {
         } }
         ensures state { self.new.state ≡ state_after self.old.state (1 + draw self.old.state 1 % 9) }
     {
-        let count = self.below(9) as usize;
-        let mut bytes = [0; MAX_BYTES];
-        for place in 0..count {
-            bytes[place] = self.below(256) as u8;
+        let count = self.below(9) as u8;
+        let mut number = 0;
+        for _ in 0..count {
+            number = number * 256 + self.below(256);
         }
-        match Frame::new(id, &bytes[..count]) {
-            Ok(frame) => frame,
-            Err(_) => unreachable!(),
-        }
+        Frame::of_number(id, count, number)
     }
 
     /// The request behind one that arrives at this time, of three draws and one for each byte.
@@ -251,12 +248,12 @@ fn requests(alloc: Global, mut draws: Draws) -> Result<RequestList, AllocError>
     ensures value { (number : ℕ) → draws.state ≡ state_after number (6 * generated_slots)
         → IfOk result (λ requests. requests ≡ requests_made number) }
 {
-    let mut requests = Vec::new(alloc);
+    let mut requests = Vec::with_capacity(alloc, REQUESTS)?;
     let mut last = 0;
     for _ in 0..REQUESTS {
         let request = draws.request(last);
         last = request.at;
-        requests.push(request)?;
+        requests.push_reserved(request);
     }
     Ok(RequestList::of(requests))
 }

@@ -6,8 +6,9 @@ use Rattle.generated_input.proofs.generating.requests.Goals as goal
 pub loop-init : goal.loop-init
 loop-init c =
     record {
+      room = omega (arith, c.in_ok-requests.ensures.len, c.in_ok-requests.ensures.capacity);
       early = lit≤ tt;
-      made = λ number is. none_made number _ _ is c.new-requests.ensures.items;
+      made = λ number is. none_made number _ _ is c.in_ok-requests.ensures.items;
     }
 
 pub loop-preserved : goal.loop-preserved
@@ -15,8 +16,9 @@ loop-preserved c =
     let so_far = c.loop.invariant in
     let request = c.request-request.ensures in
     record {
+      room = omega (arith, c.push_reserved.ensures.len, c.push_reserved.ensures.capacity, so_far.room);
       early = omega (arith, so_far.early, request.early);
-      made = λ number is. one_made number _ _ _ _ _ _ _ (so_far.made number is) request.at request.identifier request.bytes request.state c.in_ok-push.ensures.items;
+      made = λ number is. one_made number _ _ _ _ _ _ _ (so_far.made number is) request.at request.identifier request.bytes request.state c.push_reserved.ensures.items;
     }
 
 pub returns : goal.returns
