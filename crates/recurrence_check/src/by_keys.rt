@@ -277,8 +277,11 @@ fn reach(row: &mut Vec<Option<(u128, u64)>>, place: u64) -> Result<(), AllocErro
     ensures same { OnOk result ((other : ℕ)
         → slice_index_or row.new.items other None ≡ slice_index_or row.old.items other None) }
 {
-    if row.len() < place as usize {
-        row.resize(place as usize, None)?;
+    if row.capacity() < place as usize {
+        row.reserve_exact(place as usize - row.len())?;
+    }
+    while row.len() < place as usize {
+        row.push_reserved(None);
     }
     Ok(())
 }
