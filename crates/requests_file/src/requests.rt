@@ -4,7 +4,7 @@
 //! identifier, as a decimal number or as `0x` and one to three hexadecimal digits. DATA is two
 //! hexadecimal digits for each of 0 to 8 bytes. There are at most 50,000 rows.
 
-ghost use Rattle.std.specs.Prelude.{◌≡◌, ◌⊎◌, ℕ, ◌<◌, ◌≤◌, ◌&&◌, IfOk, IfErr, IfSome};
+ghost use Rattle.std.specs.Prelude.{◌≡◌, ◌⊎◌, ℕ, ◌<◌, ◌≤◌, ◌&&◌, ◌++◌, [], ◌∷◌, IfOk, IfErr, IfSome};
 ghost use Rattle.std.specs.Prelude.{Err, Ok, Some, None, map, length, get_or, false, true};
 ghost use Rattle.std.specs.Prelude.{List, option_and_then, option_map, MatchResult};
 ghost use Rattle.profile.specs.Limits.{greatest_identifier};
@@ -168,6 +168,19 @@ fn read_row(row: &Record<'_>, owned: &[bool], above: &[Request]) -> Result<Reque
     Ok(Request { at, frame })
 }
 
+/// Puts a request behind the others, without a call where there is room.
+#[inline(always)]
+fn put(requests: &mut Vec<Request>, request: Request) -> Result<(), AllocError>
+    ensures put { IfOk result (λ _. requests.new.items ≡ requests.old.items ++ request ∷ []) }
+{
+    if requests.len() < requests.capacity() {
+        requests.push_reserved(request);
+        return Ok(());
+    }
+    requests.push(request)?;
+    Ok(())
+}
+
 /// Reads a requests file, where these are the owners of identifiers.
 ///
 /// # Errors
@@ -190,7 +203,7 @@ pub fn read_requests(
     let mut requests = Vec::new(alloc);
     while next_record(&mut reader, &mut row)? {
         match read_row(&row, &owned, &requests) {
-            Ok(request) => requests.push(request)?,
+            Ok(request) => put(&mut requests, request)?,
             Err(why) => {
                 let number = requests.len() as u64 + 1;
                 return Err(RequestFault::Row { number, why });

@@ -1,6 +1,5 @@
 -- What the reader gives is the next record of the bytes that it has left.
 use Rattle.std.proofs.Common.{◌≡◌, [], Ok, Err, ap, inr, map, rules, subst, sym, ◌++◌, ◌∷◌, true, ◌+◌, arith}
-use Rattle.std.specs.Result.{is_ok}
 use Rattle.text_fields.specs.RecordReading.{fields_in}
 use Rattle.text_fields.specs.CsvRows.{rows_of, trimmed}
 use Rattle.requests_file.specs.RequestRow.{meaning}
@@ -62,8 +61,7 @@ loop-requests-preserved c =
     let fields = fields_in c.next_record.new.row in
     let read = c.in_ok-next_record.ensures.one c.if-branch.true c.args.bytes.now so_far.before so_far.reads in
     let is : meaning owners above (map trimmed fields) ≡ Ok request = rw c.deref-in-loop-requests.ensures.value at (sym (c.in-Ok.ensures.value owners table)) in
-    let good : is_ok c.push.result ≡ true = search rules in
-    let items = rw good at c.push.ensures.items in
+    let items = c.in_ok-put-in-Ok.ensures.put in
     record {
       before = so_far.before ++ fields ∷ [];
       reads = read.reads;
