@@ -255,7 +255,7 @@ fn put_frame(
 const SEVERAL: usize = 6;
 
 /// The digits of the data bytes of the last of several frames.
-fn digits_for(frames: &[TimedFrame]) -> DataDigits {
+pub fn digits_for(frames: &[TimedFrame]) -> DataDigits {
     if frames.len() < SEVERAL {
         return DataDigits::zeros();
     }
@@ -276,8 +276,9 @@ fn number_of(frame: &can_frame::Frame) -> u64 {
     if frame.dlc() == 8 { frame.number() } else { 0 }
 }
 
-/// Puts the rows of frames, from that of the last frame to that of the first one.
-fn put_frames(rows: &mut [u8; ROWS_ROOM], frames: &[TimedFrame]) -> usize
+/// Puts the rows of frames, from that of the last frame to that of the first one. `data` are the digits of bytes that
+/// some of the frames have.
+fn put_frames(rows: &mut [u8; ROWS_ROOM], data: &DataDigits, frames: &[TimedFrame]) -> usize
     requires few { length frames.now ≤ 16 }
     ensures within { result ≤ 1024 }
     ensures room { 80 ≤ result }
@@ -285,21 +286,24 @@ fn put_frames(rows: &mut [u8; ROWS_ROOM], frames: &[TimedFrame]) -> usize
     ensures in_range { All IsLogRow (map Frame frames.now) }
 {
     let mut starts = HighDigits::new();
-    let data = digits_for(frames);
     let mut place = ROWS_ROOM;
     for number in (0..frames.len()).rev() {
-        place = put_frame(rows, place, &mut starts, &data, &frames[number]);
+        place = put_frame(rows, place, &mut starts, data, &frames[number]);
     }
     place
 }
 
-/// Makes the rows of frames.
-pub fn frame_rows<'a>(rows: &'a mut [u8; ROWS_ROOM], frames: &[TimedFrame]) -> &'a [u8]
+/// Makes the rows of frames. `data` are the digits of bytes that some of the frames have.
+pub fn frame_rows<'a>(
+    rows: &'a mut [u8; ROWS_ROOM],
+    data: &DataDigits,
+    frames: &[TimedFrame],
+) -> &'a [u8]
     requires few { length frames.now ≤ 16 }
     ensures rows { result.now ≡ text_of_rows (map Frame frames.now) }
     ensures in_range { All IsLogRow (map Frame frames.now) }
 {
-    let place = put_frames(rows, frames);
+    let place = put_frames(rows, data, frames);
     row_from(rows, place)
 }
 
@@ -327,17 +331,19 @@ fn put_open<const N: usize>(rows: &mut [u8; N], end: usize, opened: &OpenRow) ->
     put_word(rows, place, b"open,")
 }
 
-/// Makes the row of an opened cycle, and those of the first frames that were sent in it.
+/// Makes the row of an opened cycle, and those of the first frames that were sent in it. `data` are the digits of bytes
+/// that some of the frames have.
 pub fn opened_rows<'a>(
     rows: &'a mut [u8; ROWS_ROOM],
     opened: &OpenRow,
+    data: &DataDigits,
     frames: &[TimedFrame],
 ) -> &'a [u8]
     requires few { length frames.now ≤ 16 }
     ensures rows { result.now ≡ text_of_rows (Open opened.now ∷ map Frame frames.now) }
     ensures in_range { All IsLogRow (Open opened.now ∷ map Frame frames.now) }
 {
-    let place = put_frames(rows, frames);
+    let place = put_frames(rows, data, frames);
     let place = put_open(rows, place, opened);
     row_from(rows, place)
 }

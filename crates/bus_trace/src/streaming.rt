@@ -14,8 +14,8 @@ ghost use Rattle.log_reader.specs.declared.row.LogRow.TheVariants.{Frame as Fram
 
 use crate::gathering::Gathered;
 use crate::rows::{
-    FRAMES_TOGETHER, ROWS_ROOM, end_row, frame_rows, lone_rows, look_row, open_told, opened_rows,
-    plan_row, submit_row,
+    FRAMES_TOGETHER, ROWS_ROOM, digits_for, end_row, frame_rows, lone_rows, look_row, open_told,
+    opened_rows, plan_row, submit_row,
 };
 use can_frame::{Frame, TimedFrame};
 use ftt_io::{Failed, Sink, write_all};
@@ -24,7 +24,7 @@ use master_core::Event;
 use requirement_table::Mask;
 use std::alloc::{AllocError, Global};
 use std::mem;
-use text_fields::ROOM;
+use text_fields::{DataDigits, ROOM};
 
 /// The length of the synchronous window that a trigger says, in bit times.
 fn width_told(trigger: &Frame) -> u32
@@ -96,10 +96,11 @@ fn put_plan_rows<O: Sink>(out: &mut O, from: u64, masks: &[Mask]) -> Result<(), 
     Ok(())
 }
 
-/// Puts the rows of frames, up to 16 by a call.
+/// Puts the rows of frames, up to 16 by a call. `data` are the digits of bytes that some of the frames have.
 fn put_frame_rows<O: Sink>(
     out: &mut O,
     rows: &mut [u8; ROWS_ROOM],
+    data: &DataDigits,
     frames: &[TimedFrame],
 ) -> Result<(), Failed>
     ensures faults_never_fall { O.faults out.old ≤ O.faults out.new }
@@ -113,7 +114,7 @@ fn put_frame_rows<O: Sink>(
     let mut left = frames;
     while !left.is_empty() {
         let (some, later) = left.split_at(left.len().min(FRAMES_TOGETHER));
-        write_all(out, frame_rows(rows, some))?;
+        write_all(out, frame_rows(rows, data, some))?;
         left = later;
     }
     Ok(())
@@ -137,9 +138,10 @@ fn put_cycle<O: Sink>(out: &mut O, opened: &OpenRow, frames: &[TimedFrame]) -> R
         return write_all(out, lone_rows(&mut row, opened, sent));
     }
     let mut rows = [0; ROWS_ROOM];
+    let data = digits_for(frames);
     let (first, later) = frames.split_at(frames.len().min(FRAMES_TOGETHER));
-    write_all(out, opened_rows(&mut rows, opened, first))?;
-    put_frame_rows(out, &mut rows, later)
+    write_all(out, opened_rows(&mut rows, opened, &data, first))?;
+    put_frame_rows(out, &mut rows, &data, later)
 }
 
 /// Puts the rows of an event and of these frames, up to 16 frames of a cycle together. Where the event opens a cycle,
