@@ -2,8 +2,8 @@
 use Rattle.std.proofs.Common.{◌≡◌, ◌≢◌, ℕ, zero, suc, ◌+◌, ◌-◌, ◌*◌, ◌%◌, ◌^◌, ◌<◌, ◌≤◌, ◌&&◌, ◌==◌, Bool, true, false, not, is_some, Option, None, Some, option_map, List, [], ◌∷◌, slice_get, get_or, set, length, replicate, inl, inr, refl, sym, ap, ◌∙◌, subst, arith}
 use Rattle.std.specs.Prelude.{IfSome, IsSomeAnd}
 use Rattle.std.specs.Option.{option_map_or}
-use Rattle.std.proofs.lemmas.Bool.{cases_eq, false≢true, ne_eqb}
-use Rattle.std.proofs.lemmas.Option.{none-some}
+use Rattle.std.proofs.lemmas.Bool.{cases_eq, cases_lt, false≢true, ne_eqb}
+use Rattle.std.proofs.lemmas.Option.{none-some, IfSome_then}
 use Rattle.requirement_table.specs.declared.entries.Placed.{Placed}
 use Rattle.bit_sets.specs.Sets.{has_bit}
 use Rattle.requirement_table.specs.Instance.{Instance, MaySend, bytes_of, payload, release_of}
@@ -26,11 +26,32 @@ module _ {X : Type 0} where
   each-set P (y ∷ xs) (suc i) x new old zero = old 0
   each-set P (y ∷ xs) (suc i) x new old (suc j) = each-set (λ k. P (suc k)) xs i x new (λ k. old (suc k)) j
 
+  -- one element changes, and what holds of the others follows
+  each-step : (P Q : ℕ → X → Type 0) (xs : List X) (i : ℕ) (x : X) → Q i x
+      → ((j : ℕ) (y : X) → j ≢ i → P j y → Q j y) → ((j : ℕ) → IfSome (slice_get xs j) (P j))
+      → (j : ℕ) → IfSome (slice_get (set xs i x) j) (Q j)
+  each-step P Q [] i x new on old j = tt
+  each-step P Q (y ∷ xs) zero x new on old zero = new
+  each-step P Q (y ∷ xs) zero x new on old (suc j) = IfSome_then (slice_get xs j) (old (suc j)) (λ z. on (suc j) z (λ same. absurd (omega (arith, same))))
+  each-step P Q (y ∷ xs) (suc i) x new on old zero = on 0 y (λ same. absurd (omega (arith, same))) (old 0)
+  each-step P Q (y ∷ xs) (suc i) x new on old (suc j) =
+      each-step (λ k. P (suc k)) (λ k. Q (suc k)) xs i x new (λ k z apart. on (suc k) z (λ same. apart (omega (arith, same)))) (λ k. old (suc k)) j
+
   -- what holds of the element at a place
   pub at-place : (P : X → Type 0) (xs : List X) (i : ℕ) (d : X) → i < length xs → IfSome (slice_get xs i) P → P (get_or xs i d)
   at-place P [] i d within holds = absurd (omega arith)
   at-place P (x ∷ xs) zero d within holds = holds
   at-place P (x ∷ xs) (suc i) d within holds = at-place P xs i d (omega (arith, within)) holds
+
+  at-end : (P : X → Type 0) (xs : List X) (i : ℕ) → length xs ≤ i → IfSome (slice_get xs i) P
+  at-end P [] i past = tt
+  at-end P (x ∷ xs) zero past = absurd (omega (arith, past))
+  at-end P (x ∷ xs) (suc i) past = at-end P xs i (omega (arith, past))
+
+  at-or : (P : X → Type 0) (xs : List X) (i : ℕ) (d : X) → P d → IfSome (slice_get xs i) P → P (get_or xs i d)
+  at-or P [] i d none holds = none
+  at-or P (x ∷ xs) zero d none holds = holds
+  at-or P (x ∷ xs) (suc i) d none holds = at-or P xs i d none holds
 
   pub at-both : (P Q : X → Type 0) (xs : List X) (i : ℕ) (d : X) → IsSomeAnd (slice_get xs i) P → IfSome (slice_get xs i) Q
       → P (get_or xs i d) × Q (get_or xs i d)
@@ -49,6 +70,50 @@ nothing-ready entries n = each-of (IsSlotReady entries) n unknown (λ slot. reco
   length = omega arith;
   each = λ k c before from in_time. absurd (omega (arith, from, in_time));
 })
+
+-- what is kept of a slot when nothing is known of the first `k` slots
+pub record IsForgotten (k slot : ℕ) (ready : Ready) : Type 0 where
+  pub number : ready.number ≤ ready.release
+  pub deadline : ready.deadline ≤ ready.period
+  pub length : ready.length ≤ 8
+  pub over : slot < k → ready.end ≡ 0
+
+pub none-forgotten : (entries : List Placed) (slots : List Ready) → AreReady entries slots → (slot : ℕ) → IfSome (slice_get slots slot) (IsForgotten 0 slot)
+none-forgotten entries slots ready slot = IfSome_then (slice_get slots slot) (ready slot) (λ r known. record {
+  number = known.number;
+  deadline = known.deadline;
+  length = known.length;
+  over = λ none. absurd (omega (arith, none));
+})
+
+pub one-forgotten : (k : ℕ) (slots : List Ready) → ((slot : ℕ) → IfSome (slice_get slots slot) (IsForgotten k slot))
+    → (slot : ℕ) → IfSome (slice_get (set slots k (record (get_or slots k unknown) { end = 0 })) slot) (IsForgotten (k + 1) slot)
+one-forgotten k slots before =
+    let none : IsForgotten k k unknown = record { number = omega arith; deadline = omega arith; length = omega arith; over = λ _. refl } in
+    let known = at-or (IsForgotten k k) slots k unknown none (before k) in
+    each-step (IsForgotten k) (IsForgotten (k + 1)) slots k (record (get_or slots k unknown) { end = 0 })
+    (record { number = known.number; deadline = known.deadline; length = known.length; over = λ _. refl })
+    (λ j y apart was. record {
+      number = was.number;
+      deadline = was.deadline;
+      length = was.length;
+      over = λ within. elim (cases_lt j k) [
+        | inl below ↦ was.over below
+        | inr from ↦ absurd (apart (omega (arith, from, within)))
+      ];
+    }) before
+
+pub all-forgotten : (entries : List Placed) (n : ℕ) (slots : List Ready) → length slots ≤ n
+    → ((slot : ℕ) → IfSome (slice_get slots slot) (IsForgotten n slot)) → AreReady entries slots
+all-forgotten entries n slots few forgotten slot = elim (cases_lt slot n) [
+  | inl below ↦ IfSome_then (slice_get slots slot) (forgotten slot) (λ r known. record {
+    number = known.number;
+    deadline = known.deadline;
+    length = known.length;
+    each = λ k c before from in_time. absurd (omega (arith, before, known.over below));
+  })
+  | inr from ↦ at-end (IsSlotReady entries slot) slots slot (omega (arith, few, from))
+]
 
 -- more is known of one slot
 pub one-ready : (entries : List Placed) (slots : List Ready) (slot : ℕ) (found : Ready) → IsSlotReady entries slot found → AreReady entries slots

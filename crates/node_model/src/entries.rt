@@ -107,6 +107,7 @@ impl Remaining {
     /// Keeps those of a node's entries that are not over by a cycle, without memory.
     pub fn keep(&mut self, entries: &[Placed], cycle: u64)
         requires well_placed { IsWellPlaced entries.now }
+        requires ready { AreReady self.old.entries.items self.old.ready }
         requires room { length entries.now ≤ vec_capacity self.old.entries }
         ensures well_placed { IsWellPlaced self.new.entries.items }
         ensures instances { HaveInstances entries.now cycle self.new.entries.items }
@@ -115,7 +116,7 @@ impl Remaining {
     {
         keep_not_over(entries, cycle, &mut self.entries);
         self.until = first_over(self.entries.as_slice());
-        self.ready = [UNKNOWN; MOST_SLOTS as usize];
+        forget(&mut self.ready);
     }
 
     /// Drops those that are over by a cycle, in place, where one of them is.
@@ -131,8 +132,17 @@ impl Remaining {
         if self.until <= cycle {
             drop_over(&mut self.entries, cycle);
             self.until = first_over(self.entries.as_slice());
-            self.ready = [UNKNOWN; MOST_SLOTS as usize];
+            forget(&mut self.ready);
         }
+    }
+}
+
+/// Takes nothing as known of the instances of any slot.
+fn forget(ready: &mut ReadySlots)
+    ensures ready { (before entries : List Placed) → AreReady before ready.old → AreReady entries ready.new }
+{
+    for slot in 0..MOST_SLOTS as usize {
+        ready[slot].end = 0;
     }
 }
 

@@ -1,5 +1,4 @@
 use Rattle.requirement_table.proofs.Shared.{not_over-well_placed, instance_in-not_over}
-use Rattle.node_model.proofs.Ready.{nothing-ready}
 use Rattle.node_model.proofs.entries.Remaining.keep.Goals as goal
 
 pub first_over-self-requires : goal.first_over-self-requires
@@ -14,4 +13,4 @@ returns-clause-instances c =
     rw c.keep_not_over.ensures.left (λ slot at from. instance_in-not_over c.args.cycle c.args.entries.now slot at from)
 
 pub returns-clause-ready : goal.returns-clause-ready
-returns-clause-ready c = nothing-ready _ 96
+returns-clause-ready c = c.forget.ensures.ready c.args.self.now.entries.items _ c.requires.ready

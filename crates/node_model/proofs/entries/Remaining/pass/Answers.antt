@@ -1,5 +1,4 @@
 use Rattle.requirement_table.proofs.Shared.{not_over-well_placed, instance_in-not_over}
-use Rattle.node_model.proofs.Ready.{nothing-ready}
 use Rattle.node_model.proofs.entries.Remaining.pass.Goals as goal
 
 pub first_over-self-requires : goal.first_over-self-requires
@@ -15,4 +14,4 @@ returns-then-self-cycle-clause-instances c =
     rw c.drop_over.ensures.left (λ slot at from. instance_in-not_over c.args.cycle c.args.self.now.entries.items slot at from)
 
 pub returns-then-self-cycle-clause-ready : goal.returns-then-self-cycle-clause-ready
-returns-then-self-cycle-clause-ready c = nothing-ready _ 96
+returns-then-self-cycle-clause-ready c = c.forget.ensures.ready c.args.self.now.entries.items _ c.requires.ready
