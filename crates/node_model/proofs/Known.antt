@@ -1,7 +1,7 @@
 -- What is known of a node's own entries, identifiers and slots.
-use Rattle.std.proofs.Common.{◌≡◌, ◌≢◌, ℕ, ◌+◌, ◌-◌, ◌^◌, ◌<◌, ◌≤◌, ◌||◌, ◌==◌, true, false, Option, Some, None, MatchOption, ◌⊎◌, List, [], ◌∷◌, filter, All, AllPairs, refl, sym, ap, ◌∙◌, arith, ⊎_elim}
+use Rattle.std.proofs.Common.{◌≡◌, ◌≢◌, ℕ, ◌+◌, ◌-◌, ◌^◌, ◌<◌, ◌≤◌, ◌||◌, ◌==◌, Bool, true, false, cond, map, get_or, Option, Some, None, MatchOption, ◌⊎◌, List, [], ◌∷◌, filter, All, AllPairs, refl, sym, ap, ◌∙◌, arith, ⊎_elim}
 use Rattle.std.specs.List.{list_any}
-use Rattle.std.proofs.lemmas.Bool.{cases_lt}
+use Rattle.std.proofs.lemmas.Bool.{cases_lt, eq-eqb, eqb-true}
 use Rattle.std.proofs.lemmas.Bool.Decides.{nat_tests}
 use Rattle.std.proofs.lemmas.List.Elements.{All-filter, All-map}
 use Rattle.std.proofs.lemmas.List.Kept.{AllPairs-filter}
@@ -12,15 +12,66 @@ use Rattle.bit_sets.proofs.Shared.{has_bit-above}
 use Rattle.requirement_table.specs.Table.{IsInRange, GoesBefore, IsWellPlaced}
 use Rattle.async_window.specs.declared.request.Owner.{Owner}
 use Rattle.async_window.proofs.Shared.{AllPairs-map}
-use Rattle.node_model.specs.Node.{entries_of, identifiers_of, is_own_slot}
-use Rattle.node_model.specs.Kept.{AreSlotsOf}
+use Rattle.node_model.specs.Node.{entries_of, identifiers_of, is_own_slot, with_node}
+use Rattle.node_model.specs.Kept.{AreSlotsOf, kept_of}
 
--- a node's own entries of a well placed list are well placed
-pub IsWellPlaced-own : (number : ℕ) (placed : List Placed) → IsWellPlaced placed → IsWellPlaced (entries_of number placed)
-IsWellPlaced-own number placed well = record {
-  in_range = All-filter (λ p. p.entry.node == number) IsInRange placed well.in_range;
-  in_order = AllPairs-filter GoesBefore (λ p. p.entry.node == number) placed well.in_order;
+-- a well placed list is so too with one number
+pub with_node-well_placed : (number : ℕ) (placed : List Placed) → IsWellPlaced placed → IsWellPlaced (map (with_node number) placed)
+with_node-well_placed number placed well = record {
+  in_range = All-map IsInRange (with_node number) placed (λ k d within.
+      let is : IsInRange (get_or placed k d) = well.in_range k d within in
+      record {
+        entry = record {
+          slot = is.entry.slot;
+          length = is.entry.length;
+          phase = is.entry.phase;
+          period = is.entry.period;
+          priority = is.entry.priority;
+          some_time = is.entry.some_time;
+          deadline = is.entry.deadline;
+        };
+        origin = is.origin;
+        end = is.end;
+      });
+  in_order = AllPairs-map GoesBefore (with_node number) placed (λ p. p) (λ i j d before within. well.in_order i j d before within);
 }
+
+-- what a node keeps of a well placed list is well placed
+pub IsWellPlaced-kept : (all : Bool) (number : ℕ) (placed : List Placed) → IsWellPlaced placed → IsWellPlaced (kept_of all number placed)
+IsWellPlaced-kept all number placed well =
+    with_node-well_placed number (filter (λ p. all || p.entry.node == number) placed) (record {
+      in_range = All-filter (λ p. all || p.entry.node == number) IsInRange placed well.in_range;
+      in_order = AllPairs-filter GoesBefore (λ p. all || p.entry.node == number) placed well.in_order;
+    })
+
+-- all entries with a node's number are its own
+pub with_node-own : (number : ℕ) (placed : List Placed) → map (with_node number) placed ≡ entries_of number (map (with_node number) placed)
+with_node-own number [] = refl
+with_node-own number (p ∷ ps) =
+    ap (λ all. with_node number p ∷ all) (with_node-own number ps)
+    ∙ ap (λ b. cond b (with_node number p ∷ entries_of number (map (with_node number) ps)) (entries_of number (map (with_node number) ps)))
+    (sym (eq-eqb number number refl))
+
+-- an own entry has the node's number
+one-own : (number : ℕ) (p : Placed) (ps rest : List Placed) (b : Bool) → (p.entry.node == number) ≡ b → map (with_node number) ps ≡ rest
+    → map (with_node number) (cond b (p ∷ ps) ps) ≡ cond b (p ∷ rest) rest
+one-own number p ps rest true own is =
+    ap (λ n. with_node n p ∷ map (with_node number) ps) (sym (eqb-true p.entry.node number own)) ∙ ap (λ all. p ∷ all) is
+one-own number p ps rest false own is = is
+
+-- the entries that are its own stay as they are
+pub kept_of-own : (number : ℕ) (placed : List Placed) → kept_of false number placed ≡ entries_of number placed
+kept_of-own number [] = refl
+kept_of-own number (p ∷ ps) =
+    one-own number p (filter (λ p. p.entry.node == number) ps) (entries_of number ps) (p.entry.node == number) refl (kept_of-own number ps)
+
+filter-all : (placed : List Placed) → filter (λ p. true) placed ≡ placed
+filter-all [] = refl
+filter-all (p ∷ ps) = ap (λ all. p ∷ all) (filter-all ps)
+
+-- all of a list are those of its number once they have it
+pub kept_of-all : (number : ℕ) (placed : List Placed) → kept_of true number placed ≡ entries_of number (map (with_node number) placed)
+kept_of-all number placed = ap (map (with_node number)) (filter-all placed) ∙ with_node-own number placed
 
 -- what holds of each owner's identifier holds of each identifier of a node
 pub identifiers_of-all : (P : ℕ → Type 0) (number : ℕ) (owners : List Owner) → All (λ owner. P owner.id) owners → All P (identifiers_of number owners)

@@ -1,13 +1,13 @@
 -- What a node keeps besides what it knows, so that it answers without a look at its entries, or at those of them that
 -- are over.
-use Rattle.std.specs.Prelude.{◌≡◌, ℕ, ◌+◌, ◌-◌, ◌*◌, ◌/◌, ◌^◌, ◌<◌, ◌≤◌, ◌==◌, true, List, slice_get, Option, Some, None, IfSome, IsSomeAnd, option_map}
+use Rattle.std.specs.Prelude.{◌≡◌, ℕ, ◌+◌, ◌-◌, ◌*◌, ◌/◌, ◌^◌, ◌<◌, ◌≤◌, ◌==◌, ◌||◌, Bool, true, List, map, filter, slice_get, Option, Some, None, IfSome, IsSomeAnd, option_map}
 use Rattle.std.specs.Option.{option_map_or}
 use Rattle.std.specs.List.{list_any}
 use Rattle.requirement_table.specs.declared.entries.Placed.{Placed}
 use Rattle.requirement_table.specs.Instance.{bytes_of, payload, release_of}
 use Rattle.bit_sets.specs.Sets.{has_bit, most_slots}
 use Rattle.requirement_table.specs.Table.{instance_in, IsWellPlaced}
-use Rattle.node_model.specs.Node.{IsNode, NodeState, Opened, is_due, node_offer}
+use Rattle.node_model.specs.Node.{IsNode, NodeState, Opened, is_due, node_offer, with_node}
 use Rattle.node_model.specs.declared.cycle.Open.{Open}
 use Rattle.node_model.specs.declared.ahead.OfferAhead.{OfferAhead}
 use Rattle.node_model.specs.declared.entries.Ready.{Ready}
@@ -17,6 +17,10 @@ use Rattle.node_model.specs.Ahead.{IsAhead}
 abbrev pub opened_of : Open → Opened
 opened_of open_cycle =
     record { cycle = open_cycle.cycle; width = open_cycle.width; mask = open_cycle.mask; heard = open_cycle.heard }
+
+-- what a node keeps of a list: the entries of its own, or with `all` each of them, under its number
+abbrev pub kept_of : Bool → ℕ → List Placed → List Placed
+kept_of all number placed = map (with_node number) (filter (λ p. all || p.entry.node == number) placed)
 
 -- `own` are the slots of these entries
 abbrev pub AreSlotsOf : List Placed → ℕ → Type 0

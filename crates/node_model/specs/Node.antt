@@ -61,6 +61,10 @@ pub record IsNode (node : NodeState) : Type 0 where
 abbrev pub entries_of : ℕ → List Placed → List Placed
 entries_of number placed = filter (λ p. p.entry.node == number) placed
 
+-- an entry as one of a node: the same, with the node's number
+abbrev pub with_node : ℕ → Placed → Placed
+with_node number p = record p { entry = record p.entry { node = number } }
+
 -- the asynchronous identifiers of a node
 abbrev pub identifiers_of : ℕ → List Owner → List ℕ
 identifiers_of number owners = map (λ owner. owner.id) (filter (λ owner. owner.node == number) owners)

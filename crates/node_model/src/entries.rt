@@ -7,12 +7,13 @@ ghost use Rattle.profile.specs.Limits.{cycles_end};
 ghost use Rattle.bit_sets.specs.Sets.{has_bit, most_slots};
 ghost use Rattle.requirement_table.specs.Instance.{instance_of, latest, release_of};
 ghost use Rattle.requirement_table.specs.Table.{IsInRange, IsWellPlaced, instance_in, not_over};
-ghost use Rattle.node_model.specs.Node.{entries_of, identifiers_of};
-ghost use Rattle.node_model.specs.Kept.{AreReady, AreSendableIn, AreSlotsOf, HaveInstances, IsSendableIn, IsSlotReady, ready_of};
+ghost use Rattle.node_model.specs.Node.{identifiers_of, with_node};
+ghost use Rattle.node_model.specs.Kept.{AreReady, AreSendableIn, AreSlotsOf, HaveInstances, IsSendableIn, IsSlotReady};
+ghost use Rattle.node_model.specs.Kept.{kept_of, ready_of};
 
 use async_window::Owner;
 use bit_sets::{least_slot, without_least};
-use requirement_table::{MOST_SLOTS, Mask, Placed, drop_over, first_over, is_over_in_range};
+use requirement_table::{Entry, MOST_SLOTS, Mask, Placed, drop_over, first_over, is_over_in_range};
 use std::alloc::{AllocError, Global};
 
 /// The identifiers that `owners` gives to a node.
@@ -28,11 +29,12 @@ pub fn identifiers_of(alloc: Global, number: u8, owners: &[Owner]) -> Result<Vec
     Ok(ids)
 }
 
-/// Replaces a node's entries by those of a list that are its own, without memory. The answer is the set of their slots.
-pub fn keep_own(number: u8, placed: &[Placed], entries: &mut Vec<Placed>) -> Mask
+/// Replaces a node's entries by those of a list that are its own, without memory. With `all` it keeps each one, under
+/// its number. The answer is the set of their slots.
+pub fn keep_own(number: u8, all: bool, placed: &[Placed], entries: &mut Vec<Placed>) -> Mask
     requires well_placed { IsWellPlaced placed.now }
     requires room { length placed.now ≤ vec_capacity entries.old }
-    ensures own { entries.new.items ≡ entries_of number placed.now }
+    ensures own { entries.new.items ≡ kept_of all number placed.now }
     ensures slots { AreSlotsOf entries.new.items result }
     ensures well_placed { IsWellPlaced entries.new.items }
     ensures few { length entries.new.items ≤ length placed.now }
@@ -41,12 +43,24 @@ pub fn keep_own(number: u8, placed: &[Placed], entries: &mut Vec<Placed>) -> Mas
     entries.clear();
     let mut slots = Mask::empty();
     for p in placed {
-        if p.entry.node == number {
+        if all || p.entry.node == number {
             slots = slots.with(p.entry.slot);
-            entries.push_reserved(*p);
+            entries.push_reserved(with_node(number, p));
         }
     }
     slots
+}
+
+/// The same entry, with a node's number.
+#[inline(always)]
+fn with_node(number: u8, p: &Placed) -> Placed
+    ensures entry { result ≡ with_node number p.now }
+{
+    let entry = Entry {
+        node: number,
+        ..p.entry
+    };
+    Placed { entry, ..*p }
 }
 
 /// What is known of the instances of a slot: one of them, and those that its entry releases after it.

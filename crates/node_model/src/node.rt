@@ -2,18 +2,18 @@
 
 ghost use Rattle.std.specs.Prelude.{◌≡◌, ◌≢◌, ◌↔◌, ℕ, ◌+◌, ◌-◌, ◌*◌, ◌/◌, ◌%◌, ◌^◌, ◌<◌, ◌≤◌, min};
 ghost use Rattle.std.specs.Prelude.{All, AllPairs, IfOk, IfSome};
-ghost use Rattle.std.specs.Prelude.{IsSome, MatchOption, OnErr, OnOk, Some, None, false, true, length, option_map};
+ghost use Rattle.std.specs.Prelude.{IsSome, MatchOption, OnErr, OnOk, Some, None, false, true, length, map, option_map};
 ghost use Rattle.profile.specs.Limits.{arrivals_end, cycles_end, first_identifier, least_asynchronous, times_end};
 ghost use Rattle.bit_sets.specs.Sets.{most_slots};
 ghost use Rattle.requirement_table.specs.Table.{IsWellPlaced};
 ghost use Rattle.async_window.specs.Mailbox.{IsNextInCycle, left};
 ghost use Rattle.async_window.specs.Owners.{AreOwners};
 ghost use Rattle.node_model.specs.Node.{IsNextOffer, IsNode, after_hearing, after_request, after_slot, fresh_node};
-ghost use Rattle.node_model.specs.Node.{is_own_slot, learnt, next_trigger, node_frame, node_offer};
+ghost use Rattle.node_model.specs.Node.{is_own_slot, learnt, next_trigger, node_frame, node_offer, with_node};
 ghost use Rattle.trigger_kind.specs.Kind.{opening_identifier};
 ghost use Rattle.node_model.specs.Node.{opened_by, opening_trigger};
 ghost use Rattle.node_model.specs.Ahead.{IsAhead, StaysOffered, next_time};
-ghost use Rattle.node_model.specs.Kept.{IsClosedAt, IsOpenAt};
+ghost use Rattle.node_model.specs.Kept.{IsClosedAt, IsOpenAt, kept_of};
 ghost use Rattle.node_model.specs.Own.{HasRequest, counting};
 
 use crate::ahead::{Next, OfferAhead};
@@ -150,8 +150,29 @@ impl Node {
         ensures learnt { self.new.state ≡ learnt placed.now self.old.state }
         ensures spare { self.old.spare ≤ self.new.spare }
     {
+        self.learn_from(placed, false);
+    }
+
+    /// Replaces the node's entries by all of a list, each with the node's own number, without memory.
+    pub fn learn_all(&mut self, placed: &[Placed])
+        requires well_placed { IsWellPlaced placed.now }
+        requires room { length placed.now ≤ self.old.spare }
+        ensures learnt { self.new.state ≡ learnt (map (with_node self.old.state.number) placed.now) self.old.state }
+        ensures spare { self.old.spare ≤ self.new.spare }
+    {
+        self.learn_from(placed, true);
+    }
+
+    /// Replaces the node's entries by those of its number in a list, or with `all` by each one of it, without memory.
+    fn learn_from(&mut self, placed: &[Placed], all: bool)
+        requires well_placed { IsWellPlaced placed.now }
+        requires room { length placed.now ≤ self.old.spare }
+        ensures learnt { self.new.state
+            ≡ record self.old.state { entries = kept_of all self.old.state.number placed.now } }
+        ensures spare { self.old.spare ≤ self.new.spare }
+    {
         self.ahead = None;
-        self.own = entries::keep_own(self.number, placed, &mut self.entries);
+        self.own = entries::keep_own(self.number, all, placed, &mut self.entries);
         let from = cycle::sends_from(&self.opened, self.next);
         self.remaining.keep(self.entries.as_slice(), from);
         self.opened = cycle::after_learning(
