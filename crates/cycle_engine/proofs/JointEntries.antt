@@ -1,30 +1,30 @@
 -- The entries of the joint node are those of a list with number 0: they have the same instances, and slots.
-use Rattle.std.proofs.Common.{◌≡◌, ℕ, ◌+◌, ◌<◌, ◌≤◌, ◌||◌, ◌==◌, Bool, true, false, cond, List, [], ◌∷◌, map, get_or, All, Option, None, Some, refl, ap, ◌∙◌, arith}
+use Rattle.std.proofs.Common.{◌≡◌, ℕ, ◌+◌, ◌<◌, ◌≤◌, ◌||◌, ◌==◌, Bool, true, false, cond, List, [], ◌∷◌, map, All, Option, None, Some, refl, ap, ◌∙◌, arith}
 use Rattle.std.specs.List.{cons_option, filter_map, slice_get}
 use Rattle.std.specs.Option.{option_map}
 use Rattle.std.proofs.lemmas.Bool.{eqb-true}
-use Rattle.std.proofs.lemmas.List.Elements.{All-contains, All-map}
+use Rattle.std.proofs.lemmas.List.Elements.{All-contains}
 use Rattle.std.proofs.lemmas.List.Folds.{Any-from_list_any}
 use Rattle.profile.specs.Limits.{first_identifier}
 use Rattle.requirement_table.specs.declared.entries.Placed.{Placed}
 use Rattle.requirement_table.specs.Instance.{Instance, instance_of}
-use Rattle.requirement_table.specs.Table.{GoesBefore, IsInRange, IsWellPlaced, instance_in, sendable}
-use Rattle.node_model.specs.Node.{entries_of, is_own_slot}
-use Rattle.cycle_engine.specs.Joint.{joint_entries, joint_entry}
-use Rattle.cycle_engine.proofs.Lists.{AllPairs-map}
+use Rattle.requirement_table.specs.Table.{IsInRange, IsWellPlaced, instance_in, sendable}
+use Rattle.node_model.specs.Node.{entries_of, is_own_slot, with_node}
+use Rattle.node_model.proofs.Shared.{with_node-own, with_node-well_placed}
+use Rattle.cycle_engine.specs.Joint.{joint_entries}
 
 -- an instance of an entry of the joint node
 abbrev pub joint_instance : Instance → Instance
-joint_instance i = record i { placed = joint_entry i.placed }
+joint_instance i = record i { placed = with_node 0 i.placed }
 
 one-sends : (p : Placed) (b : Bool) (o : Option ℕ)
-    → cond b (option_map (λ k. record { placed = joint_entry p; number = k }) o) None
+    → cond b (option_map (λ k. record { placed = with_node 0 p; number = k }) o) None
     ≡ option_map joint_instance (cond b (option_map (λ k. record { placed = p; number = k }) o) None)
 one-sends p true None = refl
 one-sends p true (Some k) = refl
 one-sends p false o = refl
 
-sendable-joint : (slot c : ℕ) (p : Placed) → sendable slot c (joint_entry p) ≡ option_map joint_instance (sendable slot c p)
+sendable-joint : (slot c : ℕ) (p : Placed) → sendable slot c (with_node 0 p) ≡ option_map joint_instance (sendable slot c p)
 sendable-joint slot c p = one-sends p (p.entry.slot == slot) (instance_of p c)
 
 cons-map : (o : Option Instance) (is : List Instance)
@@ -49,29 +49,11 @@ instance_in-joint placed slot c = ap (λ is. slice_get is 0) (all-send slot c pl
 
 -- a list that is well placed is so too with number 0
 pub joint-well_placed : (placed : List Placed) → IsWellPlaced placed → IsWellPlaced (joint_entries placed)
-joint-well_placed placed well = record {
-  in_range = All-map IsInRange joint_entry placed (λ k d within.
-      let is : IsInRange (get_or placed k d) = well.in_range k d within in
-      record {
-        entry = record {
-          slot = is.entry.slot;
-          length = is.entry.length;
-          phase = is.entry.phase;
-          period = is.entry.period;
-          priority = is.entry.priority;
-          some_time = is.entry.some_time;
-          deadline = is.entry.deadline;
-        };
-        origin = is.origin;
-        end = is.end;
-      });
-  in_order = AllPairs-map GoesBefore joint_entry placed (λ i j d before within. well.in_order i j d before within);
-}
+joint-well_placed placed well = with_node-well_placed 0 placed well
 
 -- all of them are those of number 0
 pub joint-own : (placed : List Placed) → joint_entries placed ≡ entries_of 0 (joint_entries placed)
-joint-own [] = refl
-joint-own (p ∷ ps) = ap (λ all. joint_entry p ∷ all) (joint-own ps)
+joint-own placed = with_node-own 0 placed
 
 -- they have the slots of the list
 pub slots-joint : (placed : List Placed) (id : ℕ) → is_own_slot (joint_entries placed) id ≡ is_own_slot placed id

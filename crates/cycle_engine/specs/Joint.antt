@@ -13,14 +13,11 @@ use Rattle.trigger_codec.specs.Bytes.{triggers_with}
 use Rattle.async_window.specs.declared.request.Owner.{Owner}
 use Rattle.async_window.specs.Owners.{AreOwners}
 use Rattle.async_window.specs.Sorted.{mail_of}
-use Rattle.node_model.specs.Node.{NodeState, NodeView, Opened, entries_of, identifiers_of, is_own_slot}
+use Rattle.node_model.specs.Node.{NodeState, NodeView, Opened, entries_of, identifiers_of, is_own_slot, with_node}
 
--- the joint node has number 0: the same entry, owner and list as its own
-abbrev pub joint_entry : Placed → Placed
-joint_entry p = record p { entry = record p.entry { node = 0 } }
-
+-- the joint node has number 0: the entries of a list and the owners as its own
 abbrev pub joint_entries : List Placed → List Placed
-joint_entries placed = map joint_entry placed
+joint_entries placed = map (with_node 0) placed
 
 abbrev pub joint_owner : Owner → Owner
 joint_owner owner = record owner { node = 0 }

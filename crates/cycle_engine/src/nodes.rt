@@ -13,7 +13,7 @@ ghost use Rattle.async_window.specs.declared.request.Request.{Request};
 ghost use Rattle.async_window.specs.Owners.{AreOwners};
 ghost use Rattle.bus_line.specs.Trace.{Follows};
 ghost use Rattle.node_model.specs.Node.{fresh_node};
-ghost use Rattle.cycle_engine.specs.Joint.{joint_entries, joint_entry, joint_owners, known_by};
+ghost use Rattle.cycle_engine.specs.Joint.{joint_entries, joint_owners, known_by};
 ghost use Rattle.cycle_engine.specs.Nodes.{CanLearn, HaveSpare, IsBefore, IsBus, IsNumber, KeepSpare, heard_by};
 ghost use Rattle.cycle_engine.specs.Nodes.{learnt_by, left_in, opening_of, states_of};
 ghost use Rattle.cycle_engine.specs.Offered.{offered_in};
@@ -28,7 +28,7 @@ use can_frame::TimedFrame;
 use cycle_layout::Layout;
 use node_model::Node;
 use node_model::laws::{sends_its_slots, stays_a_node};
-use requirement_table::{Entry, Order, Placed, PlacedList};
+use requirement_table::{Order, Placed, PlacedList};
 use std::alloc::{AllocError, Global};
 use std::marker::Model;
 
@@ -47,8 +47,6 @@ pub struct Nodes {
     owners: Vec<Owner>,
     /// The list that the nodes learnt.
     placed: Vec<Placed>,
-    /// The same list as that of the joint node.
-    joint: Vec<Placed>,
 }
 
 impl Model for Nodes {
@@ -61,7 +59,7 @@ impl Model for Nodes {
     ghost view = { λ n. record {
       layout = n.stations.layout;
       nodes = parts_of n.owners.items n.placed.items
-          (min n.stations.node.spare (min (vec_capacity n.placed) (vec_capacity n.joint))) n.count n.stations.node.state;
+          (min n.stations.node.spare (vec_capacity n.placed)) n.count n.stations.node.state;
     } };
 
     ghost invariant = { λ n. IsJoint n.owners.items n.placed.items n.count n.stations.node.state };
@@ -102,7 +100,6 @@ impl Nodes {
             count: nodes,
             owners: kept,
             placed: Vec::new(alloc),
-            joint: Vec::new(alloc),
         })
     }
 
@@ -136,8 +133,6 @@ impl Nodes {
     {
         let additional = entries.saturating_sub(self.placed.len());
         self.placed.reserve(additional)?;
-        let additional = entries.saturating_sub(self.joint.len());
-        self.joint.reserve(additional)?;
         self.stations.reserve(alloc, entries)
     }
 
@@ -194,12 +189,7 @@ impl Nodes {
         same_along::<OneCycle, OneCycle>();
         self.stations.are_known();
         self.stations.layout().is_in_range();
-        learn(
-            &order.learned,
-            &mut self.placed,
-            &mut self.joint,
-            &mut self.stations,
-        );
+        learn(&order.learned, &mut self.placed, &mut self.stations);
         joint::run_cycle(order, &mut self.stations, frames);
     }
 }
@@ -215,53 +205,33 @@ fn joint_owners(alloc: Global, owners: &[Owner]) -> Result<Vec<Owner>, AllocErro
     Ok(joint)
 }
 
-/// Replaces a list by another one, and that of the joint node by the same with number 0, without memory.
-fn copy(list: &[Placed], placed: &mut Vec<Placed>, joint: &mut Vec<Placed>)
+/// Replaces a list by another one, without memory.
+fn copy(list: &[Placed], placed: &mut Vec<Placed>)
     requires room { length list.now ≤ vec_capacity placed.old }
-    requires joint_room { length list.now ≤ vec_capacity joint.old }
     ensures placed { placed.new.items ≡ list.now }
-    ensures joint { joint.new.items ≡ joint_entries list.now }
     ensures capacity { vec_capacity placed.old ≤ vec_capacity placed.new }
-    ensures joint_capacity { vec_capacity joint.old ≤ vec_capacity joint.new }
 {
     placed.clear();
-    joint.clear();
     for p in list {
         placed.push_reserved(*p);
-        joint.push_reserved(joint_entry(p));
     }
 }
 
-/// The same entry, with number 0.
-fn joint_entry(p: &Placed) -> Placed
-    ensures entry { result ≡ joint_entry p.now }
-{
-    let entry = Entry { node: 0, ..p.entry };
-    Placed { entry, ..*p }
-}
-
 /// Hands a list to the joint node, where there is one, without memory.
-fn learn(
-    learned: &Option<PlacedList>,
-    placed: &mut Vec<Placed>,
-    joint: &mut Vec<Placed>,
-    stations: &mut NodeStations,
-)
+fn learn(learned: &Option<PlacedList>, placed: &mut Vec<Placed>, stations: &mut NodeStations)
     requires number { stations.old.node.state.number ≡ 0 }
     requires entries { stations.old.node.state.entries ≡ joint_entries placed.old.items }
     requires well_placed { IfSome learned.now IsWellPlaced }
     requires room { IfSome learned.now (λ list. length list ≤ vec_capacity placed.old) }
-    requires joint_room { IfSome learned.now (λ list. length list ≤ vec_capacity joint.old) }
     requires spare { IfSome learned.now (λ list. length list ≤ stations.old.node.spare) }
     ensures placed { placed.new.items ≡ known_by learned.now placed.old.items }
     ensures layout { stations.new.layout ≡ stations.old.layout }
     ensures learnt { stations.new.node.state ≡ record stations.old.node.state { entries = joint_entries placed.new.items } }
     ensures capacity { vec_capacity placed.old ≤ vec_capacity placed.new }
-    ensures joint_capacity { vec_capacity joint.old ≤ vec_capacity joint.new }
     ensures spare { stations.old.node.spare ≤ stations.new.node.spare }
 {
     if let Some(list) = learned {
-        copy(list.as_slice(), placed, joint);
-        stations.learn(joint.as_slice());
+        copy(list.as_slice(), placed);
+        stations.learn(placed.as_slice());
     }
 }

@@ -1,11 +1,11 @@
 //! The joint node of a bus as the station on it, and with it the master, which offers the trigger frames of a cycle.
 
 ghost use Rattle.std.specs.Prelude.{◌≡◌, ◌+◌, ◌-◌, ◌/◌, ◌<◌, ◌≤◌, ◌++◌, [], ◌∷◌};
-ghost use Rattle.std.specs.Prelude.{Contains, OnOk, length, vec_capacity};
+ghost use Rattle.std.specs.Prelude.{Contains, OnOk, length, map, vec_capacity};
 ghost use Rattle.std.specs.List.{cons_option};
 ghost use Rattle.profile.specs.Limits.{cycles_end, shortest_frame, times_end};
 ghost use Rattle.requirement_table.specs.Table.{IsWellPlaced};
-ghost use Rattle.node_model.specs.Node.{learnt};
+ghost use Rattle.node_model.specs.Node.{learnt, with_node};
 ghost use Rattle.node_model.specs.Window.{IsInWindow};
 ghost use Rattle.async_window.specs.Mailbox.{left};
 ghost use Rattle.arbitration.specs.Arbitration.{AreDistinct};
@@ -105,15 +105,16 @@ impl NodeStations {
         self.node.reserve(alloc, entries)
     }
 
-    /// Hands a list to the node.
+    /// Hands a list to the node, which takes each entry as its own.
     pub fn learn(&mut self, placed: &[Placed])
         requires well_placed { IsWellPlaced placed.now }
         requires room { length placed.now ≤ self.old.node.spare }
         ensures layout { self.new.layout ≡ self.old.layout }
-        ensures learnt { self.new.node.state ≡ learnt placed.now self.old.node.state }
+        ensures learnt { self.new.node.state
+            ≡ learnt (map (with_node self.old.node.state.number) placed.now) self.old.node.state }
         ensures spare { self.old.node.spare ≤ self.new.node.spare }
     {
-        self.node.learn_in(placed);
+        self.node.learn_all(placed);
     }
 
     /// Makes trigger frames the next ones, from a time on: one, and another one behind it, where there are two.

@@ -28,7 +28,7 @@ returns c =
     let joint : c.new-2.result.node.state ≡ fresh_node layout (joint_owners owners) requests 0 =
     ap (λ (v : StationsView). v.node.state) c.new-2.ensures.stations ∙ c.in_ok-node.ensures.fresh
     ∙ ap (λ os. fresh_node layout os requests 0) (c.as_slice.ensures.value ∙ c.in_ok-joint.ensures.owners) in
-    let spare = min c.new-2.result.node.spare (min (vec_capacity c.new-3.result) (vec_capacity c.new-4.result)) in
+    let spare = min c.new-2.result.node.spare (vec_capacity c.new-3.result) in
     let nodes : List NodeState = states_of (parts_of c.in_ok-kept.kept.items c.new-3.result.items spare count c.new-2.result.node.state) in
     let long = made-count c.in_ok-kept.kept.items c.new-3.result.items spare count c.new-2.result.node.state in
     let each = made-each owners requests (λ ids id. c.unsent_laws.ensures.among ids requests [] id) layout spare count c.in_ok-kept.kept.items c.new-3.result.items

@@ -17,7 +17,7 @@ pub learn-requires : goal.learn-requires
 learn-requires c =
     let inside = c.self.inside in
     let learned = c.args.order.now.learned in
-    let spare = min inside.stations.node.spare (min (vec_capacity inside.placed) (vec_capacity inside.joint)) in
+    let spare = min inside.stations.node.spare (vec_capacity inside.placed) in
     let short = can-learn inside.owners.items inside.placed.items spare inside.count inside.stations.node.state learned c.self.invariant.some
     (subst (λ (v : NodesView). CanLearn learned v.nodes) (sym c.self.view_is) c.requires.spare) in
     record {
@@ -25,7 +25,6 @@ learn-requires c =
       entries = c.self.invariant.entries;
       well_placed = c.requires.learned;
       room = shorter learned spare (vec_capacity inside.placed) (omega arith) short;
-      joint_room = shorter learned spare (vec_capacity inside.joint) (omega arith) short;
       spare = shorter learned spare inside.stations.node.spare (omega arith) short;
     }
 
@@ -33,7 +32,7 @@ pub run_cycle-requires : goal.run_cycle-requires
 run_cycle-requires c =
     let inside = c.self.inside in
     let order = c.args.order.now in
-    let spare = min inside.stations.node.spare (min (vec_capacity inside.placed) (vec_capacity inside.joint)) in
+    let spare = min inside.stations.node.spare (vec_capacity inside.placed) in
     let layout : c.learn.new.stations.layout ≡ c.args.self.now.layout = c.learn.ensures.layout ∙ ap (λ v. v.layout) c.self.view_is in
     let next = part-next inside.owners.items inside.placed.items spare inside.count inside.stations.node.state order.cycle c.self.invariant.some
     (subst (λ (v : NodesView). All (λ node. node.next ≡ order.cycle) (states_of v.nodes)) (sym c.self.view_is) c.requires.next) in
@@ -54,12 +53,12 @@ returns c =
     let placed = inside.placed.items in
     let count = inside.count in
     let joint : NodeState = inside.stations.node.state in
-    let spare = min inside.stations.node.spare (min (vec_capacity inside.placed) (vec_capacity inside.joint)) in
+    let spare = min inside.stations.node.spare (vec_capacity inside.placed) in
     let known = c.learn.new.placed.items in
     let learnt : NodeState = c.learn.new.stations.node.state in
     let after : NodeState = c.run_cycle.new.stations.node.state in
     let frames = c.run_cycle.new.frames.items in
-    let more = min c.run_cycle.new.stations.node.spare (min (vec_capacity c.learn.new.placed) (vec_capacity c.learn.new.joint)) in
+    let more = min c.run_cycle.new.stations.node.spare (vec_capacity c.learn.new.placed) in
     let numbers = range_with_len 0 count in
     let layout = c.args.self.now.layout in
     let same : inside.stations.layout ≡ layout = ap (λ (v : NodesView). v.layout) c.self.view_is in
@@ -91,7 +90,7 @@ returns c =
       next = parts-next owners known more count after (order.cycle + 1) c.run_cycle.ensures.next;
       spare = subst (λ (v : NodesView). KeepSpare v.nodes (parts_of owners known more count after)) c.self.view_is
           (keep-spare owners placed known spare more count joint after c.self.invariant.some
-          (omega (arith, c.learn.ensures.spare, c.learn.ensures.capacity, c.learn.ensures.joint_capacity, c.run_cycle.ensures.spare)));
+          (omega (arith, c.learn.ensures.spare, c.learn.ensures.capacity, c.run_cycle.ensures.spare)));
       capacity = c.run_cycle.ensures.capacity;
       few = subst (λ (l : CycleLayout). length frames ≤ l.cycle / shortest_frame + 1) learnt_layout c.run_cycle.ensures.few;
       runs = λ whose requests others past is_before.
