@@ -11,10 +11,9 @@ use Rattle.ftt_io.specs.Puts.{Puts, PutsPrefix}
 use Rattle.ftt_io.proofs.Shared.{Puts-append, PutsPrefix-append, PutsPrefix-longer}
 use Rattle.can_frame.specs.declared.data_frame.TimedFrame.{TimedFrame}
 use Rattle.bus_trace.specs.Log.{hex_digits}
-use Rattle.bus_trace.specs.LogRows.{plan_told}
 use Rattle.log_reader.specs.Row.{IsLogRow, row_text, text_of_rows}
 use Rattle.log_reader.specs.declared.row.LogRow.{LogRow}
-use Rattle.log_reader.specs.declared.row.LogRow.TheVariants.{Frame, Plan}
+use Rattle.log_reader.specs.declared.row.LogRow.TheVariants.{Frame}
 use Rattle.log_reader.proofs.Shared.{frame-text}
 
 -- the rows from a place on begin with the row at the place
@@ -25,17 +24,6 @@ frame_rows-at frames place d sent within is =
     ap (λ l. text_of_rows (map Frame l)) (drop-cons frames place d within)
     ∙ ap (λ s. row_text (Frame s) ++ text_of_rows (map Frame (drop (suc place) frames))) is
     ∙ ap (λ n. row_text (Frame sent) ++ text_of_rows (map Frame (drop n frames))) (sym next)
-
-pub plan_rows-at : (from : ℕ) (masks : List ℕ) (place d mask : ℕ) → place < length masks → get_or masks place d ≡ mask
-    → text_of_rows (plan_told (from + place) (drop place masks))
-    ≡ row_text (Plan (from + place) mask) ++ text_of_rows (plan_told (from + (place + 1)) (drop (place + 1) masks))
-plan_rows-at from masks place d mask within is =
-    let next : place + 1 ≡ suc place = omega arith in
-    let later : from + place + 1 ≡ from + (place + 1) = omega arith in
-    ap (λ l. text_of_rows (plan_told (from + place) l)) (drop-cons masks place d within)
-    ∙ ap (λ m. row_text (Plan (from + place) m) ++ text_of_rows (plan_told (from + place + 1) (drop (suc place) masks))) is
-    ∙ ap (λ n. row_text (Plan (from + place) mask) ++ text_of_rows (plan_told n (drop (suc place) masks))) later
-    ∙ ap (λ n. row_text (Plan (from + place) mask) ++ text_of_rows (plan_told (from + (place + 1)) (drop n masks))) (sym next)
 
 -- with the frame at a place the rows from it on are in range
 pub frames_told-at : (frames : List TimedFrame) (place : ℕ) (d sent : TimedFrame) → place < length frames → get_or frames place d ≡ sent

@@ -7,7 +7,7 @@ ghost use Rattle.std.specs.List.{flat_map};
 ghost use Rattle.can_frame.specs.DataFrame.{IsFrame};
 ghost use Rattle.text_fields.specs.Hexadecimal.{hex_digits};
 ghost use Rattle.bus_trace.specs.Log.{end_row, last_field, verdict_fields};
-ghost use Rattle.bus_trace.specs.LogRows.{open_told, until_of, verdict_told};
+ghost use Rattle.bus_trace.specs.LogRows.{open_told, plan_told, until_of, verdict_told};
 ghost use Rattle.log_reader.specs.Row.{IsLogRow, IsLogVerdict, row_text, text_of_rows};
 ghost use Rattle.log_reader.specs.declared.row.LogRow.TheVariants.{Submit, Plan, Look, Open, Frame, End};
 
@@ -24,7 +24,10 @@ use text_fields::{
 /// The most frames whose rows are made together.
 pub const FRAMES_TOGETHER: usize = 16;
 
-/// The room for the rows that are made together, in bytes: one of a cycle, and those of frames.
+/// The most rows of a plan that are made together.
+pub const PLANS_TOGETHER: usize = 16;
+
+/// The room for the rows that are made together, in bytes: those of a plan, or one of a cycle and those of frames.
 pub const ROWS_ROOM: usize = 1024;
 
 /// The cycle that the reason of a refusal names, where it names one.
@@ -105,16 +108,35 @@ pub fn submit_row<'a>(row: &'a mut [u8; ROOM], caller: u8, from: u64, verdict: &
     row_from(row, start)
 }
 
-/// Makes the row of a cycle that was planned and not opened, with the slots that are flagged in it.
-pub fn plan_row<'a>(row: &'a mut [u8; ROOM], cycle: u64, mask: Mask) -> &'a [u8]
-    ensures row { result.now ≡ row_text (Plan cycle mask) }
+/// Puts the row of a cycle that was planned and not opened, with the slots that are flagged in it.
+#[inline(always)]
+fn put_plan(rows: &mut [u8; ROWS_ROOM], end: usize, cycle: u64, mask: Mask) -> usize
+    requires room { 51 ≤ end }
+    requires within { end ≤ 1024 }
+    ensures start { result ≤ end }
+    ensures few { end ≤ result + 51 }
+    ensures row { drop result rows.new ≡ row_text (Plan cycle mask) ++ drop end rows.old }
     ensures in_range { IsLogRow (Plan cycle mask) }
 {
-    let start = put_line_feed(row);
-    let start = put_mask(row, start, mask.bits());
-    let start = put_byte(row, start, b',');
-    let start = put_first(row, start, b"plan,", cycle);
-    row_from(row, start)
+    let place = put_byte(rows, end, b'\n');
+    let place = put_mask(rows, place, mask.bits());
+    let place = put_byte(rows, place, b',');
+    let place = put_decimal(rows, place, cycle);
+    put_word(rows, place, b"plan,")
+}
+
+/// Makes the rows of a plan, one for each cycle from `from` on: from that of the last cycle to that of the first one.
+pub fn plan_rows<'a>(rows: &'a mut [u8; ROWS_ROOM], from: u64, masks: &[Mask]) -> &'a [u8]
+    requires few { length masks.now ≤ 16 }
+    requires from { from + length masks.now ≤ 2 ^ 64 }
+    ensures rows { result.now ≡ text_of_rows (plan_told from masks.now) }
+    ensures in_range { All IsLogRow (plan_told from masks.now) }
+{
+    let mut place = ROWS_ROOM;
+    for number in (0..masks.len()).rev() {
+        place = put_plan(rows, place, from + number as u64, masks[number]);
+    }
+    row_from(rows, place)
 }
 
 /// Makes the row of a look of operator `caller`, with the cycle that was to be opened next.

@@ -14,8 +14,8 @@ ghost use Rattle.log_reader.specs.declared.row.LogRow.TheVariants.{Frame as Fram
 
 use crate::gathering::Gathered;
 use crate::rows::{
-    FRAMES_TOGETHER, ROWS_ROOM, digits_for, end_row, frame_rows, lone_rows, look_row, open_told,
-    opened_rows, plan_row, submit_row,
+    FRAMES_TOGETHER, PLANS_TOGETHER, ROWS_ROOM, digits_for, end_row, frame_rows, lone_rows,
+    look_row, open_told, opened_rows, plan_rows, submit_row,
 };
 use can_frame::{Frame, TimedFrame};
 use ftt_io::{Failed, Sink, write_all};
@@ -79,7 +79,7 @@ pub fn event_rows(
     }
 }
 
-/// Puts the rows of a plan, one for each cycle from `from` on, below 2^63.
+/// Puts the rows of a plan, one for each cycle from `from` on, below 2^63, up to 16 by a call.
 fn put_plan_rows<O: Sink>(out: &mut O, from: u64, masks: &[Mask]) -> Result<(), Failed>
     requires from { from < 2 ^ 63 }
     ensures faults_never_fall { O.faults out.old ≤ O.faults out.new }
@@ -89,9 +89,14 @@ fn put_plan_rows<O: Sink>(out: &mut O, from: u64, masks: &[Mask]) -> Result<(), 
         (PutsPrefix (O.told_bytes out.old) (O.told_bytes out.new) (text_of_rows (plan_told from masks.now))) }
     ensures in_range { OnOk result (All IsLogRow (plan_told from masks.now)) }
 {
-    let mut row = [0; ROOM];
-    for (number, mask) in masks.iter().enumerate() {
-        write_all(out, plan_row(&mut row, from + number as u64, *mask))?;
+    let mut rows = [0; ROWS_ROOM];
+    let mut first = from;
+    let mut left = masks;
+    while !left.is_empty() {
+        let (some, later) = left.split_at(left.len().min(PLANS_TOGETHER));
+        write_all(out, plan_rows(&mut rows, first, some))?;
+        first += some.len() as u64;
+        left = later;
     }
     Ok(())
 }
