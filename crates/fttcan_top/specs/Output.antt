@@ -18,8 +18,9 @@ use Rattle.replay_run.specs.AskedTable.{table_of}
 use Rattle.replay_run.specs.Begun.{IsRunBegun}
 use Rattle.replay_run.specs.Run.{AnswersSteps, IsRun}
 use Rattle.live_steps.specs.Live.{IsLive}
-use Rattle.poll_run.specs.PolledRun.{IsPolledBegun, IsPolledRun}
+use Rattle.poll_run.specs.PolledRun.{IsPolledRun}
 use Rattle.poll_run.specs.RequestRows.{IsPolledText}
+use Rattle.poll_run.specs.Whole.{IsPolledRunBegun}
 use Rattle.sporadic_poll.specs.declared.stream.Stream.{Stream}
 use Rattle.async_window.specs.declared.request.Owner.{Owner}
 use Rattle.async_window.specs.declared.request.Request.{Request}
@@ -147,29 +148,23 @@ pub record TellsFront (asked_for : Asked) (old new : Option (List ℕ)) : Type 0
   pub output : IsOutput asked_for status text
   pub puts : PutsPrefix old new text
 
--- a run was cut short: it had answered the first calls of its steps, and what was put are the first bytes of its rows,
--- and the first bytes of the output of every run of all the calls
-pub record TellsBegun (job : Job) (report : Bool) (old new : Option (List ℕ)) : Type 0 where
+-- a run was cut short. `Begun` says that a history and a trace are those of a run of the first calls of its steps.
+-- `IsText` says that a text is the output of a run of all calls. The run had answered the first calls. What was put are
+-- the first bytes of its rows, and the first bytes of the output of every run of all calls
+pub record TellsBegun (Begun : List Event → List TimedFrame → Type 0) (IsText : Status → List ℕ → Type 0)
+    (old new : Option (List ℕ)) : Type 0 where
   pub history : List Event
   pub trace : List TimedFrame
-  pub begun : IsRunBegun job.system job.steps job.requests history trace
+  pub begun : Begun history trace
   pub puts : PutsPrefix old new (events_rows trace [] history)
-  pub front : (status : Status) (text : List ℕ) → IsOutput (log_of job None report) status text
-      → PutsPrefix old new text
+  pub front : (status : Status) (text : List ℕ) → IsText status text → PutsPrefix old new text
 
--- the same of a polled run that was cut short
-pub record TellsPollBegun (job : Job) (streams : List Stream) (old new : Option (List ℕ)) : Type 0 where
-  pub history : List Event
-  pub carried : ℕ → ℕ → Option ℕ
-  pub trace : List TimedFrame
-  pub begun : IsPolledBegun job.system job.steps streams history carried trace
-  pub puts : PutsPrefix old new (events_rows trace [] history)
-  pub front : (status : Status) (text : List ℕ) → IsOutput (poll_of job streams) status text → PutsPrefix old new text
-
--- this may be so of a whole log alone, which is written while the run goes on
+-- this may be so of a whole log alone, or of that of a polled run, which are written while the run goes on
 abbrev pub IsCutWhileRun : Asked → Option (List ℕ) → Option (List ℕ) → Type 0
-IsCutWhileRun (log_of job None report) old new = TellsBegun job report old new
-IsCutWhileRun (poll_of job streams) old new = TellsPollBegun job streams old new
+IsCutWhileRun (log_of job None report) old new =
+    TellsBegun (IsRunBegun job.system job.steps job.requests) (IsLog job None report) old new
+IsCutWhileRun (poll_of job streams) old new =
+    TellsBegun (IsPolledRunBegun job.system job.steps streams) (IsPollText job streams) old new
 IsCutWhileRun _ old new = ⊥
 
 -- What a status says

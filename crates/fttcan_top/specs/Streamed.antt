@@ -3,7 +3,7 @@ use Rattle.std.specs.Prelude.{ℕ, List, is_some}
 use Rattle.can_frame.specs.declared.TimedFrame.{TimedFrame}
 use Rattle.async_window.specs.declared.request.Owner.{Owner}
 use Rattle.async_window.specs.declared.request.Request.{Request}
-use Rattle.replay_run.specs.Written.{KeepsFrames}
+use Rattle.replay_run.specs.Progress.{KeepsFrames}
 use Rattle.replay_run.specs.declared.replaying.Written.{Written}
 use Rattle.fttcan_top.specs.Output.{report_if}
 

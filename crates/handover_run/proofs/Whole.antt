@@ -6,19 +6,27 @@ use Rattle.steps_file.specs.declared.steps.Step.{Step}
 use Rattle.system_file.specs.declared.system.System.{System}
 use Rattle.kept_run.proofs.Shared.{Promises}
 use Rattle.replay_run.specs.Run.{calls_of, setting_of}
-use Rattle.replay_run.specs.Runs.{IsLogHeard}
+use Rattle.replay_run.specs.Runs.{HasRun}
+use Rattle.replay_run.specs.Whole.{IsHeard, IsLogOf}
 use Rattle.replay_run.proofs.Shared.{run-of}
 use Rattle.handover_run.specs.declared.handed.Handed.{Handed}
 use Rattle.handover_run.specs.Handed.{IsHanded, on-bus}
-use Rattle.handover_run.specs.HandedOver.{IsHeardWhole}
+use Rattle.handover_run.specs.HandedOver.{IsHandedLog}
 
 pub heard-whole : Promises → (system : System) (steps : List Step) (requests : List Request) {L : Type 0} (Heard : L → List ℕ → L → Type 0) (handed : Handed)
-    (told now : L) → IsLogHeard IsHanded Heard (setting_of system requests) (flat_map calls_of steps) handed told now
-    → IsHeardWhole Heard system steps requests handed.quiet told now
-heard-whole laws system steps requests Heard handed told now is = record {
-  history = is.whole;
-  trace = is.trace;
-  run = run-of laws system steps requests is.whole is.trace is.answers (on-bus (setting_of system requests) is.whole is.trace handed is.goes);
-  log = is.log;
-  accepted = is.goes.quiet;
-}
+    (told now : L) → IsHeard Heard (IsLogOf (HasRun IsHanded (setting_of system requests) (flat_map calls_of steps) handed)) told now
+    → IsHeard Heard (IsHandedLog system steps requests handed.quiet) told now
+heard-whole laws system steps requests Heard handed told now heard =
+    let is = heard.is in
+    record {
+      text = heard.text;
+      is = record {
+        history = is.history;
+        trace = is.trace;
+        run = run-of laws system steps requests is.history is.trace is.run.answers
+            (on-bus (setting_of system requests) is.history is.trace handed is.run.keeps);
+        text_is = is.text_is;
+        accepted = is.run.keeps.quiet;
+      };
+      heard = heard.heard;
+    }

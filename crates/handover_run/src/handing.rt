@@ -1,15 +1,15 @@
 //! The run of a steps file whose master is replaced midway, with its log put to a sink.
 
-ghost use Rattle.std.specs.Prelude.{◌≡◌, ◌≤◌, OnErr, IfErr, IfOk, IsErrOf};
+ghost use Rattle.std.specs.Prelude.{◌≤◌, IfErr, IfOk, IsErrOf};
 ghost use Rattle.ftt_io.specs.Counts.{Rose};
 ghost use Rattle.system_file.specs.SystemFile.{IsSystem};
 ghost use Rattle.requests_file.specs.RequestsFile.{AreLegal};
 ghost use Rattle.steps_file.specs.StepsFile.{AreLegalSteps};
 ghost use Rattle.replay_run.specs.Begun.{IsRunBegun};
 ghost use Rattle.replay_run.specs.Run.{IsRun};
-ghost use Rattle.replay_run.specs.Whole.{IsCutOff};
-ghost use Rattle.replay_run.specs.Written.{IsRunCut, IsStopped};
-ghost use Rattle.handover_run.specs.HandedOver.{IsHandedOver, IsHeardWhole};
+ghost use Rattle.replay_run.specs.Whole.{IsCutOff, IsHeard, IsLogOf};
+ghost use Rattle.replay_run.specs.Written.{IsRunCut, IsWritten};
+ghost use Rattle.handover_run.specs.HandedOver.{IsHandedLog};
 
 use crate::handed::Handed;
 use async_window::Request;
@@ -34,9 +34,9 @@ fn log_handed<L: Listener>(
     requires steps { AreLegalSteps steps.now }
     requires requests { AreLegal system.now.owners requests.now }
     ensures heard { IfOk result
-        (λ quiet. IsHeardWhole L.heard system.now steps.now requests.now quiet listener.old listener.new) }
+        (λ quiet. IsHeard L.heard (IsHandedLog system.now steps.now requests.now quiet) listener.old listener.new) }
     ensures cut { IfErr result (IsCutOff L.heard L.broke (IsRunBegun system.now steps.now requests.now)
-        (IsRun system.now steps.now requests.now) listener.old listener.new) }
+        (IsLogOf (IsRun system.now steps.now requests.now)) listener.old listener.new) }
 {
     promise();
     beginning();
@@ -67,12 +67,10 @@ pub fn replay_handed<O: Sink>(
     requires steps { AreLegalSteps steps.now }
     requires requests { AreLegal system.now.owners requests.now }
     ensures faults_never_fall { O.faults out.old ≤ O.faults out.new }
-    ensures written { IfOk result (λ quiet. IsHandedOver system.now steps.now requests.now quiet
+    ensures written { IfOk result (λ quiet. IsWritten (IsHandedLog system.now steps.now requests.now quiet)
         (O.told_bytes out.old) (O.told_bytes out.new)) }
-    ensures cut { OnErr result
-        (IsRunCut system.now steps.now requests.now (O.told_bytes out.old) (O.told_bytes out.new)) }
-    ensures stopped { IsErrOf result Cut.Memory
-        → IsStopped system.now steps.now requests.now (O.told_bytes out.old) (O.told_bytes out.new) }
+    ensures cut { IfErr result (IsRunCut (IsRunBegun system.now steps.now requests.now)
+        (IsLogOf (IsRun system.now steps.now requests.now)) (O.told_bytes out.old) (O.told_bytes out.new)) }
     ensures failed { IsErrOf result Cut.Write → Rose (O.faults out.old) (O.faults out.new) }
 {
     let mut sink = ToSink { out };

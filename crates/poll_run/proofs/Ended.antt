@@ -1,5 +1,5 @@
 -- A polled run whose rows were heard, as a whole.
-use Rattle.std.proofs.Common.{ℕ, List, [], Option, map, refl, sym, ap, ◌∙◌, subst}
+use Rattle.std.proofs.Common.{ℕ, List, [], Option, map, refl, sym, ap, ◌∙◌}
 use Rattle.std.specs.List.{flat_map}
 use Rattle.can_frame.specs.declared.data_frame.TimedFrame.{TimedFrame}
 use Rattle.steps_file.specs.declared.steps.Step.{Step}
@@ -14,14 +14,15 @@ use Rattle.kept_run.specs.Setting.{IsSetting, Setting}
 use Rattle.kept_run.specs.Served.{ForgetsEnds}
 use Rattle.bus_trace.specs.Log.{log_text}
 use Rattle.replay_run.specs.Run.{calls_of, setting_of}
-use Rattle.replay_run.specs.Runs.{AnswersAll, AnswersFirst, IsLogHeard}
+use Rattle.replay_run.specs.Runs.{AnswersAll, AnswersFirst, HasRun}
+use Rattle.replay_run.specs.Whole.{IsHeard, IsLogOf}
 use Rattle.sporadic_poll.specs.declared.fate.Fate.{Fate}
 use Rattle.sporadic_poll.specs.declared.stream.Stream.{Stream}
 use Rattle.sporadic_poll.specs.Rides.{AreFates}
 use Rattle.poll_run.specs.declared.polled.Polled.{Polled}
 use Rattle.poll_run.specs.PolledRun.{IsPolledTrace, polled_setting}
 use Rattle.poll_run.specs.Polling.{IsPolledAt, IsPolledOnBus, PollSetting, SoFar}
-use Rattle.poll_run.specs.Whole.{IsPollHeard, IsPolledRunBegun, IsRunWithFates}
+use Rattle.poll_run.specs.Whole.{IsPollLog, IsPolledRunBegun, IsRunWithFates}
 use Rattle.poll_run.proofs.Bytes.{polled-forgets}
 use Rattle.poll_run.proofs.Carrying.{RideLaws, are-some, known-polled, of-rides, some_rides}
 
@@ -97,20 +98,27 @@ module _ (laws : EndLaws) (system : System) (steps : List Step) (streams : List 
 
   -- and one whose whole log was heard
   pub heard-of : {L : Type 0} (Heard : L → List ℕ → L → Type 0) (polled : Polled) (told now : L)
-      → IsLogHeard IsPolledAt Heard start (flat_map calls_of steps) polled told now → IsPollHeard Heard system steps streams polled told now
-  heard-of Heard polled told now is =
+      → IsHeard Heard (IsLogOf (HasRun IsPolledAt start (flat_map calls_of steps) polled)) told now
+      → IsHeard Heard (IsPollLog system steps streams polled) told now
+  heard-of Heard polled told now heard =
+      let is = heard.is in
+      let at = is.run.keeps in
       let history : List Event = polled.bus.master.history in
-      let polls = is.goes.is_polled in
+      let polls = at.is_polled in
       record {
-        history = history;
-        carried = taken history;
-        trace = is.trace;
-        run = record {
-          answers = ap (map call_of) is.goes.history_is ∙ is.answers;
-          polled = polled-trace history is.trace polls.going.way.known polls.going.plain polls.under_way;
+        text = heard.text;
+        is = record {
+          history = history;
+          carried = taken history;
+          trace = is.trace;
+          run = record {
+            answers = ap (map call_of) at.history_is ∙ is.run.answers;
+            polled = polled-trace history is.trace polls.going.way.known polls.going.plain polls.under_way;
+          };
+          text_is = is.text_is ∙ ap (λ (h : List Event). log_text h is.trace) (sym at.history_is);
+          same_streams = polls.same_streams;
+          fates = fates-of history polled.rides.fates polls.going.plain polls.fates;
+          accepted = polls.quiet;
         };
-        log = subst (λ (h : List Event). Heard told (log_text h is.trace) now) (sym is.goes.history_is) is.log;
-        same_streams = polls.same_streams;
-        fates = fates-of history polled.rides.fates polls.going.plain polls.fates;
-        accepted = polls.quiet;
+        heard = heard.heard;
       }

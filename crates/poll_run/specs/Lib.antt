@@ -1,6 +1,5 @@
 pub mod Delay
 pub mod PolledRun
-pub mod PolledWritten
 pub mod Polling
 pub mod RequestRows
 pub mod Whole

@@ -1,16 +1,16 @@
 //! The run of a steps file in which polled slots carry requests, with its log and the rows of the requests put to a sink.
 
-ghost use Rattle.std.specs.Prelude.{◌≡◌, ◌≤◌, length, OnErr, OnOk, IfErr, IfOk, IsErrOf};
+ghost use Rattle.std.specs.Prelude.{◌≡◌, ◌≤◌, Bool, length, OnErr, OnOk, IfErr, IfOk, IsErrOf};
 ghost use Rattle.ftt_io.specs.Counts.{Rose};
 ghost use Rattle.ftt_io.specs.Puts.{Puts, PutsPrefix};
 ghost use Rattle.system_file.specs.SystemFile.{IsSystem};
 ghost use Rattle.steps_file.specs.StepsFile.{AreLegalSteps};
-ghost use Rattle.replay_run.specs.Whole.{IsCutOff};
+ghost use Rattle.replay_run.specs.Whole.{IsCutOff, IsHeard, IsLogOf};
+ghost use Rattle.replay_run.specs.Written.{IsRunCut, IsWritten};
 ghost use Rattle.replay_run.specs.declared.cut.Cut.TheVariants.{Write};
 ghost use Rattle.sporadic_poll.specs.StreamsFile.{AreLegalStreams};
-ghost use Rattle.poll_run.specs.PolledWritten.{IsPolledCut, IsPolledStopped, IsPolledWritten};
 ghost use Rattle.poll_run.specs.RequestRows.{request_rows};
-ghost use Rattle.poll_run.specs.Whole.{IsPollHeard, IsPolledRunBegun, IsRunWithFates};
+ghost use Rattle.poll_run.specs.Whole.{IsPollLog, IsPollOutput, IsPolledRunBegun, IsRunWithFates};
 
 use crate::polled::Polled;
 use crate::request_rows::put_request_rows;
@@ -37,9 +37,9 @@ fn log_polled<L: Listener>(
     requires steps { AreLegalSteps steps.now }
     requires streams { AreLegalStreams system.now.rules.slots streams.items }
     ensures heard { IfOk result
-        (λ polled. IsPollHeard L.heard system.now steps.now streams.items polled listener.old listener.new) }
+        (λ polled. IsHeard L.heard (IsPollLog system.now steps.now streams.items polled) listener.old listener.new) }
     ensures cut { IfErr result (IsCutOff L.heard L.broke (IsPolledRunBegun system.now steps.now streams.items)
-        (IsRunWithFates system.now steps.now streams.items) listener.old listener.new) }
+        (IsLogOf (IsRunWithFates system.now steps.now streams.items)) listener.old listener.new) }
 {
     promise();
     beginning();
@@ -90,12 +90,11 @@ pub fn replay_polled<O: Sink>(
     requires steps { AreLegalSteps steps.now }
     requires streams { AreLegalStreams system.now.rules.slots streams.items }
     ensures faults_never_fall { O.faults out.old ≤ O.faults out.new }
-    ensures written { IfOk result (λ quiet. IsPolledWritten system.now steps.now streams.items quiet
+    ensures written { IfOk result (λ quiet. IsWritten (IsPollOutput system.now steps.now streams.items quiet)
         (O.told_bytes out.old) (O.told_bytes out.new)) }
-    ensures cut { OnErr result
-        (IsPolledCut system.now steps.now streams.items (O.told_bytes out.old) (O.told_bytes out.new)) }
-    ensures stopped { IsErrOf result Cut.Memory
-        → IsPolledStopped system.now steps.now streams.items (O.told_bytes out.old) (O.told_bytes out.new) }
+    ensures cut { IfErr result (IsRunCut (IsPolledRunBegun system.now steps.now streams.items)
+        (λ text. (quiet : Bool) × IsPollOutput system.now steps.now streams.items quiet text)
+        (O.told_bytes out.old) (O.told_bytes out.new)) }
     ensures failed { IsErrOf result Cut.Write → Rose (O.faults out.old) (O.faults out.new) }
 {
     let mut sink = ToSink { out };

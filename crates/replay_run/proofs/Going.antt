@@ -32,8 +32,7 @@ use Rattle.node_model.specs.Offered.{trigger_frames}
 use Rattle.bus_trace.specs.EventRows.{BeginsCycle, rows_of_event, width_told_in}
 use Rattle.bus_trace.specs.Log.{events_rows, triggers_in}
 use Rattle.replay_run.specs.declared.bus.Bus.{Bus}
-use Rattle.replay_run.specs.Progress.{BeginWithTriggers, CanGo, CanTellLast, GoesStill, IsBroughtOn, IsGoing}
-use Rattle.replay_run.specs.Written.{KeepsFrames}
+use Rattle.replay_run.specs.Progress.{BeginWithTriggers, CanGo, CanTellLast, GoesStill, IsBroughtOn, IsGoing, KeepsFrames}
 use Rattle.replay_run.proofs.EventRows.{called-rows, not-first, opened-rows, triggers-more, width-told}
 
 -- a run whose master has answered a call that opens no cycle goes on

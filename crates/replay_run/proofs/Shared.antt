@@ -24,7 +24,7 @@ use Rattle.system_file.specs.declared.system.System.{System}
 use Rattle.master_core.specs.declared.event.Event.{Event}
 pub use Rattle.replay_run.proofs.Fronts.{cut-at, started-all, started-early, started-within}
 pub use Rattle.replay_run.proofs.Openings.{cycle-at, distinct, openings_of-append, so-many}
-pub use Rattle.replay_run.proofs.Whole.{begun-at_once, begun-of, caused, cut-weaker, not-begun, run-of}
+pub use Rattle.replay_run.proofs.Whole.{begun-at_once, begun-of, caused, cut-as, cut-before_more, cut-weaker, front-at, heard-as, log-weaker, not-begun, run-of}
 
 few_slots : (slots : ℕ) → IsSlots slots → slots ≤ most_slots
 few_slots slots (inl few) = omega (arith, few)

@@ -1,5 +1,5 @@
 -- A run whose rows were heard, as a whole.
-use Rattle.std.proofs.Common.{◌≡◌, ℕ, Bool, Some, Result, Ok, Err, IfErr, IsErrAnd, List, [], ◌++◌, map, refl, sym, ap, ◌∙◌, subst, inl, inr}
+use Rattle.std.proofs.Common.{◌≡◌, ℕ, Bool, Option, Some, Result, Ok, Err, IfErr, IsErrAnd, List, [], ◌++◌, map, refl, sym, ap, ◌∙◌, subst, inl, inr}
 use Rattle.std.specs.List.{concat, flat_map}
 use Rattle.can_frame.specs.declared.data_frame.TimedFrame.{TimedFrame}
 use Rattle.async_window.specs.declared.request.Request.{Request}
@@ -11,14 +11,17 @@ use Rattle.master_core.specs.History.{next_of}
 use Rattle.kept_run.specs.Progress.{IsUnderWay}
 use Rattle.kept_run.specs.Setting.{IsSetting}
 use Rattle.kept_run.proofs.Shared.{Promises, bytes_of-forgets}
+use Rattle.ftt_io.specs.Puts.{PutsPrefix}
+use Rattle.ftt_io.proofs.Shared.{PutsPrefix-all, PutsPrefix-longer}
 use Rattle.bus_trace.specs.LastRows.{AreRows, last_rows}
 use Rattle.bus_trace.specs.Log.{end_row, events_rows, log_text}
 use Rattle.replay_run.specs.Begun.{IsRunBegun}
 use Rattle.replay_run.specs.Heard.{HoldsLast, Keeps, rows_held}
 use Rattle.replay_run.specs.Progress.{BusSetting, IsBusAt, IsKeptOnBus}
 use Rattle.replay_run.specs.Run.{AnswersSteps, IsRun, calls_of, setting_of}
-use Rattle.replay_run.specs.Runs.{GoesOnLogging, AnswersAll, IsCutAfter, AnswersFirst, IsHeardSoFar, IsLogHeard, Start}
-use Rattle.replay_run.specs.Whole.{IsCutOff, IsHeard}
+use Rattle.replay_run.specs.Runs.{AnswersAll, AnswersFirst, GoesOnLogging, HasRun, HeardAt, IsCutAfter, IsHeardSoFar, Start}
+use Rattle.replay_run.specs.Whole.{IsCutOff, IsHeard, IsLogOf}
+use Rattle.replay_run.specs.Written.{IsKeptLog, IsRunCut, Took, TookFront}
 use Rattle.replay_run.specs.declared.bus.Bus.{Bus}
 use Rattle.replay_run.specs.declared.cut.Cut.{Cut}
 use Rattle.replay_run.specs.declared.cut.Cut.TheVariants.{Memory, Write}
@@ -31,20 +34,58 @@ pub caused : {T : Type 0} (result : Result T Cut) (P : Cut → Type 0) (why : Cu
 caused (Ok value) P why is holds = absurd is
 caused (Err cause) P why is holds = subst P (sym is) holds
 
--- what is so of a run of the first calls, and of a whole one, may be said weaker
-pub cut-weaker : {L : Type 0} (Heard Broke : L → List ℕ → L → Type 0) (Begun Run Less Least : List Event → List TimedFrame → Type 0) (old new : L) (why : Cut)
-    → ((history : List Event) (trace : List TimedFrame) → Begun history trace → Less history trace)
-    → ((history : List Event) (trace : List TimedFrame) → Run history trace → Least history trace)
-    → IsCutOff Heard Broke Begun Run old new why → IsCutOff Heard Broke Less Least old new why
-cut-weaker Heard Broke Begun Run Less Least old new why less least (inl is) =
+-- what is so of a run of the first calls, and of the text of a whole one, may be said weaker
+pub cut-weaker : {L : Type 0} (Heard Broke : L → List ℕ → L → Type 0) (Begun Less : List Event → List TimedFrame → Type 0) (IsText Least : List ℕ → Type 0)
+    (old new : L) (why : Cut) → ((history : List Event) (trace : List TimedFrame) → Begun history trace → Less history trace)
+    → ((text : List ℕ) → IsText text → Least text) → IsCutOff Heard Broke Begun IsText old new why → IsCutOff Heard Broke Less Least old new why
+cut-weaker Heard Broke Begun Less IsText Least old new why less least (inl is) =
     inl (record { history = is.history; trace = is.trace; begun = less is.history is.trace is.begun; heard = is.heard })
-cut-weaker Heard Broke Begun Run Less Least old new why less least (inr is) =
-    inr (record { history = is.history; trace = is.trace; run = least is.history is.trace is.run; write = is.write; broke = is.broke })
+cut-weaker Heard Broke Begun Less IsText Least old new why less least (inr is) =
+    inr (record { text = is.text; is = least is.text is.is; write = is.write; broke = is.broke })
+
+-- so is what is so of the history and the trace of a log
+pub log-weaker : (Run Least : List Event → List TimedFrame → Type 0)
+    → ((history : List Event) (trace : List TimedFrame) → Run history trace → Least history trace) → (text : List ℕ) → IsLogOf Run text → IsLogOf Least text
+log-weaker Run Least least text is = record { history = is.history; trace = is.trace; run = least is.history is.trace is.run; text_is = is.text_is }
 
 -- a run that could not begin
-pub not-begun : {L : Type 0} (Heard Broke : L → List ℕ → L → Type 0) (Begun Run : List Event → List TimedFrame → Type 0) (told : L)
-    → Heard told [] told → Begun [] [] → IsCutOff Heard Broke Begun Run told told Memory
-not-begun Heard Broke Begun Run told nothing begun = inl (record { history = []; trace = []; begun = begun; heard = nothing })
+pub not-begun : {L : Type 0} (Heard Broke : L → List ℕ → L → Type 0) (Begun : List Event → List TimedFrame → Type 0) (IsText : List ℕ → Type 0) (told : L)
+    → Heard told [] told → Begun [] [] → IsCutOff Heard Broke Begun IsText told told Memory
+not-begun Heard Broke Begun IsText told nothing begun = inl (record { history = []; trace = []; begun = begun; heard = nothing })
+
+-- what one heard, said of what it tells
+pub heard-as : {L M : Type 0} (Heard : L → List ℕ → L → Type 0) (Takes : M → List ℕ → M → Type 0) (told : L → M)
+    → ((one : L) (rows : List ℕ) (other : L) → Heard one rows other → Takes (told one) rows (told other))
+    → (IsText : List ℕ → Type 0) (old new : L) → IsHeard Heard IsText old new → IsHeard Takes IsText (told old) (told new)
+heard-as Heard Takes told took IsText old new is = record { text = is.text; is = is.is; heard = took old is.text new is.heard }
+
+-- and so if it was cut
+module _ {L M : Type 0} (Heard Broke : L → List ℕ → L → Type 0) (Takes Fails : M → List ℕ → M → Type 0) (told : L → M)
+    (took : (one : L) (rows : List ℕ) (other : L) → Heard one rows other → Takes (told one) rows (told other))
+    (failed : (one : L) (rows : List ℕ) (other : L) → Broke one rows other → Fails (told one) rows (told other)) where
+  at-as : (why : Cut) (old : L) (rows : List ℕ) (new : L) → HeardAt Heard Broke why old rows new → HeardAt Takes Fails why (told old) rows (told new)
+  at-as Memory old rows new heard = took old rows new heard
+  at-as Write old rows new broke = failed old rows new broke
+
+  pub cut-as : (Begun : List Event → List TimedFrame → Type 0) (IsText : List ℕ → Type 0) (old new : L) (why : Cut)
+      → IsCutOff Heard Broke Begun IsText old new why → IsCutOff Takes Fails Begun IsText (told old) (told new) why
+  cut-as Begun IsText old new why (inl is) =
+      inl (record { history = is.history; trace = is.trace; begun = is.begun; heard = at-as why old (events_rows is.trace [] is.history) new is.heard })
+  cut-as Begun IsText old new why (inr is) = inr (record { text = is.text; is = is.is; write = is.write; broke = failed old is.text new is.broke })
+
+-- whatever cut a run, the first bytes of its rows were put
+pub front-at : (why : Cut) (old new : Option (List ℕ)) (rows : List ℕ) → HeardAt Took TookFront why old rows new → PutsPrefix old new rows
+front-at Memory old new rows took = PutsPrefix-all old new rows took
+front-at Write old new rows front = front
+
+-- a text may have more behind it
+pub cut-before_more : (Begun : List Event → List TimedFrame → Type 0) (IsText IsWhole : List ℕ → Type 0) (old new : Option (List ℕ)) (why : Cut)
+    → ((text : List ℕ) → IsText text → (more : List ℕ) × IsWhole (text ++ more)) → IsRunCut Begun IsText old new why → IsRunCut Begun IsWhole old new why
+cut-before_more Begun IsText IsWhole old new why whole (inl is) =
+    inl (record { history = is.history; trace = is.trace; begun = is.begun; heard = is.heard })
+cut-before_more Begun IsText IsWhole old new why whole (inr is) =
+    let all = whole is.text is.is in
+    inr (record { text = is.text ++ all.0; is = all.1; write = is.write; broke = PutsPrefix-longer all.0 is.broke })
 
 module _ {S R : Type 0} (Goes : S → List Event → List TimedFrame → R → Type 0) {L : Type 0} (Heard : L → List ℕ → L → Type 0)
     (setting : S) (told : L) (nothing : Heard told [] told) where
@@ -59,22 +100,20 @@ module _ {S R : Type 0} (Goes : S → List Event → List TimedFrame → R → T
   pub log-heard : ((one other third : L) (rows later : List ℕ) → Heard one rows other → Heard other later third → Heard one (rows ++ later) third)
       → (calls : List Call) (run after : R) (middle now : L) (next : ℕ) → Goes setting [] [] run → GoesOnLogging Goes Heard run told calls after middle
       → ((whole : List Event) (trace : List TimedFrame) → Goes setting whole trace after → next ≡ next_of whole) → Heard middle (end_row next) now
-      → IsLogHeard Goes Heard setting calls after told now
+      → IsHeard Heard (IsLogOf (HasRun Goes setting calls after)) told now
   log-heard more calls run after middle now next fresh on count heard =
       let is = on start_at [] (begins-heard run fresh) in
       record {
-        whole = is.whole;
-        trace = is.trace;
-        answers = is.answers;
-        goes = is.goes;
-        log = more told middle now (events_rows is.trace [] is.whole) (end_row (next_of is.whole)) is.heard
+        text = log_text is.whole is.trace;
+        is = record { history = is.whole; trace = is.trace; run = record { answers = is.answers; keeps = is.goes }; text_is = refl };
+        heard = more told middle now (events_rows is.trace [] is.whole) (end_row (next_of is.whole)) is.heard
             (subst (λ n. Heard middle (end_row n) now) (count is.whole is.trace is.goes) heard);
       }
 
   module _ (Keeps : S → List Event → List TimedFrame → Type 0) (Broke : L → List ℕ → L → Type 0) (calls : List Call) where
     -- a run that was cut in its calls
     pub cut-short : (run : R) (now : L) (why : Cut) → Goes setting [] [] run → IsCutAfter Heard Broke Keeps Goes run told calls now why
-        → IsCutOff Heard Broke (AnswersFirst Keeps setting calls) (AnswersAll Keeps setting calls) told now why
+        → IsCutOff Heard Broke (AnswersFirst Keeps setting calls) (IsLogOf (AnswersAll Keeps setting calls)) told now why
     cut-short run now why fresh cut =
         let is = cut start_at [] (begins-heard run fresh) in
         inl (record { history = is.history; trace = is.trace; begun = is.front; heard = is.heard })
@@ -84,13 +123,17 @@ module _ {S R : Type 0} (Goes : S → List Event → List TimedFrame → R → T
         → ((one : R) (whole : List Event) (trace : List TimedFrame) → Goes setting whole trace one → Keeps setting whole trace)
         → (run after : R) (middle now : L) (next : ℕ) → Goes setting [] [] run → GoesOnLogging Goes Heard run told calls after middle
         → ((whole : List Event) (trace : List TimedFrame) → Goes setting whole trace after → next ≡ next_of whole) → Broke middle (end_row next) now
-        → IsCutOff Heard Broke (AnswersFirst Keeps setting calls) (AnswersAll Keeps setting calls) told now Write
+        → IsCutOff Heard Broke (AnswersFirst Keeps setting calls) (IsLogOf (AnswersAll Keeps setting calls)) told now Write
     cut-at_end later keeps run after middle now next fresh on count broke =
         let is = on start_at [] (begins-heard run fresh) in
         inr (record {
-          history = is.whole;
-          trace = is.trace;
-          run = record { answers = is.answers; keeps = keeps after is.whole is.trace is.goes };
+          text = log_text is.whole is.trace;
+          is = record {
+            history = is.whole;
+            trace = is.trace;
+            run = record { answers = is.answers; keeps = keeps after is.whole is.trace is.goes };
+            text_is = refl;
+          };
           write = refl;
           broke = later told middle now (events_rows is.trace [] is.whole) (end_row (next_of is.whole)) is.heard
               (subst (λ n. Broke middle (end_row n) now) (count is.whole is.trace is.goes) broke);
@@ -129,16 +172,21 @@ module _ (laws : Promises) (system : System) (steps : List Step) (requests : Lis
 
   -- a bus whose whole log was heard
   pub heard-of : {L : Type 0} (Heard : L → List ℕ → L → Type 0) (keeps : Bool) (bus : Bus) (told now : L)
-      → IsLogHeard IsBusAt Heard (kept_so keeps) (flat_map calls_of steps) bus told now
-      → IsHeard Heard system steps requests bus.master.history bus.trace told now
-  heard-of Heard keeps bus told now is =
-      let going = is.goes.going in
+      → IsHeard Heard (IsLogOf (HasRun IsBusAt (kept_so keeps) (flat_map calls_of steps) bus)) told now
+      → IsHeard Heard (IsKeptLog system steps requests bus.master.history bus.trace) told now
+  heard-of Heard keeps bus told now heard =
+      let is = heard.is in
+      let at = is.run.keeps in
       record {
-        trace = is.trace;
-        run = run-of bus.master.history is.trace (ap (map call_of) is.goes.history_is ∙ is.answers)
-            (record { known = going.way.known; plain = going.plain; under_way = going.way.under_way });
-        log = subst (λ h. Heard told (log_text h is.trace) now) (sym is.goes.history_is) is.log;
-        frames = going.frames;
+        text = heard.text;
+        is = record {
+          trace = is.trace;
+          run = run-of bus.master.history is.trace (ap (map call_of) at.history_is ∙ is.run.answers)
+              (record { known = at.going.way.known; plain = at.going.plain; under_way = at.going.way.under_way });
+          frames = at.going.frames;
+          text_is = is.text_is ∙ ap (λ h. log_text h is.trace) (sym at.history_is);
+        };
+        heard = heard.heard;
       }
 
 -- The last rows

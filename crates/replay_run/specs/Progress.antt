@@ -20,10 +20,14 @@ use Rattle.kept_run.specs.Setting.{IsSetting, Setting}
 use Rattle.bus_trace.specs.EventRows.{HasItsFrames, rows_of_event}
 use Rattle.bus_trace.specs.Log.{events_rows, triggers_in}
 use Rattle.bus_trace.specs.Logged.{IsEventNear}
-use Rattle.replay_run.specs.Written.{KeepsFrames}
 use Rattle.replay_run.specs.declared.bus.Bus.{Bus}
 
 -- A master and its bus
+
+-- where frames are kept, they are these
+abbrev pub KeepsFrames : {B : Type 0} → Option (Vec TimedFrame B) → List TimedFrame → Type 0
+KeepsFrames None frames = Unit {0}
+KeepsFrames (Some kept) frames = kept.items ≡ frames
 
 -- master and nodes are those of a run in this setting with this trace, the frames that are kept are its, and all events
 -- are kept where frames are

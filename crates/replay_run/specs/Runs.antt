@@ -4,7 +4,7 @@ use Rattle.can_frame.specs.declared.data_frame.TimedFrame.{TimedFrame}
 use Rattle.master_core.specs.Calls.{Call, call_of}
 use Rattle.master_core.specs.declared.event.Event.{Event}
 use Rattle.bus_trace.specs.EventRows.{rows_of_event}
-use Rattle.bus_trace.specs.Log.{events_rows, log_text}
+use Rattle.bus_trace.specs.Log.{events_rows}
 use Rattle.replay_run.specs.Progress.{EndsIn}
 use Rattle.replay_run.specs.declared.cut.Cut.{Cut}
 use Rattle.replay_run.specs.declared.cut.Cut.TheVariants.{Memory, Write}
@@ -65,14 +65,6 @@ module _ {S R : Type 0} (Goes : S → List Event → List TimedFrame → R → T
   GoesOnLogging old told calls new now = (start : Start S L) (before : List Call)
       → IsHeardSoFar start before old told → IsHeardSoFar start (before ++ calls) new now
 
-  -- the run has answered these calls from its first one on, and its log was heard
-  pub record IsLogHeard (setting : S) (calls : List Call) (run : R) (old new : L) : Type 0 where
-    pub whole : List Event
-    pub trace : List TimedFrame
-    pub answers : map call_of whole ≡ calls
-    pub goes : Goes setting whole trace run
-    pub log : Heard old (log_text whole trace) new
-
 -- where `Keeps` says what a history and a trace keep, whatever became of the run
 module _ {S : Type 0} (Keeps : S → List Event → List TimedFrame → Type 0) where
   -- they answer the first of these calls
@@ -85,6 +77,11 @@ module _ {S : Type 0} (Keeps : S → List Event → List TimedFrame → Type 0) 
   pub record AnswersAll (setting : S) (calls : List Call) (history : List Event) (trace : List TimedFrame) : Type 0 where
     pub answers : map call_of history ≡ calls
     pub keeps : Keeps setting history trace
+
+-- the run has answered these calls from its first one on, with this history and this trace
+abbrev pub HasRun : {S R : Type 0} → (S → List Event → List TimedFrame → R → Type 0) → S → List Call → R
+    → List Event → List TimedFrame → Type 0
+HasRun Goes setting calls run = AnswersAll (λ on whole trace. Goes on whole trace run) setting calls
 
 -- where `Broke` says that one who hears broke off within some rows, this was heard of rows when a run was cut: all of them
 -- where memory ran out, else the first of them

@@ -14,9 +14,8 @@ ghost use Rattle.kept_run.specs.Progress.{AreNodesReady};
 ghost use Rattle.kept_run.specs.Setting.{IsSetting};
 ghost use Rattle.cycle_engine.specs.Nodes.{HaveSpare, states_of};
 ghost use Rattle.replay_run.specs.Progress.{BeginWithTriggers, BringsOn, CanGo, CanTellLast, GoesStill, HasTraceRoom, IsBusReady, IsGoing};
-ghost use Rattle.replay_run.specs.Progress.{RunsNext};
+ghost use Rattle.replay_run.specs.Progress.{KeepsFrames, RunsNext};
 ghost use Rattle.replay_run.specs.Run.{setting_of};
-ghost use Rattle.replay_run.specs.Written.{KeepsFrames};
 
 use crate::counting::count_plain_calls;
 use async_window::Request;

@@ -12,8 +12,9 @@ ghost use Rattle.master_core.specs.History.{next_of};
 ghost use Rattle.replay_run.specs.Begun.{IsRunBegun};
 ghost use Rattle.replay_run.specs.Progress.{CanTellLast};
 ghost use Rattle.replay_run.specs.Run.{IsRun, calls_of};
-ghost use Rattle.replay_run.specs.Runs.{CanLog, GoesOnLogging, HearsLast, AnswersAll, IsCutAfter, AnswersFirst, IsLogHeard};
-ghost use Rattle.replay_run.specs.Whole.{IsCutOff, IsHeard};
+ghost use Rattle.replay_run.specs.Runs.{AnswersAll, AnswersFirst, CanLog, GoesOnLogging, HasRun, HearsLast, IsCutAfter};
+ghost use Rattle.replay_run.specs.Whole.{IsCutOff, IsHeard, IsLogOf};
+ghost use Rattle.replay_run.specs.Written.{IsKeptLog};
 
 use crate::bus::{Bus, in_ranges};
 use crate::cut::Cut;
@@ -194,10 +195,11 @@ pub fn log_run<R: Runs, L: Listener>(
     requires first { next_of (R.bus run.old).master.history ≡ 0 }
     requires steps { AreLegalSteps steps.now }
     ensures heard { OnOk result ((setting : R.Setting) → R.goes setting [] [] run.old
-        → IsLogHeard R.goes L.heard setting (flat_map calls_of steps.now) run.new listener.old listener.new) }
+        → IsHeard L.heard (IsLogOf (HasRun R.goes setting (flat_map calls_of steps.now) run.new))
+        listener.old listener.new) }
     ensures cut { IfErr result (λ why. (setting : R.Setting) → R.goes setting [] [] run.old
         → IsCutOff L.heard L.broke (AnswersFirst R.keeps setting (flat_map calls_of steps.now))
-        (AnswersAll R.keeps setting (flat_map calls_of steps.now)) listener.old listener.new why) }
+        (IsLogOf (AnswersAll R.keeps setting (flat_map calls_of steps.now))) listener.old listener.new why) }
 {
     log_calls(alloc, run, steps, listener)?;
     listener.hear_end(alloc, run.opened())?;
@@ -223,13 +225,13 @@ pub fn log_steps<L: Listener>(
     requires system { IsSystem system.now }
     requires steps { AreLegalSteps steps.now }
     requires requests { AreLegal system.now.owners requests.now }
-    ensures heard { IfOk result (λ bus. IsHeard L.heard system.now steps.now requests.now
-        bus.master.history bus.trace listener.old listener.new) }
+    ensures heard { IfOk result (λ bus. IsHeard L.heard (IsKeptLog system.now steps.now requests.now
+        bus.master.history bus.trace) listener.old listener.new) }
     ensures rules { IfOk result (λ bus. bus.master.rules ≡ system.now.rules) }
     ensures kept { IfOk result (λ bus. is_some bus.trace ≡ keeps) }
     ensures events { IfOk result (λ bus. bus.master.keeps ≡ keeps) }
     ensures cut { IfErr result (IsCutOff L.heard L.broke (IsRunBegun system.now steps.now requests.now)
-        (IsRun system.now steps.now requests.now) listener.old listener.new) }
+        (IsLogOf (IsRun system.now steps.now requests.now)) listener.old listener.new) }
 {
     promise();
     beginning();

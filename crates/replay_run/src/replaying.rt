@@ -1,12 +1,14 @@
 //! The run of a steps file: with its trace, with its log put to a sink, or with the last rows of its log.
 
-ghost use Rattle.std.specs.Prelude.{◌≡◌, ◌≤◌, Some, OnErr, IfOk, IsErrOf, is_some};
+ghost use Rattle.std.specs.Prelude.{◌≡◌, ◌≤◌, Some, IfErr, IfOk, IsErrOf, is_some};
 ghost use Rattle.ftt_io.specs.Counts.{Rose};
 ghost use Rattle.system_file.specs.SystemFile.{IsSystem};
 ghost use Rattle.requests_file.specs.RequestsFile.{AreLegal};
 ghost use Rattle.steps_file.specs.StepsFile.{AreLegalSteps};
+ghost use Rattle.replay_run.specs.Begun.{IsRunBegun};
 ghost use Rattle.replay_run.specs.Run.{IsRun};
-ghost use Rattle.replay_run.specs.Written.{HasLastRows, IsRunCut, IsStopped, IsWritten};
+ghost use Rattle.replay_run.specs.Whole.{IsLogOf};
+ghost use Rattle.replay_run.specs.Written.{HasLastRows, IsKeptLog, IsRunCut, IsWritten};
 
 use crate::bus::Bus;
 use crate::cut::Cut;
@@ -98,15 +100,14 @@ pub fn replay_to<O: Sink>(
     requires steps { AreLegalSteps steps.now }
     requires requests { AreLegal system.now.owners requests.now }
     ensures faults_never_fall { O.faults out.old ≤ O.faults out.new }
-    ensures written { IfOk result (λ run. IsWritten system.now steps.now requests.now run.master.history run.trace
+    ensures written { IfOk result (λ run. IsWritten
+        (IsKeptLog system.now steps.now requests.now run.master.history run.trace)
         (O.told_bytes out.old) (O.told_bytes out.new)) }
     ensures rules { IfOk result (λ run. run.master.rules ≡ system.now.rules) }
     ensures kept { IfOk result (λ run. is_some run.trace ≡ keeps) }
     ensures events { IfOk result (λ run. run.master.keeps ≡ keeps) }
-    ensures cut { OnErr result
-        (IsRunCut system.now steps.now requests.now (O.told_bytes out.old) (O.told_bytes out.new)) }
-    ensures stopped { IsErrOf result Cut.Memory
-        → IsStopped system.now steps.now requests.now (O.told_bytes out.old) (O.told_bytes out.new) }
+    ensures cut { IfErr result (IsRunCut (IsRunBegun system.now steps.now requests.now)
+        (IsLogOf (IsRun system.now steps.now requests.now)) (O.told_bytes out.old) (O.told_bytes out.new)) }
     ensures failed { IsErrOf result Cut.Write → Rose (O.faults out.old) (O.faults out.new) }
 {
     let mut sink = ToSink { out };

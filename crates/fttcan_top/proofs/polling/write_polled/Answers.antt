@@ -6,7 +6,7 @@ pub returns-in_err-accepted-clause-cut : goal.returns-in_err-accepted-clause-cut
 returns-in_err-accepted-clause-cut g c =
     let all = polled-cut c.args.job.now c.as_slice.result.now c.args.streams.items c.as_slice.ensures.list
     (g.O.Sink.told_bytes c.args.out.now) (g.O.Sink.told_bytes c.replay_polled.new.out)
-    (record { front = c.rows_so_far.ensures.front }) c.requires.job.system c.in_err-accepted.ensures.cut in
+    (record { front = c.rows_so_far.ensures.front }) c.in_err-accepted.field-0.0 c.requires.job.system c.in_err-accepted.ensures.cut in
     search (rules, all)
 
 pub returns-clause-tells : goal.returns-clause-tells

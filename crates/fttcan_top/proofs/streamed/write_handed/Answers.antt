@@ -6,7 +6,7 @@ pub returns-in_err-accepted-clause-cut : goal.returns-in_err-accepted-clause-cut
 returns-in_err-accepted-clause-cut g c =
     let all = run-cut c.args.job.now false c.as_slice-steps.result.now c.args.job.now.system.owners c.as_slice-requests.result.now
     c.as_slice-steps.ensures.list refl c.as_slice-requests.ensures.list (record { front = c.rows_so_far.ensures.front })
-    (g.O.Sink.told_bytes c.args.out.now) (g.O.Sink.told_bytes c.replay_handed.new.out) c.requires.job.system c.requires.job.requests
+    (g.O.Sink.told_bytes c.args.out.now) (g.O.Sink.told_bytes c.replay_handed.new.out) c.in_err-accepted.field-0.0 c.requires.job.system c.requires.job.requests
     c.in_err-accepted.ensures.cut in
     search (rules, all)
 

@@ -7,7 +7,7 @@ pub returns-in_err-run-clause-cut : goal.returns-in_err-run-clause-cut
 returns-in_err-run-clause-cut g c =
     let all = run-cut c.args.job.now c.args.report c.as_slice-steps.result.now c.as_slice-owners.result.now c.as_slice-requests.result.now
     c.as_slice-steps.ensures.list c.as_slice-owners.ensures.list c.as_slice-requests.ensures.list (record { front = c.rows_so_far.ensures.front })
-    (g.O.Sink.told_bytes c.args.out.now) (g.O.Sink.told_bytes c.replay_to.new.out) c.requires.job.system c.requires.job.requests c.in_err-run.ensures.cut in
+    (g.O.Sink.told_bytes c.args.out.now) (g.O.Sink.told_bytes c.replay_to.new.out) c.in_err-run.field-0.0 c.requires.job.system c.requires.job.requests c.in_err-run.ensures.cut in
     search (rules, all)
 
 pub returns-in_err-put_report-clause-cut : goal.returns-in_err-put_report-clause-cut

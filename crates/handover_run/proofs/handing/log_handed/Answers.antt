@@ -5,8 +5,8 @@ use Rattle.replay_run.specs.Begun.{IsRunBegun}
 use Rattle.replay_run.specs.Progress.{IsKeptOnBus}
 use Rattle.replay_run.specs.Run.{IsRun, calls_of, setting_of}
 use Rattle.replay_run.specs.Runs.{AnswersAll, AnswersFirst}
-use Rattle.replay_run.specs.Whole.{IsCutOff}
-use Rattle.replay_run.proofs.Shared.{begun-at_once, begun-of, caused, cut-weaker, not-begun, run-of}
+use Rattle.replay_run.specs.Whole.{IsCutOff, IsLogOf}
+use Rattle.replay_run.proofs.Shared.{begun-at_once, begun-of, caused, cut-weaker, log-weaker, not-begun, run-of}
 use Rattle.handover_run.proofs.Whole.{heard-whole}
 use Rattle.handover_run.proofs.handing.log_handed.Goals as goal
 
@@ -15,7 +15,7 @@ returns-in_err-handed-clause-cut g c =
     let system = c.args.system.now in
     let steps = c.args.steps.now in
     let requests = c.args.requests.now in
-    let all = not-begun g.L.Listener.heard g.L.Listener.broke (IsRunBegun system steps requests) (IsRun system steps requests) c.args.listener.now
+    let all = not-begun g.L.Listener.heard g.L.Listener.broke (IsRunBegun system steps requests) (IsLogOf (IsRun system steps requests)) c.args.listener.now
     (g.met.L.Listener.nothing c.args.listener.now)
     (begun-at_once (record { kept = c.promise.ensures.kept }) system steps requests c.in_ranges.ensures.setting
     (c.beginning.ensures.under_way (setting_of system requests))) in
@@ -32,13 +32,14 @@ returns-in_err-log_run-clause-cut g c =
     let requests = c.args.requests.now in
     let setting = setting_of system requests in
     let calls = flat_map calls_of steps in
-    let all = cut-weaker g.L.Listener.heard g.L.Listener.broke (AnswersFirst IsKeptOnBus setting calls) (AnswersAll IsKeptOnBus setting calls)
-    (IsRunBegun system steps requests) (IsRun system steps requests) c.args.listener.now c.log_run.new.listener c.in_err-log_run.field-0.0
+    let run = AnswersAll IsKeptOnBus setting calls in
+    let all = cut-weaker g.L.Listener.heard g.L.Listener.broke (AnswersFirst IsKeptOnBus setting calls) (IsRunBegun system steps requests)
+    (IsLogOf run) (IsLogOf (IsRun system steps requests)) c.args.listener.now c.log_run.new.listener c.in_err-log_run.field-0.0
     (λ history trace is. begun-of laws system steps requests history trace is.later is.answers is.keeps)
-    (λ history trace is. run-of laws system steps requests history trace is.answers is.keeps)
+    (log-weaker run (IsRun system steps requests) (λ history trace is. run-of laws system steps requests history trace is.answers is.keeps))
     (c.in_err-log_run.ensures.cut setting c.in_ok-handed.ensures.begun) in
     caused c.from_residual-in_err-log_run.result
-    (IsCutOff g.L.Listener.heard g.L.Listener.broke (IsRunBegun system steps requests) (IsRun system steps requests) c.args.listener.now c.log_run.new.listener)
+    (IsCutOff g.L.Listener.heard g.L.Listener.broke (IsRunBegun system steps requests) (IsLogOf (IsRun system steps requests)) c.args.listener.now c.log_run.new.listener)
     c.in_err-log_run.field-0.0 c.from_residual-in_err-log_run.ensures.1 all
 
 pub returns-clause-heard : goal.returns-clause-heard

@@ -1,6 +1,6 @@
 use Rattle.std.proofs.Common.{refl, subst, sym, ◌∙◌}
 use Rattle.replay_run.specs.Run.{setting_of}
-use Rattle.replay_run.specs.Written.{KeepsFrames}
+use Rattle.replay_run.specs.Progress.{KeepsFrames}
 use Rattle.replay_run.proofs.Going.{begins-going}
 use Rattle.replay_run.proofs.bus.Bus.begin.Goals as goal
 

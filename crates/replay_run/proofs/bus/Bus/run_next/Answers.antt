@@ -1,7 +1,6 @@
 use Rattle.std.proofs.Common.{◌≤◌, ◌++◌, ◌∙◌, length, subst, sym}
 use Rattle.requirement_table.specs.Instance.{bytes_of}
-use Rattle.replay_run.specs.Progress.{BeginWithTriggers, CanTellLast, IsBroughtOn, IsRunNext}
-use Rattle.replay_run.specs.Written.{KeepsFrames}
+use Rattle.replay_run.specs.Progress.{BeginWithTriggers, CanTellLast, IsBroughtOn, IsRunNext, KeepsFrames}
 use Rattle.replay_run.proofs.Going.{begin-with-triggers, few, its-frames, ran}
 use Rattle.replay_run.proofs.RunNext.{run-next}
 use Rattle.replay_run.proofs.bus.Bus.run_next.Goals as goal
