@@ -137,7 +137,7 @@ impl Nodes {
     }
 
     /// Makes the nodes able to learn a list without memory, where there is one.
-    pub(crate) fn reserve_for(
+    pub fn reserve_for(
         &mut self,
         alloc: Global,
         learned: &Option<PlacedList>,

@@ -22,7 +22,6 @@ ghost use Rattle.log_reader.specs.declared.row.LogVerdict.{LogVerdict};
 ghost use Rattle.log_reader.specs.declared.row.OpenRow.{OpenRow};
 ghost use Rattle.trace_audit.specs.Ahead.{AreStepsAhead};
 ghost use Rattle.trace_audit.specs.Again.{Asks, CanGoOn, EndsNear, IsAgain, IsRerunBroughtOn, IsRerunOpened};
-ghost use Rattle.cycle_engine.specs.Nodes.{CanLearn, states_of};
 ghost use Rattle.bus_trace.specs.Compared.{BeginsWith};
 ghost use Rattle.trace_audit.specs.States.{KeepsStates};
 
@@ -45,7 +44,6 @@ use master_core::laws::legal_histories;
 use master_core::{Event, Master, plan_apart};
 use replay_run::laws::legal_runs;
 use replay_run::{count_plain_calls, fresh_nodes};
-use requirement_table::Order;
 use std::alloc::{AllocError, Global};
 use steps_file::Step;
 use system_file::System;
@@ -65,18 +63,6 @@ pub struct Rerun {
     pub width: u32,
     /// The frames of that cycle.
     pub sent: Segment,
-}
-
-/// Makes the nodes able to learn the list of an order without memory, where there is one.
-fn make_spare(nodes: &mut Nodes, alloc: Global, order: &Order) -> Result<(), AllocError>
-    ensures room { OnOk result (CanLearn order.now.learned nodes.new.nodes) }
-    ensures same { states_of nodes.new.nodes ≡ states_of nodes.old.nodes }
-    ensures layout { nodes.new.layout ≡ nodes.old.layout }
-{
-    match &order.learned {
-        Some(list) => nodes.reserve(alloc, list.as_slice().len()),
-        None => Ok(()),
-    }
 }
 
 /// A master that has answered no call. Memory for so many events is taken at once, where there is any: a hint, without
@@ -209,7 +195,7 @@ impl Rerun {
         frames_by_cycle();
         self.master.reserve(alloc, 1)?;
         let order = self.master.open();
-        make_spare(&mut self.nodes, alloc, &order)?;
+        self.nodes.reserve_for(alloc, &order.learned)?;
         run_cycle_in(&order, &mut self.nodes, &mut self.sent);
         self.states.push(self.master.state())?;
         self.width = order.l;

@@ -46,8 +46,8 @@ returns-clause-opened c = λ system requests trace again.
     laws
     (record { before = c.orders.ensures.before; under_way = c.cycles_run.ensures.under_way; ready = c.cycles_run.ensures.ready })
     order ordered
-    (ran-by order c.run_cycle_in.new.nodes c.run_cycle_in.new.segment c.make_spare.new.nodes old.nodes
-    c.make_spare.ensures.layout c.make_spare.ensures.same
+    (ran-by order c.run_cycle_in.new.nodes c.run_cycle_in.new.segment c.reserve_for.new.self old.nodes
+    c.reserve_for.ensures.layout c.reserve_for.ensures.same
     (record {
       layout = c.run_cycle_in.ensures.layout;
       heard = c.run_cycle_in.ensures.heard;
