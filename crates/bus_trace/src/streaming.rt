@@ -79,7 +79,8 @@ pub fn event_rows(
     }
 }
 
-/// Puts the rows of a plan, one for each cycle from `from` on, below 2^63, up to 16 by a call.
+/// Puts the rows of a plan, one for each cycle from `from` on, below 2^63, up to 16 by a call. Most changes have none, and
+/// then no array is cleared.
 fn put_plan_rows<O: Sink>(out: &mut O, from: u64, masks: &[Mask]) -> Result<(), Failed>
     requires from { from < 2 ^ 63 }
     ensures faults_never_fall { O.faults out.old ≤ O.faults out.new }
@@ -89,6 +90,9 @@ fn put_plan_rows<O: Sink>(out: &mut O, from: u64, masks: &[Mask]) -> Result<(), 
         (PutsPrefix (O.told_bytes out.old) (O.told_bytes out.new) (text_of_rows (plan_told from masks.now))) }
     ensures in_range { OnOk result (All IsLogRow (plan_told from masks.now)) }
 {
+    if masks.is_empty() {
+        return Ok(());
+    }
     let mut rows = [0; ROWS_ROOM];
     let mut first = from;
     let mut left = masks;

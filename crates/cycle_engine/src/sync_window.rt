@@ -103,8 +103,5 @@ fn due_frame(node: &Node, slot: u8) -> Frame
     requires due { IsSome (due_by (node.now.state ∷ []) slot) }
     ensures frame { due_by (node.now.state ∷ []) slot ≡ Some result }
 {
-    match node.frame_due(slot) {
-        Some(frame) => frame,
-        None => unreachable!(),
-    }
+    node.due_frame(slot)
 }

@@ -19,7 +19,8 @@ use requirement_table::Mask;
 
 impl Node {
     /// The frame of a slot that the node is to send in the open cycle.
-    pub(crate) fn due_frame(&self, slot: u8) -> Frame
+    #[inline(always)]
+    pub fn due_frame(&self, slot: u8) -> Frame
         requires slot { slot < most_slots }
         requires due { is_due_slot self.now.state slot ≡ true }
         ensures frame { result ≡ due_frame self.now.state slot }
