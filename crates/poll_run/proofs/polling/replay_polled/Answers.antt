@@ -37,7 +37,7 @@ returns-clause-cut g c =
     let steps = c.args.steps.now in
     let streams = c.args.streams.items in
     let polled = c.in_ok-polled.polled in
-    let all = cut-end system steps streams (told c.args.out.now) polled c.put_end.result _ (told c.put_end.new.out)
+    let prefix = c.put_end.ensures.prefix in
+    cut-end system steps streams (told c.args.out.now) polled c.put_end.result _ _
     (heard-as _ Took (λ sink. told sink.out.now) (λ one rows other is. is.1.puts)
-    (IsPollLog system steps streams polled) _ c.log_polled.new.listener c.in_ok-polled.ensures.heard) c.put_end.ensures.prefix c.put_end.ensures.write in
-    search (rules, all)
+    (IsPollLog system steps streams polled) _ c.log_polled.new.listener c.in_ok-polled.ensures.heard) (search (rules, prefix)) c.put_end.ensures.write
