@@ -40,13 +40,12 @@ fn read_few(field: &[u8]) -> Option<u64>
     Some(number)
 }
 
-/// The number that the field writes, where it fits its type. Leading zeros are allowed.
-pub fn read_number(field: &[u8]) -> Option<u64>
+/// The number that a field writes, where it fits its type.
+#[inline(never)]
+fn read_many(field: &[u8]) -> Option<u64>
+    requires some { 0 < length field.now }
     ensures value { result ≡ option_and_then (within 0 (2 ^ 64 - 1)) (number_of field.now) }
 {
-    if field.len() <= FEW {
-        return read_few(field);
-    }
     let mut number = 0u64;
     let mut left = field;
     while let [byte, rest @ ..] = left {
@@ -54,6 +53,17 @@ pub fn read_number(field: &[u8]) -> Option<u64>
         left = rest;
     }
     Some(number)
+}
+
+/// The number that the field writes, where it fits its type. Leading zeros are allowed.
+pub fn read_number(field: &[u8]) -> Option<u64>
+    ensures value { result ≡ option_and_then (within 0 (2 ^ 64 - 1)) (number_of field.now) }
+{
+    if field.len() <= FEW {
+        read_few(field)
+    } else {
+        read_many(field)
+    }
 }
 
 /// Whether the first of several digits is a zero.

@@ -80,6 +80,7 @@ impl HighDigits {
 
     /// Puts a number, whose digits above the last four may be others.
     #[cold]
+    #[inline(always)]
     fn put_anew<const N: usize>(&mut self, row: &mut [u8; N], end: usize, number: u64) -> usize
         requires room { 20 ≤ end }
         requires within { end ≤ N }
