@@ -11,6 +11,7 @@ use Rattle.master_core.specs.declared.event.Event.{Event}
 use Rattle.master_core.specs.declared.event.Event.TheVariants.{Submit, Look, Open}
 use Rattle.master_core.specs.History.{next_of, placed_of}
 use Rattle.bus_trace.specs.Started.{started_in}
+use Rattle.log_reader.specs.Row.{opened_row}
 use Rattle.log_reader.specs.declared.row.LogRow.{LogRow}
 use Rattle.log_reader.specs.declared.row.LogRow.TheVariants as row
 use Rattle.log_reader.specs.declared.row.LogVerdict.{LogVerdict}
@@ -41,7 +42,7 @@ open_told cycle mask width = record { cycle = cycle; mask = mask; width = width 
 
 -- its row, and those of the frames that were sent in it
 abbrev pub opened_told : ℕ → ℕ → ℕ → List TimedFrame → List LogRow
-opened_told cycle mask width frames = row.Open (open_told cycle mask width) ∷ map row.Frame frames
+opened_told cycle mask width frames = opened_row (open_told cycle mask width) ∷ map row.Frame frames
 
 -- the rows of an event, after the events before it: a change that is refused for a miss is followed by its plan up to
 -- the miss, and an opening by the frames of its cycle

@@ -8,8 +8,8 @@ ghost use Rattle.can_frame.specs.DataFrame.{IsFrame};
 ghost use Rattle.text_fields.specs.Hexadecimal.{hex_digits};
 ghost use Rattle.bus_trace.specs.Log.{end_row, last_field, verdict_fields};
 ghost use Rattle.bus_trace.specs.LogRows.{open_told, plan_told, until_of, verdict_told};
-ghost use Rattle.log_reader.specs.Row.{IsLogRow, IsLogVerdict, row_text, text_of_rows};
-ghost use Rattle.log_reader.specs.declared.row.LogRow.TheVariants.{Submit, Plan, Look, Open, Frame, End};
+ghost use Rattle.log_reader.specs.Row.{IsLogRow, IsLogVerdict, opened_row, row_text, text_of_rows};
+ghost use Rattle.log_reader.specs.declared.row.LogRow.TheVariants.{Submit, Plan, Look, Frame, End};
 
 use admission::Verdict;
 use can_frame::TimedFrame;
@@ -341,8 +341,8 @@ fn put_open<const N: usize>(rows: &mut [u8; N], end: usize, opened: &OpenRow) ->
     requires room { 62 ≤ end }
     requires within { end ≤ N }
     ensures start { result ≤ end }
-    ensures row { drop result rows.new ≡ row_text (Open opened.now) ++ drop end rows.old }
-    ensures in_range { IsLogRow (Open opened.now) }
+    ensures row { drop result rows.new ≡ row_text (opened_row opened.now) ++ drop end rows.old }
+    ensures in_range { IsLogRow (opened_row opened.now) }
 {
     let place = put_byte(rows, end, b'\n');
     let place = put_length(rows, place, opened.width);
@@ -362,8 +362,8 @@ pub fn opened_rows<'a>(
     frames: &[TimedFrame],
 ) -> &'a [u8]
     requires few { length frames.now ≤ 16 }
-    ensures rows { result.now ≡ text_of_rows (Open opened.now ∷ map Frame frames.now) }
-    ensures in_range { All IsLogRow (Open opened.now ∷ map Frame frames.now) }
+    ensures rows { result.now ≡ text_of_rows (opened_row opened.now ∷ map Frame frames.now) }
+    ensures in_range { All IsLogRow (opened_row opened.now ∷ map Frame frames.now) }
 {
     let place = put_frames(rows, data, frames);
     let place = put_open(rows, place, opened);
@@ -372,8 +372,8 @@ pub fn opened_rows<'a>(
 
 /// Makes the row of an opened cycle, and that of the one frame that was sent in it.
 pub fn lone_rows<'a>(row: &'a mut [u8; ROOM], opened: &OpenRow, sent: &TimedFrame) -> &'a [u8]
-    ensures rows { result.now ≡ text_of_rows (Open opened.now ∷ Frame sent.now ∷ []) }
-    ensures in_range { All IsLogRow (Open opened.now ∷ Frame sent.now ∷ []) }
+    ensures rows { result.now ≡ text_of_rows (opened_row opened.now ∷ Frame sent.now ∷ []) }
+    ensures in_range { All IsLogRow (opened_row opened.now ∷ Frame sent.now ∷ []) }
 {
     let place = put_lone_frame(row, ROOM, sent);
     let place = put_open(row, place, opened);

@@ -9,8 +9,8 @@ ghost use Rattle.bus_trace.specs.EventRows.{width_told_in};
 ghost use Rattle.bus_trace.specs.Log.{end_row};
 ghost use Rattle.bus_trace.specs.LogRows.{plan_told};
 ghost use Rattle.bus_trace.specs.Logged.{IsEventNear};
-ghost use Rattle.log_reader.specs.Row.{IsLogRow, text_of_rows};
-ghost use Rattle.log_reader.specs.declared.row.LogRow.TheVariants.{Frame as FrameRow, Open, End};
+ghost use Rattle.log_reader.specs.Row.{IsLogRow, opened_row, text_of_rows};
+ghost use Rattle.log_reader.specs.declared.row.LogRow.TheVariants.{Frame as FrameRow, End};
 
 use crate::gathering::Gathered;
 use crate::rows::{
@@ -135,12 +135,12 @@ fn put_cycle<O: Sink>(out: &mut O, opened: &OpenRow, frames: &[TimedFrame]) -> R
     ensures faults_never_fall { O.faults out.old ≤ O.faults out.new }
     ensures all { OnOk result
         (Puts (O.told_bytes out.old) (O.told_bytes out.new)
-        (text_of_rows (Open opened.now ∷ map FrameRow frames.now))) }
+        (text_of_rows (opened_row opened.now ∷ map FrameRow frames.now))) }
     ensures failed { OnErr result (Rose (O.faults out.old) (O.faults out.new)) }
     ensures prefix { OnErr result
         (PutsPrefix (O.told_bytes out.old) (O.told_bytes out.new)
-        (text_of_rows (Open opened.now ∷ map FrameRow frames.now))) }
-    ensures in_range { OnOk result (All IsLogRow (Open opened.now ∷ map FrameRow frames.now)) }
+        (text_of_rows (opened_row opened.now ∷ map FrameRow frames.now))) }
+    ensures in_range { OnOk result (All IsLogRow (opened_row opened.now ∷ map FrameRow frames.now)) }
 {
     if let [sent] = frames {
         let mut row = [0; ROOM];

@@ -3,7 +3,7 @@
 use crate::marks::plain;
 use bus_trace::{Recent, event_rows};
 use can_frame::TimedFrame;
-use log_reader::{LogFault, LogRow, OpenRow, read_log};
+use log_reader::{LogFault, LogRow, read_log};
 use master_core::Event;
 use requirement_table::Mask;
 use std::alloc::{AllocError, Global};
@@ -22,17 +22,13 @@ fn put_row(told: &mut String, row: &LogRow) -> Result<(), AllocError> {
             writeln!(told, "plan of {cycle}: {bits}")
         }
         LogRow::Look { caller, next } => writeln!(told, "look by {caller}: {next}"),
-        LogRow::Open { opened } => put_open(told, opened),
+        LogRow::Open { cycle, mask, l } => {
+            let bits = mask.bits();
+            writeln!(told, "open {cycle}: {bits}, width {l}")
+        }
         LogRow::Frame { timed } => put_frame(told, timed),
         LogRow::End { next } => writeln!(told, "end: {next}"),
     }
-}
-
-/// Puts the line of an opened cycle that was read.
-fn put_open(told: &mut String, opened: &OpenRow) -> Result<(), AllocError> {
-    let (cycle, width) = (opened.cycle, opened.width);
-    let bits = opened.mask.bits();
-    writeln!(told, "open {cycle}: {bits}, width {width}")
 }
 
 /// Puts the line of a frame that was read.

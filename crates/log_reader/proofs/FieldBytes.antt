@@ -229,7 +229,7 @@ frame-begun bytes body rest (start, early, one) is =
 pub open-row : (bytes slots length rest : List ℕ) → IsNumberBehind 16 44 bytes slots → IsMaskBehind 44 slots length
     → IsNumberBehind 9 10 length rest → BeginsWithRow (codes "open," ++ bytes) rest
 open-row bytes slots length rest (cycle, early, one) (mask, wide, two) (width, short, three) = record {
-  row = row.Open (record { cycle = cycle; mask = mask; width = width });
+  row = row.Open cycle mask width;
   legal = (omega (arith, early), wide, omega (arith, short));
   written = ap (λ x. codes "open," ++ x) (one ∙ ap (λ x. decimal cycle ++ 44 ∷ x) (two ∙ ap (λ x. mask_digits mask ++ 44 ∷ x) three))
       ∙ sym (open-text (decimal cycle) (mask_digits mask) (decimal width) rest);

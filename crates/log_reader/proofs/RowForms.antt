@@ -11,11 +11,10 @@ use Rattle.can_frame.specs.declared.data_frame.TimedFrame.{TimedFrame}
 use Rattle.bit_sets.specs.Sets.{most_slots}
 use Rattle.text_fields.specs.Hexadecimal.{hex_digits}
 use Rattle.text_fields.specs.MaskText.{mask_digits}
-use Rattle.log_reader.specs.Row.{IsLogRow, IsLogVerdict, fields_of_open, fields_of_row, fields_of_verdict}
+use Rattle.log_reader.specs.Row.{IsLogRow, IsLogVerdict, fields_of_row, fields_of_verdict}
 use Rattle.log_reader.specs.RowFields.{accepted_of, end_of, frame_at, frame_of, frame_with, hex_at, horizon_of, look_of, malformed_of, miss_of, number_at, open_of, passed_of, plan_of, row_by, row_of, slots_at, submit_of, two_numbers, until_of, verdict_by, verdict_of}
 use Rattle.log_reader.specs.declared.row.LogRow.{LogRow}
 use Rattle.log_reader.specs.declared.row.LogRow.TheVariants as row
-use Rattle.log_reader.specs.declared.row.OpenRow.{OpenRow}
 use Rattle.log_reader.specs.declared.row.LogVerdict.{LogVerdict}
 use Rattle.log_reader.specs.declared.row.LogVerdict.TheVariants as verdict
 use Rattle.text_fields.specs.ByteText.{data_of}
@@ -275,7 +274,7 @@ module _ (fields : List (List ℕ)) where
       let x = number-read fields 1 (2 ^ 64 - 1) cycle (omega arith) one in
       let y = slots-read fields 2 mask two in
       let z = number-read fields 3 (2 ^ 32 - 1) width (omega arith) three in
-      subst (HasForm fields) (same_Some (row.Open (record { cycle = cycle; mask = mask; width = width })) read made) (record {
+      subst (HasForm fields) (same_Some (row.Open cycle mask width) read made) (record {
         legal = (omega (arith, x.1), omega (arith, y.1), omega (arith, z.1));
         is = same-places fields _ (eqb-true (length fields) 4 count) (word, (x.0, (y.0, (z.0, tt))));
       }))))
@@ -366,11 +365,11 @@ module _ (fields : List (List ℕ)) where
   unfolding row_of
   look-said caller next word count one two = rw (word, count, one, two)
 
-  open-said : (opened : OpenRow) → slice_get fields 0 ≡ Some (codes "open") → (length fields == 4) ≡ true
-      → number_at fields 1 (2 ^ 64 - 1) ≡ Some opened.cycle → slots_at fields 2 ≡ Some opened.mask
-      → number_at fields 3 (2 ^ 32 - 1) ≡ Some opened.width → row_of fields ≡ Some (row.Open opened)
+  open-said : (cycle mask l : ℕ) → slice_get fields 0 ≡ Some (codes "open") → (length fields == 4) ≡ true
+      → number_at fields 1 (2 ^ 64 - 1) ≡ Some cycle → slots_at fields 2 ≡ Some mask
+      → number_at fields 3 (2 ^ 32 - 1) ≡ Some l → row_of fields ≡ Some (row.Open cycle mask l)
   unfolding row_of
-  open-said opened word count one two three = rw (word, count, one, two, three)
+  open-said cycle mask l word count one two three = rw (word, count, one, two, three)
 
   frame-said : (timed : TimedFrame) → slice_get fields 0 ≡ Some (codes "frame") → (length fields == 5) ≡ true
       → number_at fields 1 (2 ^ 64 - 1) ≡ Some timed.start → number_at fields 2 (2 ^ 32 - 1) ≡ Some timed.len → frame_at fields ≡ Some timed.frame
@@ -440,12 +439,12 @@ row-found (row.Look caller next) legal =
     look-said fields caller next refl refl
     (number-found fields 1 255 caller (omega arith) (omega (arith, legal.0)) refl)
     (number-found fields 2 (2 ^ 64 - 1) next (omega arith) (omega (arith, legal.1)) refl)
-row-found (row.Open opened) legal =
-    let fields = fields_of_open opened in
-    open-said fields opened refl refl
-    (number-found fields 1 (2 ^ 64 - 1) opened.cycle (omega arith) (omega (arith, legal.0)) refl)
-    (slots-found fields 2 opened.mask (omega (arith, legal.1)) refl)
-    (number-found fields 3 (2 ^ 32 - 1) opened.width (omega arith) (omega (arith, legal.2)) refl)
+row-found (row.Open cycle mask l) legal =
+    let fields = fields_of_row (row.Open cycle mask l) in
+    open-said fields cycle mask l refl refl
+    (number-found fields 1 (2 ^ 64 - 1) cycle (omega arith) (omega (arith, legal.0)) refl)
+    (slots-found fields 2 mask (omega (arith, legal.1)) refl)
+    (number-found fields 3 (2 ^ 32 - 1) l (omega arith) (omega (arith, legal.2)) refl)
 row-found (row.Frame timed) legal =
     let fields = fields_of_row (row.Frame timed) in
     frame-said fields timed refl refl

@@ -62,7 +62,7 @@ pub row-plain : (read : LogRow) → IsLogRow read → ArePlain (fields_of_row re
 row-plain (row.Submit caller from said) legal = (refl, (number-plain caller (omega (arith, legal.0)), (number-plain from legal.1, verdict-plain said legal.2)))
 row-plain (row.Plan cycle mask) legal = (refl, (number-plain cycle legal.0, (mask-plain mask, tt)))
 row-plain (row.Look caller next) legal = (refl, (number-plain caller (omega (arith, legal.0)), (number-plain next legal.1, tt)))
-row-plain (row.Open opened) legal = (refl, (number-plain opened.cycle legal.0, (mask-plain opened.mask, (number-plain opened.width (omega (arith, legal.2)), tt))))
+row-plain (row.Open cycle mask l) legal = (refl, (number-plain cycle legal.0, (mask-plain mask, (number-plain l (omega (arith, legal.2)), tt))))
 row-plain (row.Frame timed) legal = (refl, (number-plain timed.start legal.0, (number-plain timed.len (omega (arith, legal.1)), (hex-plain 3 timed.frame.identifier, (data-plain timed.frame.bytes, tt)))))
 row-plain (row.End next) legal = (refl, (number-plain next legal, tt))
 
@@ -72,7 +72,7 @@ record-plain : (read : LogRow) → IsLogRow read → IsPlainRecord (fields_of_ro
 record-plain (row.Submit caller from said) legal = row-plain (row.Submit caller from said) legal
 record-plain (row.Plan cycle mask) legal = row-plain (row.Plan cycle mask) legal
 record-plain (row.Look caller next) legal = row-plain (row.Look caller next) legal
-record-plain (row.Open opened) legal = row-plain (row.Open opened) legal
+record-plain (row.Open cycle mask l) legal = row-plain (row.Open cycle mask l) legal
 record-plain (row.Frame timed) legal = row-plain (row.Frame timed) legal
 record-plain (row.End next) legal = row-plain (row.End next) legal
 
@@ -91,7 +91,7 @@ unmarked [] (byte ∷ rest) none = no-mark byte rest (ne_eqb byte 239 none)
 unmarked (row.Submit caller from said ∷ rows) rest none = no-mark 115 _ refl
 unmarked (row.Plan cycle mask ∷ rows) rest none = no-mark 112 _ refl
 unmarked (row.Look caller next ∷ rows) rest none = no-mark 108 _ refl
-unmarked (row.Open opened ∷ rows) rest none = no-mark 111 _ refl
+unmarked (row.Open cycle mask l ∷ rows) rest none = no-mark 111 _ refl
 unmarked (row.Frame timed ∷ rows) rest none = no-mark 102 _ refl
 unmarked (row.End next ∷ rows) rest none = no-mark 101 _ refl
 

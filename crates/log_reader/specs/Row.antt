@@ -30,10 +30,9 @@ fields_of_verdict (Passed start next) = codes "passed" ∷ decimal start ∷ dec
 fields_of_verdict (Miss slot release cycle) = codes "miss" ∷ decimal slot ∷ decimal release ∷ decimal cycle ∷ []
 fields_of_verdict (Horizon from walked) = codes "horizon" ∷ decimal from ∷ decimal walked ∷ []
 
--- the fields of an opened cycle: `open,CYCLE,MASK,WIDTH`, with the set of the flagged slots
-abbrev pub fields_of_open : OpenRow → List (List ℕ)
-fields_of_open opened =
-    codes "open" ∷ decimal opened.cycle ∷ mask_digits opened.mask ∷ decimal opened.width ∷ []
+-- the row of an opened cycle
+abbrev pub opened_row : OpenRow → LogRow
+opened_row opened = Open opened.cycle opened.mask opened.width
 
 -- the fields of a frame
 abbrev pub fields_of_frame : TimedFrame → List (List ℕ)
@@ -41,12 +40,12 @@ fields_of_frame timed =
     codes "frame" ∷ decimal timed.start ∷ decimal timed.len ∷ hex_digits 3 timed.frame.identifier
     ∷ flat_map (hex_digits 2) timed.frame.bytes ∷ []
 
--- the fields of a row
+-- the fields of a row; those of an opened cycle are `open,CYCLE,MASK,WIDTH`, with the set of the flagged slots
 abbrev pub fields_of_row : LogRow → List (List ℕ)
 fields_of_row (Submit caller from verdict) = codes "submit" ∷ decimal caller ∷ decimal from ∷ fields_of_verdict verdict
 fields_of_row (Plan cycle mask) = codes "plan" ∷ decimal cycle ∷ mask_digits mask ∷ []
 fields_of_row (Look caller next) = codes "look" ∷ decimal caller ∷ decimal next ∷ []
-fields_of_row (Open opened) = fields_of_open opened
+fields_of_row (Open cycle mask l) = codes "open" ∷ decimal cycle ∷ mask_digits mask ∷ decimal l ∷ []
 fields_of_row (Frame timed) = fields_of_frame timed
 fields_of_row (End next) = codes "end" ∷ decimal next ∷ []
 
@@ -71,16 +70,12 @@ IsLogVerdict (Passed start next) = (start < 2 ^ 64) × (next < 2 ^ 64)
 IsLogVerdict (Miss slot release cycle) = (slot < 2 ^ 8) × (release < 2 ^ 64) × (cycle < 2 ^ 64)
 IsLogVerdict (Horizon from walked) = (from < 2 ^ 64) × (walked < 2 ^ 64)
 
--- so are those of an opened cycle
-abbrev pub IsOpenRow : OpenRow → Type 0
-IsOpenRow opened = (opened.cycle < 2 ^ 64) × (opened.mask < 2 ^ most_slots) × (opened.width < 2 ^ 32)
-
 -- so are those of a row, and what it says to be a set of slots or a frame is one
 abbrev pub IsLogRow : LogRow → Type 0
 IsLogRow (Submit caller from verdict) = (caller < 2 ^ 8) × (from < 2 ^ 64) × IsLogVerdict verdict
 IsLogRow (Plan cycle mask) = (cycle < 2 ^ 64) × (mask < 2 ^ most_slots)
 IsLogRow (Look caller next) = (caller < 2 ^ 8) × (next < 2 ^ 64)
-IsLogRow (Open opened) = IsOpenRow opened
+IsLogRow (Open cycle mask l) = (cycle < 2 ^ 64) × (mask < 2 ^ most_slots) × (l < 2 ^ 32)
 IsLogRow (Frame timed) = (timed.start < 2 ^ 64) × (timed.len < 2 ^ 32) × IsFrame timed.frame
 IsLogRow (End next) = next < 2 ^ 64
 

@@ -131,7 +131,7 @@ open_of fields = if are_fields fields 4 then (do
   cycle ← number_at fields 1 (2 ^ 64 - 1)
   mask ← slots_at fields 2
   width ← number_at fields 3 (2 ^ 32 - 1)
-  Some (row.Open (record { cycle = cycle; mask = mask; width = width }))) else None
+  Some (row.Open cycle mask width)) else None
 
 abbrev pub frame_of : List (List ℕ) → Option LogRow
 frame_of fields = if are_fields fields 5 then (do

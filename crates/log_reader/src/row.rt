@@ -1,5 +1,8 @@
 //! The rows of a log as values.
 
+ghost use Rattle.std.specs.Prelude.{◌≡◌};
+ghost use Rattle.log_reader.specs.Row.{opened_row};
+
 use can_frame::TimedFrame;
 use requirement_table::Mask;
 
@@ -19,7 +22,7 @@ pub enum LogVerdict {
     Horizon { from: u64, walked: u64 },
 }
 
-/// The row of an opened cycle.
+/// What the row of an opened cycle says, as one value.
 #[derive(Clone, Copy, PartialEq, Eq, Debug)]
 pub struct OpenRow {
     /// The number of the cycle.
@@ -49,9 +52,11 @@ pub enum LogRow {
         caller: u8,
         next: u64,
     },
-    /// An opened cycle.
+    /// An opened cycle, its flagged slots, and the length `l` of its synchronous window, in bit times.
     Open {
-        opened: OpenRow,
+        cycle: u64,
+        mask: Mask,
+        l: u32,
     },
     /// A frame on the bus.
     Frame {
@@ -61,4 +66,17 @@ pub enum LogRow {
     End {
         next: u64,
     },
+}
+
+impl OpenRow {
+    /// The row that says this.
+    pub fn row(&self) -> LogRow
+        ensures row { result ≡ opened_row self.now }
+    {
+        LogRow::Open {
+            cycle: self.cycle,
+            mask: self.mask,
+            l: self.width,
+        }
+    }
 }

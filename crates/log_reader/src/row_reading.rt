@@ -6,7 +6,7 @@ ghost use Rattle.log_reader.specs.RowFields.{accepted_of, end_of, frame_of, hori
 ghost use Rattle.log_reader.specs.RowFields.{malformed_of, miss_of, number_at, open_of, passed_of};
 ghost use Rattle.log_reader.specs.RowFields.{plan_of, row_of, submit_of, two_numbers, until_of, verdict_of};
 
-use crate::row::{LogRow, LogVerdict, OpenRow};
+use crate::row::{LogRow, LogVerdict};
 use crate::row_fields::{frame, mask, number};
 use can_frame::TimedFrame;
 use csv::ByteRecord;
@@ -170,11 +170,9 @@ fn read_open(fields: &ByteRecord) -> Option<LogRow>
     }
     let cycle = number(fields, 1, u64::MAX)?;
     let mask = mask(fields, 2)?;
-    let width = number(fields, 3, WORD)?;
-    let width = width as u32;
-    Some(LogRow::Open {
-        opened: OpenRow { cycle, mask, width },
-    })
+    let l = number(fields, 3, WORD)?;
+    let l = l as u32;
+    Some(LogRow::Open { cycle, mask, l })
 }
 
 /// `frame,START,LEN,ID,DATA`

@@ -74,9 +74,9 @@ not-last : (next : ℕ) (line : LogRow) → is_end line ≡ false → row_line (
 not-last next (row.Submit caller from verdict) go is = let first : 101 ≡ 115 = ap (λ l. get_or l 0 0) is in absurd (omega (arith, first))
 not-last next (row.Plan cycle mask) go is = let first : 101 ≡ 112 = ap (λ l. get_or l 0 0) is in absurd (omega (arith, first))
 not-last next (row.Look caller cycle) go is = let first : 101 ≡ 108 = ap (λ l. get_or l 0 0) is in absurd (omega (arith, first))
-not-last next (row.Open opened) go is = let first : 101 ≡ 111 = ap (λ l. get_or l 0 0) is in absurd (omega (arith, first))
 not-last next (row.Frame timed) go is = let first : 101 ≡ 102 = ap (λ l. get_or l 0 0) is in absurd (omega (arith, first))
 not-last next (row.End other) go is = absurd (cc)
+not-last next _ go is = let first : 101 ≡ 111 = ap (λ l. get_or l 0 0) is in absurd (omega (arith, first))
 
 -- The first line of a text
 

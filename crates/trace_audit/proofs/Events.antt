@@ -21,6 +21,7 @@ use Rattle.live_master.specs.Callers.{is_called_by}
 use Rattle.live_steps.specs.Live.{acts_of}
 use Rattle.bus_trace.specs.EventRows.{told_at}
 use Rattle.bus_trace.specs.LogRows.{plan_told, verdict_told}
+use Rattle.log_reader.specs.Row.{opened_row}
 use Rattle.log_reader.specs.declared.row.LogRow.{LogRow}
 use Rattle.log_reader.specs.declared.row.LogRow.TheVariants as row
 use Rattle.log_reader.specs.declared.row.OpenRow.{OpenRow}
@@ -81,7 +82,7 @@ module _ (rules : Rules) (steps : List Step) (before : List Event) where
     same-as_look caller next (Open cycle mask) right asks right2 = absurd asks
 
     same-as_opening : (cycle mask : ℕ) (opened : OpenRow) (one : Event) → IsRight rules before (Open cycle mask)
-        → Asks steps before (row.Open opened) one → IsRight rules before one → Open cycle mask ≡ one
+        → Asks steps before (opened_row opened) one → IsRight rules before one → Open cycle mask ≡ one
     same-as_opening cycle mask opened (Submit number change since verdict trail) right asks right2 = absurd asks
     same-as_opening cycle mask opened (Look number next) right asks right2 = absurd asks
     same-as_opening cycle mask opened (Open later slots) right asks right2 =
@@ -160,30 +161,22 @@ asks-next : (steps : List Step) (before : List Event) (line : LogRow) (number : 
     → Asks steps before line (Submit number change since verdict trail) → IsNextAct steps before number (act.Ask change)
 asks-next steps before (row.Submit caller from told) number change since verdict trail asks =
     subst (λ n. IsNextAct steps before n (act.Ask change)) (sym asks.0) asks.2
-asks-next steps before (row.Plan cycle mask) number change since verdict trail asks = absurd asks
-asks-next steps before (row.Look caller next) number change since verdict trail asks = absurd asks
-asks-next steps before (row.Open opened) number change since verdict trail asks = absurd asks
-asks-next steps before (row.Frame timed) number change since verdict trail asks = absurd asks
-asks-next steps before (row.End next) number change since verdict trail asks = absurd asks
+asks-next steps before _ number change since verdict trail asks = absurd asks
 
 asks-look : (steps : List Step) (before : List Event) (line : LogRow) (number cycle : ℕ)
     → Asks steps before line (Look number cycle) → IsNextAct steps before number act.Look
-asks-look steps before (row.Submit caller from told) number cycle asks = absurd asks
-asks-look steps before (row.Plan planned mask) number cycle asks = absurd asks
 asks-look steps before (row.Look caller next) number cycle asks =
     subst (λ n. IsNextAct steps before n act.Look) (sym asks.0) asks.1
-asks-look steps before (row.Open opened) number cycle asks = absurd asks
-asks-look steps before (row.Frame timed) number cycle asks = absurd asks
-asks-look steps before (row.End next) number cycle asks = absurd asks
+asks-look steps before _ number cycle asks = absurd asks
 
 asks-opening : (steps : List Step) (before : List Event) (line : LogRow) (cycle mask : ℕ)
     → Asks steps before line (Open cycle mask) → next_of before < sum_by count_of steps
 asks-opening steps before (row.Submit caller from told) cycle mask asks = absurd asks
 asks-opening steps before (row.Plan planned slots) cycle mask asks = absurd asks
 asks-opening steps before (row.Look caller next) cycle mask asks = absurd asks
-asks-opening steps before (row.Open opened) cycle mask asks = asks
 asks-opening steps before (row.Frame timed) cycle mask asks = absurd asks
 asks-opening steps before (row.End next) cycle mask asks = absurd asks
+asks-opening steps before _ cycle mask asks = asks
 
 -- an event that some row asks for is one that its own first row asks for
 pub own-asks : (steps : List Step) (before : List Event) (asked : LogRow) (event : Event) (width : ℕ) (frames : List TimedFrame)
@@ -200,12 +193,10 @@ own-asks steps before asked (Open cycle mask) width frames line asks first =
 
 -- such a row is not that of an event, nor the last one of a log
 pub inner-no_event : (line : LogRow) → is_inner line ≡ true → is_event_row line ≡ false
-inner-no_event (row.Submit caller from verdict) is = absurd (cc)
 inner-no_event (row.Plan cycle mask) is = refl
-inner-no_event (row.Look caller next) is = absurd (cc)
-inner-no_event (row.Open opened) is = absurd (cc)
 inner-no_event (row.Frame timed) is = refl
 inner-no_event (row.End next) is = refl
+inner-no_event _ is = absurd (cc)
 
 -- whether an act, where there is one, is a change
 abbrev pub is_ask : Option Act → Bool

@@ -50,12 +50,10 @@ next_of-less history event = let more = next_of-push history event in omega (ari
 -- a row that asks for an event is that of an event
 asks-is_event : (steps : List Step) (before : List Event) (line : LogRow) (event : Event) → Asks steps before line event
     → is_event_row line ≡ true
-asks-is_event steps before (row.Submit caller from told) event asks = refl
 asks-is_event steps before (row.Plan cycle mask) event asks = absurd asks
-asks-is_event steps before (row.Look caller next) event asks = refl
-asks-is_event steps before (row.Open opened) event asks = refl
 asks-is_event steps before (row.Frame timed) event asks = absurd asks
 asks-is_event steps before (row.End next) event asks = absurd asks
+asks-is_event steps before _ event asks = refl
 
 -- and no more cycles are opened by it than the steps ask for
 still-few : (steps : List Step) (before : List Event) (line : LogRow) (event : Event) → Asks steps before line event
@@ -63,13 +61,12 @@ still-few : (steps : List Step) (before : List Event) (line : LogRow) (event : E
 still-few steps before line (Submit caller change from verdict trail) asks few =
     let more = next_of-push before (Submit caller change from verdict trail) in omega (arith, more, few)
 still-few steps before line (Look caller next) asks few = let more = next_of-push before (Look caller next) in omega (arith, more, few)
-still-few steps before (row.Open opened) (Open cycle mask) asks few =
-    let more = next_of-push before (Open cycle mask) in omega (arith, more, asks)
 still-few steps before (row.Submit caller from told) (Open cycle mask) asks few = absurd asks
 still-few steps before (row.Plan number slots) (Open cycle mask) asks few = absurd asks
 still-few steps before (row.Look caller next) (Open cycle mask) asks few = absurd asks
 still-few steps before (row.Frame timed) (Open cycle mask) asks few = absurd asks
 still-few steps before (row.End next) (Open cycle mask) asks few = absurd asks
+still-few steps before _ (Open cycle mask) asks few = let more = next_of-push before (Open cycle mask) in omega (arith, more, asks)
 
 -- the auditor after one of its rows has come
 abbrev one-more : Auditor → Auditor

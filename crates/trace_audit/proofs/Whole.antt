@@ -117,21 +117,13 @@ none-heard system steps requests audit auditing going = record {
 
 -- a row has the form of the last one of a log, or does not end it
 pub not-end_row : (line : LogRow) → ((next : ℕ) → line ≡ row.End next → ⊥) → is_end line ≡ false
-not-end_row (row.Submit caller from verdict) other = refl
-not-end_row (row.Plan cycle mask) other = refl
-not-end_row (row.Look caller next) other = refl
-not-end_row (row.Open opened) other = refl
-not-end_row (row.Frame timed) other = refl
 not-end_row (row.End next) other = absurd (other next refl)
+not-end_row _ other = refl
 
 -- a row that follows the row of its event does not end a log
 pub inner-not_end : (line : LogRow) → is_inner line ≡ true → is_end line ≡ false
-inner-not_end (row.Submit caller from verdict) inner = refl
-inner-not_end (row.Plan cycle mask) inner = refl
-inner-not_end (row.Look caller next) inner = refl
-inner-not_end (row.Open opened) inner = refl
-inner-not_end (row.Frame timed) inner = refl
 inner-not_end (row.End next) inner = absurd (cc)
+inner-not_end _ inner = refl
 
 module _ (steps : List Step) (old new : LogAudit) where
   -- a row that does not end a log

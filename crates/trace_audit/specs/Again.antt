@@ -50,13 +50,18 @@ pub record IsRerunOpened (system : System) (requests : List Request) (trace : Li
 
 -- the row asks for the event, after the events before it: it is of the row's kind and has the row's caller. A change or a
 -- look is the next act of its operator in the steps, a change is planned from the row's `from`, and an opening is one of
--- those that all counts together ask for
+-- those that all counts together ask for. The cases of the other rows stand first: what is left is the row of an opening
 abbrev pub Asks : List Step → List Event → LogRow → Event → Type 0
 Asks steps before (row.Submit caller from told) (Submit number change since verdict trail) =
     (number ≡ caller) × (since ≡ from) × IsNextAct steps before caller (act.Ask change)
+Asks steps before (row.Submit caller from told) _ = ⊥
 Asks steps before (row.Look caller next) (Look number cycle) = (number ≡ caller) × IsNextAct steps before caller act.Look
-Asks steps before (row.Open opened) (Open cycle mask) = next_of before < sum_by count_of steps
-Asks steps before line event = ⊥
+Asks steps before (row.Look caller next) _ = ⊥
+Asks steps before (row.Plan cycle mask) _ = ⊥
+Asks steps before (row.Frame timed) _ = ⊥
+Asks steps before (row.End next) _ = ⊥
+Asks steps before _ (Open cycle mask) = next_of before < sum_by count_of steps
+Asks steps before _ _ = ⊥
 
 -- the run has one event more, which the row asks for and the steps no longer have before it. The rows of the event can be
 -- told, with the window and the frames of the cycle that was opened last

@@ -23,12 +23,9 @@ use Rattle.trace_audit.specs.declared.log_audit.LogAudit.{LogAudit}
 
 -- whether a row is one of those that follow the row of their event
 abbrev pub is_inner : LogRow → Bool
-is_inner (row.Submit caller from verdict) = false
 is_inner (row.Plan cycle mask) = true
-is_inner (row.Look caller next) = false
-is_inner (row.Open opened) = false
 is_inner (row.Frame timed) = true
-is_inner (row.End next) = false
+is_inner _ = false
 
 -- the rows that are left of the last event
 abbrev pub left_of : Auditor → List LogRow
@@ -64,12 +61,8 @@ pub record TakesRow (steps : List Step) (old new : Auditor) (line : LogRow) (sta
 
 -- whether the row is the last one of a log
 abbrev pub is_end : LogRow → Bool
-is_end (row.Submit caller from verdict) = false
-is_end (row.Plan cycle mask) = false
-is_end (row.Look caller next) = false
-is_end (row.Open opened) = false
-is_end (row.Frame timed) = false
 is_end (row.End next) = true
+is_end _ = false
 
 -- the steps are answered by these events: all acts of each operator
 abbrev pub AnswersAllActs : List Step → List Event → Type 0

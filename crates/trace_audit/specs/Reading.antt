@@ -15,18 +15,17 @@ use Rattle.live_master.specs.Callers.{is_called_by}
 use Rattle.steps_file.specs.declared.steps.Step.{Step}
 use Rattle.live_steps.specs.Live.{acts_of}
 use Rattle.bus_trace.specs.LogRows.{verdict_told}
+use Rattle.log_reader.specs.Row.{opened_row}
 use Rattle.log_reader.specs.declared.row.LogRow.{LogRow}
 use Rattle.log_reader.specs.declared.row.LogRow.TheVariants as row
 use Rattle.log_reader.specs.declared.row.OpenRow.{OpenRow}
 
 -- whether a row is that of an event: a change, a look or the opening of a cycle
 abbrev pub is_event_row : LogRow → Bool
-is_event_row (row.Submit caller from verdict) = true
 is_event_row (row.Plan cycle mask) = false
-is_event_row (row.Look caller next) = true
-is_event_row (row.Open opened) = true
 is_event_row (row.Frame timed) = false
 is_event_row (row.End next) = false
+is_event_row _ = true
 
 -- the act is the next one that the steps have of this operator, behind those that it took in a history
 abbrev pub IsNextAct : List Step → List Event → ℕ → Act → Type 0
@@ -51,7 +50,7 @@ IsReadFrom rules steps before line (Submit caller change from verdict trail) =
 IsReadFrom rules steps before line (Look caller next) =
     (line ≡ row.Look caller next) × IsNextAct steps before caller act.Look
 IsReadFrom rules steps before line (Open cycle mask) =
-    (opened : OpenRow) × (line ≡ row.Open opened) × (opened.cycle ≡ cycle) × (opened.mask ≡ mask)
+    (opened : OpenRow) × (line ≡ opened_row opened) × (opened.cycle ≡ cycle) × (opened.mask ≡ mask)
 
 -- events, after those before them, are read from rows of events: one from each row, in their order
 abbrev pub AreReadFrom : Rules → List Step → List Event → List LogRow → List Event → Type 0

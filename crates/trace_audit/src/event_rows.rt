@@ -124,10 +124,8 @@ pub fn rows_of(
             rows_of_cycle(alloc, first, &[])
         }
         Event::Open { cycle, mask } => {
-            let first = LogRow::Open {
-                opened: open_told(*cycle, *mask, width),
-            };
-            rows_of_cycle(alloc, first, frames)
+            let opened = open_told(*cycle, *mask, width);
+            rows_of_cycle(alloc, opened.row(), frames)
         }
     }
 }

@@ -16,6 +16,7 @@ ghost use Rattle.master_core.specs.History.{IsLegal, IsRight, IsRightAnswer, nex
 ghost use Rattle.replay_run.specs.Progress.{EndsIn};
 ghost use Rattle.bus_trace.specs.EventRows.{told_at};
 ghost use Rattle.bus_trace.specs.Logged.{IsEventNear};
+ghost use Rattle.log_reader.specs.Row.{opened_row};
 ghost use Rattle.log_reader.specs.declared.row.LogRow.{LogRow};
 ghost use Rattle.log_reader.specs.declared.row.LogRow.TheVariants as row;
 ghost use Rattle.log_reader.specs.declared.row.LogVerdict.{LogVerdict};
@@ -303,10 +304,10 @@ impl Rerun {
         requires few { next_of self.old.master.history ≤ sum_by count_of steps.now }
         ensures on { (system : System) (requests : List Request) (trace : List TimedFrame) (opened : OpenRow)
             → IsAgain system requests trace self.old → IfOk result (λ followed. followed ≡ true
-            → IsRerunBroughtOn system steps.now requests trace self.old (row.Open opened) self.new) }
+            → IsRerunBroughtOn system steps.now requests trace self.old (opened_row opened) self.new) }
         ensures none { IfOk result (λ followed. followed ≡ false → ((opened : OpenRow) (event : Event)
             → IsRight self.old.master.rules self.old.master.history event
-            → Asks steps.now self.old.master.history (row.Open opened) event → ⊥)) }
+            → Asks steps.now self.old.master.history (opened_row opened) event → ⊥)) }
     {
         if self.master.next() >= self.ahead.cycles {
             return Ok(false);

@@ -4,7 +4,7 @@ ghost use Rattle.std.specs.Prelude.{◌≡◌, false, true};
 ghost use Rattle.log_reader.specs.declared.row.LogRow.TheVariants as row;
 
 use can_frame::{Frame, TimedFrame};
-use log_reader::{LogRow, LogVerdict, OpenRow};
+use log_reader::{LogRow, LogVerdict};
 use requirement_table::Mask;
 
 /// Whether two verdicts are the same.
@@ -116,13 +116,17 @@ fn is_look(line: &LogRow, caller: u8, next: u64) -> bool
     }
 }
 
-/// Whether a row is that of this opened cycle.
-fn is_opening(line: &LogRow, opened: &OpenRow) -> bool
-    ensures same { result ≡ true → line.now ≡ row.Open opened.now }
-    ensures differ { result ≡ false → line.now ≡ row.Open opened.now → ⊥ }
+/// Whether a row is that of this opening.
+fn is_opening(line: &LogRow, cycle: u64, mask: Mask, l: u32) -> bool
+    ensures same { result ≡ true → line.now ≡ row.Open cycle mask l }
+    ensures differ { result ≡ false → line.now ≡ row.Open cycle mask l → ⊥ }
 {
     match line {
-        LogRow::Open { opened: other } => other == opened,
+        LogRow::Open {
+            cycle: opened,
+            mask: slots,
+            l: width,
+        } => *opened == cycle && *slots == mask && *width == l,
         _ => false,
     }
 }
@@ -162,7 +166,7 @@ pub fn same_row(line: &LogRow, other: &LogRow) -> bool
         } => is_submit(line, *caller, *from, verdict),
         LogRow::Plan { cycle, mask } => is_plan(line, *cycle, *mask),
         LogRow::Look { caller, next } => is_look(line, *caller, *next),
-        LogRow::Open { opened } => is_opening(line, opened),
+        LogRow::Open { cycle, mask, l } => is_opening(line, *cycle, *mask, *l),
         LogRow::Frame { timed } => is_frame(line, timed),
         LogRow::End { next } => is_last(line, *next),
     }

@@ -1,5 +1,6 @@
 use Rattle.std.proofs.lemmas.Result.{IfOk-weaker}
 use Rattle.bus_trace.specs.LogRows.{open_told}
+use Rattle.log_reader.specs.Row.{opened_row}
 use Rattle.log_reader.specs.declared.row.LogRow.TheVariants as row
 use Rattle.log_reader.specs.declared.row.LogVerdict.TheVariants as told
 use Rattle.trace_audit.proofs.rerun.Rerun.follow_asked.Goals as goal
@@ -22,6 +23,6 @@ returns-in-Look c = record {
 pub returns-in-Opening : goal.returns-in-Opening
 returns-in-Opening c = record {
   on = λ system requests trace again.
-      IfOk-weaker c.follow_opening.result _ _ (λ followed on yes. (row.Open (open_told 0 0 0), on yes))
+      IfOk-weaker c.follow_opening.result _ _ (λ followed on yes. (opened_row (open_told 0 0 0), on yes))
       (c.follow_opening.ensures.on system requests trace (open_told 0 0 0) again);
 }
