@@ -1,4 +1,2 @@
 mod FetchLemmas
-mod LoadLemmas
-mod SourceLemmas
 mod TaskLemmas

@@ -22,37 +22,29 @@ use Rattle.asked_files.specs.declared.inputs.Inputs.{Inputs}
 use Rattle.asked_files.specs.declared.tasks.Job.{Job}
 use Rattle.asked_files.specs.declared.stopping.Stop.{Stop}
 use Rattle.asked_files.specs.declared.tasks.Task.{Task}
-use Rattle.asked_files.specs.Asked.{Asked, IsAskedFor, IsAskedOf, IsJob, IsLegalAsked, IsNotAsked, IsTask, asked_by, asked_of, asked_with, audit_of, check_of, choice_of, is_live, job_in, live_log_of, log_of, plan_of, poll_of, summary_of}
+use Rattle.asked_files.specs.Asked.{IsAskedFor, IsAskedOf, IsJob, IsNotAsked, IsTask, asked_by, asked_with, is_live, job_in}
 use Rattle.asked_files.specs.Inputs.{AreFilesRead, MayBeRead, nothing_read, owners_in}
-use Rattle.asked_files.specs.Loads.{AreAllRead, IsHeldUp, stop_of_words}
-use Rattle.asked_files.specs.Sources.{sources_of}
-use Rattle.asked_files.proofs.LoadLemmas.{barred-behind}
+use Rattle.asked_files.specs.Loads.{AreAllRead, IsHeldUp, sources_of, stop_of_words}
+use Rattle.asked_files.proofs.FetchLemmas.{barred-behind}
 
 -- what was read of a command gives what it asks for, which is legal
 record Gives (verb : Verb) (command : Command) (inputs : Inputs) : Type 0 where
-  pub asked_for : Asked
-  pub is : asked_by verb command (job_in inputs) inputs ≡ Some asked_for
-  pub legal : IsLegalAsked asked_for
-  pub live : is_live asked_for ≡ needs_threads verb
+  pub task : Task
+  pub is : asked_by verb command (job_in inputs) inputs ≡ Some task
+  pub legal : IsTask task
+  pub live : is_live task ≡ needs_threads verb
 
 -- after a system and steps were read
 abbrev begun : System → List Step → Inputs
 begun system steps = record nothing_read { system = Some system; steps = Some steps }
 
--- a system and steps were read, and such files are left of the command
-record IsBegun (left : List NamedSource) (inputs : Inputs) : Type 0 where
-  pub system : System
-  pub steps : List Step
-  pub is_system : IsSystem system
-  pub are_steps : AreLegalSteps steps
-  pub more : MayBeRead left (begun system steps) inputs
-
-begun-read : (left : List NamedSource) (inputs : Inputs)
-    → MayBeRead (file_of Source.System [] ∷ file_of Source.Steps [] ∷ left) nothing_read inputs → IsBegun left inputs
-begun-read left inputs (Content.System system, is, (Content.Steps steps, are, more)) =
-    record { system = system; steps = steps; is_system = is; are_steps = are; more = more }
-begun-read left inputs (Content.System system, is, (_, are, more)) = absurd are
-begun-read left inputs (_, is, more) = absurd is
+-- what follows where a system and steps were read first
+begun-read : {G : Type 0} (left : List NamedSource) (inputs : Inputs)
+    → ((system : System) (steps : List Step) → IsSystem system → AreLegalSteps steps → MayBeRead left (begun system steps) inputs → G)
+    → MayBeRead (file_of Source.System [] ∷ file_of Source.Steps [] ∷ left) nothing_read inputs → G
+begun-read left inputs gives (Content.System system, is, (Content.Steps steps, are, more)) = gives system steps is are more
+begun-read left inputs gives (Content.System system, is, (_, are, more)) = absurd are
+begun-read left inputs gives (_, is, more) = absurd is
 
 -- no requests are legal for any owners
 no-requests : (owners : List Owner) → AreLegal owners []
@@ -72,26 +64,8 @@ requests-read before after (Some name) none (Content.Requests requests, are, sam
     record { requests = Some requests; same = same; legal = are }
 requests-read before after (Some name) none (_, are, same) = absurd are
 
--- a run was read
-record IsJobRead (inputs : Inputs) : Type 0 where
-  pub job : Job
-  pub is : job_in inputs ≡ Some job
-  pub legal : IsJob job
-
-job-read : (name : Option (List ℕ)) (inputs : Inputs)
-    → MayBeRead (file_of Source.System [] ∷ file_of Source.Steps [] ∷ file_if Source.Requests name) nothing_read inputs
-    → IsJobRead inputs
-job-read name inputs read =
-    let run = begun-read (file_if Source.Requests name) inputs read in
-    let last = requests-read (begun run.system run.steps) inputs name refl run.more in
-    record {
-      job = record { system = run.system; steps = run.steps; requests = unwrap_or last.requests [] };
-      is = ap job_in last.same;
-      legal = record { system = run.is_system; steps = run.are_steps; requests = last.legal };
-    }
-
-module _ (command : Command) (inputs : Inputs) (system : System) (steps : List Step) (is_system : IsSystem system)
-    (are_steps : AreLegalSteps steps) where
+module _ (command : Command) (inputs : Inputs) (name : Option (List ℕ)) (system : System) (steps : List Step)
+    (is_system : IsSystem system) (are_steps : AreLegalSteps steps) where
   -- the run with no requests
   abbrev alone : Job
   alone = record { system = system; steps = steps; requests = [] }
@@ -101,7 +75,7 @@ module _ (command : Command) (inputs : Inputs) (system : System) (steps : List S
 
   check-read : MayBeRead (file_of Source.Plan [] ∷ []) (begun system steps) inputs → Gives Verb.Check command inputs
   check-read (Content.Plan plan, is, same) = record {
-    asked_for = check_of alone plan;
+    task = Task.Check alone plan;
     is = ap (λ it. asked_by Verb.Check command (job_in it) it) same;
     legal = (alone-legal, is);
     live = refl;
@@ -110,7 +84,7 @@ module _ (command : Command) (inputs : Inputs) (system : System) (steps : List S
 
   elastic-read : MayBeRead (file_of Source.Wishes [] ∷ []) (begun system steps) inputs → Gives Verb.Elastic command inputs
   elastic-read (Content.Wish wish, is, same) = record {
-    asked_for = choice_of alone wish;
+    task = Task.Choice alone wish;
     is = ap (λ it. asked_by Verb.Elastic command (job_in it) it) same;
     legal = (alone-legal, is);
     live = refl;
@@ -119,72 +93,70 @@ module _ (command : Command) (inputs : Inputs) (system : System) (steps : List S
 
   poll-read : MayBeRead (file_of Source.Streams [] ∷ []) (begun system steps) inputs → Gives Verb.Poll command inputs
   poll-read (Content.Streams streams, are, same) = record {
-    asked_for = poll_of alone streams;
+    task = Task.Poll alone streams;
     is = ap (λ it. asked_by Verb.Poll command (job_in it) it) same;
     legal = (alone-legal, are);
     live = refl;
   }
   poll-read (_, is, same) = absurd is
 
-  audit-read : (name : Option (List ℕ)) → MayBeRead (file_of Source.Log [] ∷ file_if Source.Requests name) (begun system steps) inputs
-      → Gives Verb.Audit command inputs
-  audit-read name (Content.Log text, is, more) =
+  audit-read : MayBeRead (file_of Source.Log [] ∷ file_if Source.Requests name) (begun system steps) inputs → Gives Verb.Audit command inputs
+  audit-read (Content.Log text, is, more) =
       let last = requests-read (record (begun system steps) { log = Some text }) inputs name refl more in
       record {
-        asked_for = audit_of (record { system = system; steps = steps; requests = unwrap_or last.requests [] }) text;
+        task = Task.Audit (record { system = system; steps = steps; requests = unwrap_or last.requests [] }) text;
         is = ap (λ it. asked_by Verb.Audit command (job_in it) it) last.same;
         legal = (record { system = is_system; steps = are_steps; requests = last.legal }, is);
         live = refl;
       }
-  audit-read name (_, is, more) = absurd is
+  audit-read (_, is, more) = absurd is
 
--- a command that asks for a run alone
-run-gives : (verb : Verb) (command : Command) (inputs : Inputs) (name : Option (List ℕ)) (ask : Job → Asked)
-    → ((job : Job) → asked_by verb command (Some job) inputs ≡ Some (ask job)) → ((job : Job) → IsJob job → IsLegalAsked (ask job))
-    → ((job : Job) → is_live (ask job) ≡ needs_threads verb)
-    → MayBeRead (file_of Source.System [] ∷ file_of Source.Steps [] ∷ file_if Source.Requests name) nothing_read inputs
-    → Gives verb command inputs
-run-gives verb command inputs name ask asks legal live read =
-    let run = job-read name inputs read in
-    record {
-      asked_for = ask run.job;
-      is = ap (λ job. asked_by verb command job inputs) run.is ∙ asks run.job;
-      legal = legal run.job run.legal;
-      live = live run.job;
-    }
+  -- a command that asks for a run alone
+  run-read : (verb : Verb) (ask : Job → Task) → ((job : Job) → asked_by verb command (Some job) inputs ≡ Some (ask job))
+      → ((job : Job) → IsJob job → IsTask (ask job)) → ((job : Job) → is_live (ask job) ≡ needs_threads verb)
+      → MayBeRead (file_if Source.Requests name) (begun system steps) inputs → Gives verb command inputs
+  run-read verb ask asks legal live more =
+      let last = requests-read (begun system steps) inputs name refl more in
+      let job : Job = record { system = system; steps = steps; requests = unwrap_or last.requests [] } in
+      record {
+        task = ask job;
+        is = ap (λ it. asked_by verb command (job_in it) inputs) last.same ∙ asks job;
+        legal = legal job (record { system = is_system; steps = are_steps; requests = last.legal });
+        live = live job;
+      }
 
 gives-row : (verb : Verb) (rows : Found) (inputs : Inputs)
     → MayBeRead (command_meant verb rows).files nothing_read inputs → Gives verb (command_meant verb rows) inputs
 unfolding command_meant
 gives-row Verb.Replay rows inputs read =
     let command = command_meant Verb.Replay rows in
-    run-gives Verb.Replay command inputs (word_if (codes "requests") rows) (λ job. log_of job command.tail command.report)
-    (λ job. refl) (λ job is. is) (λ job. refl) read
+    let name = word_if (codes "requests") rows in
+    begun-read (file_if Source.Requests name) inputs (λ system steps is are. run-read command inputs name system steps is are Verb.Replay
+    (λ job. Task.Log job command.tail command.report) (λ job. refl) (λ job legal. legal) (λ job. refl)) read
 gives-row Verb.Admit rows inputs read =
-    run-gives Verb.Admit (command_meant Verb.Admit rows) inputs None (λ job. plan_of job) (λ job. refl) (λ job is. is)
-    (λ job. refl) read
+    begun-read [] inputs (λ system steps is are. run-read (command_meant Verb.Admit rows) inputs None system steps is are Verb.Admit
+    (λ job. Task.Table job) (λ job. refl) (λ job legal. legal) (λ job. refl)) read
 gives-row Verb.Check rows inputs read =
-    let run = begun-read (file_of Source.Plan [] ∷ []) inputs read in
-    check-read (command_meant Verb.Check rows) inputs run.system run.steps run.is_system run.are_steps run.more
+    begun-read (file_of Source.Plan [] ∷ []) inputs (check-read (command_meant Verb.Check rows) inputs None) read
 gives-row Verb.Generate rows inputs read =
-    record { asked_for = summary_of (command_meant Verb.Generate rows).number; is = refl; legal = tt; live = refl }
+    record { task = Task.Summary (command_meant Verb.Generate rows).number; is = refl; legal = tt; live = refl }
 gives-row Verb.Live rows inputs read =
     let command = command_meant Verb.Live rows in
-    run-gives Verb.Live command inputs (word_if (codes "requests") rows) (λ job. live_log_of job command.report)
-    (λ job. refl) (λ job is. is) (λ job. refl) read
+    let name = word_if (codes "requests") rows in
+    begun-read (file_if Source.Requests name) inputs (λ system steps is are. run-read command inputs name system steps is are Verb.Live
+    (λ job. Task.Live job command.report) (λ job. refl) (λ job legal. legal) (λ job. refl)) read
 gives-row Verb.Audit rows inputs read =
     let name = word_if (codes "requests") rows in
-    let run = begun-read (file_of Source.Log [] ∷ file_if Source.Requests name) inputs read in
-    audit-read (command_meant Verb.Audit rows) inputs run.system run.steps run.is_system run.are_steps name run.more
+    begun-read (file_of Source.Log [] ∷ file_if Source.Requests name) inputs (audit-read (command_meant Verb.Audit rows) inputs name) read
 gives-row Verb.Handover rows inputs read =
-    run-gives Verb.Handover (command_meant Verb.Handover rows) inputs (word_if (codes "requests") rows)
-    (λ job. log_of job None false) (λ job. refl) (λ job is. is) (λ job. refl) read
+    let command = command_meant Verb.Handover rows in
+    let name = word_if (codes "requests") rows in
+    begun-read (file_if Source.Requests name) inputs (λ system steps is are. run-read command inputs name system steps is are
+    Verb.Handover (λ job. Task.Handover job command.number) (λ job. refl) (λ job legal. legal) (λ job. refl)) read
 gives-row Verb.Poll rows inputs read =
-    let run = begun-read (file_of Source.Streams [] ∷ []) inputs read in
-    poll-read (command_meant Verb.Poll rows) inputs run.system run.steps run.is_system run.are_steps run.more
+    begun-read (file_of Source.Streams [] ∷ []) inputs (poll-read (command_meant Verb.Poll rows) inputs None) read
 gives-row Verb.Elastic rows inputs read =
-    let run = begun-read (file_of Source.Wishes [] ∷ []) inputs read in
-    elastic-read (command_meant Verb.Elastic rows) inputs run.system run.steps run.is_system run.are_steps run.more
+    begun-read (file_of Source.Wishes [] ∷ []) inputs (elastic-read (command_meant Verb.Elastic rows) inputs None) read
 
 -- so does what was read of a command of the table
 gives : (verb : Verb) (command : Command) (inputs : Inputs) → IsOfRow verb command
@@ -198,16 +170,16 @@ module _ (command : Command) (told : Option NamedFiles) (before behind : ℕ) wh
   -- all of them were read, and this is its task
   pub record IsLoaded (task : Task) : Type 0 where
     pub legal : IsTask task
-    pub threads : is_live (asked_of task) ≡ needs_threads command.verb
-    pub asked : IsAskedFor (Some command) told before behind (asked_of task)
+    pub threads : is_live task ≡ needs_threads command.verb
+    pub asked : IsAskedFor (Some command) told before behind task
 
   pub loaded : (inputs : Inputs) → IsOfRow command.verb command → AreAllRead told command.files before behind inputs
-      → (task : Task) → Some (asked_of task) ≡ asked_with command inputs → IsLoaded task
+      → (task : Task) → Some task ≡ asked_with command inputs → IsLoaded task
   loaded inputs row all task is =
       let given = gives command.verb command inputs row all.may in
-      let same : asked_of task ≡ given.asked_for = same_Some (asked_of task) given.asked_for (is ∙ given.is) in
+      let same : task ≡ given.task = same_Some task given.task (is ∙ given.is) in
       record {
-        legal = subst IsLegalAsked (sym same) given.legal;
+        legal = subst IsTask (sym same) given.legal;
         threads = ap is_live same ∙ given.live;
         asked = record {
           asks = λ files tells. record { inputs = Ok inputs; read = all.read files tells; is = ap (option_map Ok) (sym is) };
@@ -221,7 +193,7 @@ module _ (command : Command) (told : Option NamedFiles) (before behind : ℕ) wh
       → None ≡ asked_with command inputs → ⊥
   never-none inputs row all none =
       let given = gives command.verb command inputs row all.may in
-      let both : ◌≡◌ {A = Option Asked} None (Some given.asked_for) = none ∙ given.is in
+      let both : ◌≡◌ {A = Option Task} None (Some given.task) = none ∙ given.is in
       cc
 
   -- one of them stopped it
@@ -229,8 +201,8 @@ module _ (command : Command) (told : Option NamedFiles) (before behind : ℕ) wh
       → IsHeldUp ⊥ rose told (λ files. AreFilesRead files command.files nothing_read) command.files before behind why
       → IsNotAsked (Some command) rose told before behind why
   not-loaded rose why is = record {
-    barred = barred-behind (Some command ≡ None) rose rose told told (λ files. AreFilesRead files command.files nothing_read)
-        (λ files. IsAskedOf files command) (λ fault. fault) refl
+    barred = barred-behind (Some command ≡ None) rose rose told (λ files. AreFilesRead files command.files nothing_read)
+        (λ files. IsAskedOf files command) (λ fault. fault)
         (λ files tells stopped read. record { inputs = Err stopped; read = read; is = refl }) why is.barred;
     fetched = is.fetched;
   }

@@ -2,4 +2,3 @@ pub mod Inputs
 pub mod Asked
 pub mod Loads
 pub mod Refusals
-pub mod Sources

@@ -1,18 +1,81 @@
--- What loading does to a shelf, and what it says to the calls above it.
-use Rattle.std.specs.Prelude.{◌≡◌, ℕ, ◌+◌, ◌≤◌, ⊤, ◌⊎◌, List, Option, Result, Ok, Err, IsSome}
+-- The files that the words of a call name, in the order in which they are fetched, and at which of them a call stopped.
+-- What loading does to a shelf, and what it says to the calls above it. Only fetches are counted: a shelf tells no names
+-- of what was fetched.
+use Rattle.std.specs.Prelude.{◌≡◌, ℕ, ⊤, ◌⊎◌, List, [], ◌∷◌, ◌++◌, fold, Option, None, Some, Ok, ◌+◌, ◌≤◌, Result, Err, IsSome}
 use Rattle.std.specs.Option.{ForSome}
-use Rattle.ftt_io.specs.Counts.{Rose}
-use Rattle.ftt_io.specs.Files.{NamedFiles}
-use Rattle.command_words.specs.Words.{NamedSource}
+use Rattle.ftt_io.specs.Counts.{next_count}
+use Rattle.ftt_io.specs.Files.{IsAbsent, NamedFiles}
+use Rattle.command_words.specs.Words.{Command, NamedSource}
 use Rattle.command_words.specs.declared.table.Source.{Source}
+use Rattle.asked_files.specs.declared.inputs.Inputs.{Inputs}
+use Rattle.asked_files.specs.declared.stopping.Refusal.{Refusal}
+use Rattle.asked_files.specs.declared.stopping.Stop.{Stop}
+use Rattle.asked_files.specs.declared.stopping.Stop.TheVariants.{Words, Input, Read, Write, Memory}
+use Rattle.asked_files.specs.Inputs.{AreFilesRead, nothing_read, IsMeant, MayBeRead, MayHold}
 use Rattle.command_words.specs.declared.words.WordsFault.{WordsFault}
 use Rattle.command_words.specs.declared.words.WordsFault.TheVariants as words
 use Rattle.asked_files.specs.declared.inputs.Content.{Content}
-use Rattle.asked_files.specs.declared.inputs.Inputs.{Inputs}
-use Rattle.asked_files.specs.declared.stopping.Stop.{Stop}
-use Rattle.asked_files.specs.declared.stopping.Stop.TheVariants.{Words, Input, Read, Write, Memory}
-use Rattle.asked_files.specs.Inputs.{AreFilesRead, IsMeant, MayBeRead, MayHold, nothing_read}
-use Rattle.asked_files.specs.Sources.{IsStoppedAt, count_behind, source_of}
+
+-- the files that the words of a command name
+abbrev pub sources_of : Option Command → List NamedSource
+sources_of None = []
+sources_of (Some command) = command.files
+
+-- the count of fetches after these files were fetched, each once
+abbrev pub count_behind : {A : Type 0} → ℕ → List A → ℕ
+count_behind count fetched = fold (λ counted file. next_count counted) count fetched
+
+-- the file that a refusal speaks of
+abbrev pub source_of : Refusal → Source
+source_of (Refusal.TooLong source) = source
+source_of (Refusal.System fault) = Source.System
+source_of (Refusal.Steps fault) = Source.Steps
+source_of (Refusal.Requests fault) = Source.Requests
+source_of (Refusal.Plan line) = Source.Plan
+source_of Refusal.LaterPlan = Source.Plan
+source_of (Refusal.Wishes fault) = Source.Wishes
+source_of (Refusal.Log number) = Source.Log
+source_of (Refusal.Streams fault) = Source.Streams
+
+-- where the files are told, each of these was there with a text of its format, read one after the other
+abbrev pub WereRead : Option NamedFiles → List NamedSource → Type 0
+WereRead told fetched = ForSome told (λ files. (inputs : Inputs) × AreFilesRead files fetched nothing_read (Ok inputs))
+
+-- A call may stop for this reason at this file, where `told` are the files, where they are told, and `rose` says that
+-- the shelf's count of faults rose. The file is refused; or it could not be read, and then the shelf failed or has no
+-- such file; or memory ran out
+abbrev pub StopsAtFile : Option NamedFiles → Type 0 → NamedSource → Stop → Type 0
+StopsAtFile told rose file (Input refusal) = source_of refusal ≡ file.source
+StopsAtFile told rose file Read = rose ⊎ IsAbsent told file.name
+StopsAtFile told rose file Memory = ⊤
+StopsAtFile told rose file _ = ⊥
+
+-- of these files all but the last were read, and a call may stop for this reason at the last
+pub record EndsAt (told : Option NamedFiles) (rose : Type 0) (why : Stop) (fetched : List NamedSource) : Type 0 where
+  pub front : List NamedSource
+  pub last : NamedSource
+  pub parts : fetched ≡ front ++ last ∷ []
+  pub before : WereRead told front
+  pub here : StopsAtFile told rose last why
+
+-- a call that stopped for this reason made as many fetches as these files are: none where its words are no command's,
+-- and none behind the first file that is refused or could not be read. Where memory ran out it made any number
+abbrev pub StoppedBehind : Option NamedFiles → Type 0 → Stop → List NamedSource → Type 0
+StoppedBehind told rose Words fetched = fetched ≡ []
+StoppedBehind told rose (Input refusal) fetched = EndsAt told rose (Input refusal) fetched
+StoppedBehind told rose Read fetched = EndsAt told rose Read fetched
+StoppedBehind told rose Write fetched = ⊥
+StoppedBehind told rose Memory fetched = ⊤
+
+-- of the files that a call was to fetch, it had made as many fetches as some first ones are when it stopped for this
+-- reason
+pub record IsStoppedAt (told : Option NamedFiles) (rose : Type 0) (sources : List NamedSource) (old new : ℕ)
+    (why : Stop) : Type 0 where
+  pub fetched : List NamedSource
+  pub rest : List NamedSource
+  pub parts : sources ≡ fetched ++ rest
+  pub counted : new ≡ count_behind old fetched
+  pub behind : StoppedBehind told rose why fetched
 
 -- what loading did to a shelf, by what it shows before and after: its files stay, so many fetches were made at most,
 -- and no count fell
@@ -38,11 +101,6 @@ IsBarred none rose told IsFor (Input refusal) = ForSome told (λ files. IsFor fi
 IsBarred none rose told IsFor Read = (rose ⊎ IsSome told) × ForSome told (λ files. rose ⊎ IsFor files (Err Read))
 IsBarred none rose told IsFor Write = ⊥
 IsBarred none rose told IsFor Memory = ⊤
-
--- the files, which are not read with any words, give nothing for this reason
-abbrev pub Bars : {S A : Type 0} → (S → Option NamedFiles) → (S → ℕ) → S → S → (NamedFiles → Result A Stop → Type 0)
-    → Stop → Type 0
-Bars told_files faults old new IsFor why = IsBarred ⊥ (Rose (faults old) (faults new)) (told_files old) IsFor why
 
 -- a call stops for this reason, with so many fetches: of these files it fetched none, where its words ask for nothing,
 -- or those up to the first that is refused or could not be read

@@ -3,11 +3,10 @@
 ghost use Rattle.std.specs.Prelude.{◌≡◌, IfOk, IfErr, Ok, map, length};
 ghost use Rattle.std.specs.Option.{ForSome};
 ghost use Rattle.ftt_io.specs.Counts.{Rose, next_count};
-ghost use Rattle.asked_files.specs.Inputs.{AreFilesRead, IsFileHeld, MayHold, nothing_read, within_limit};
-ghost use Rattle.asked_files.specs.Loads.{AreAllRead, Bars, Fetches, IsHeldUp};
+ghost use Rattle.asked_files.specs.Inputs.{AreFilesRead, IsFileHeld, MayHold, nothing_read};
+ghost use Rattle.asked_files.specs.Loads.{AreAllRead, Fetches, IsBarred, IsHeldUp, StopsAtFile};
 ghost use Rattle.command_words.specs.Words.{file_of};
 ghost use Rattle.command_words.specs.WordsRead.{named};
-ghost use Rattle.asked_files.specs.Sources.{StopsOn};
 
 use crate::inputs::{Content, Inputs};
 use crate::reading::read_content;
@@ -15,30 +14,6 @@ use crate::stopping::{Refusal, Stop};
 use command_words::{NamedFile, Source};
 use ftt_io::{FetchFault, Shelf};
 use std::alloc::Global;
-
-/// Fetches a file's bytes.
-fn fetch_file<S: Shelf>(
-    alloc: Global,
-    shelf: &mut S,
-    source: Source,
-    name: &str,
-) -> Result<Vec<u8>, Stop>
-    ensures fetched { Fetches S.told_files S.fetches S.faults shelf.old shelf.new 1 }
-    ensures once { S.fetches shelf.new ≡ next_count (S.fetches shelf.old) }
-    ensures at { IfErr result (StopsOn S.told_files S.faults shelf.old shelf.new
-        (file_of source name.now)) }
-    ensures ok { IfOk result (λ bytes. ForSome (S.told_files shelf.old)
-        (λ files. within_limit source (files name.now) ≡ Ok bytes.items)) }
-    ensures stop { IfErr result (Bars S.told_files S.faults shelf.old shelf.new
-        (λ files read. read ≡ within_limit source (files name.now))) }
-{
-    match shelf.fetch(alloc, name, source.limit()) {
-        Ok(bytes) => Ok(bytes),
-        Err(FetchFault::Failed) => Err(Stop::Read),
-        Err(FetchFault::TooLong) => Err(Stop::Input(Refusal::TooLong(source))),
-        Err(FetchFault::Memory) => Err(Stop::Memory),
-    }
-}
 
 /// Fetches and reads a file, after what was read before it.
 fn fetch_content<S: Shelf>(
@@ -50,16 +25,20 @@ fn fetch_content<S: Shelf>(
 ) -> Result<Content, Stop>
     ensures fetched { Fetches S.told_files S.fetches S.faults shelf.old shelf.new 1 }
     ensures once { S.fetches shelf.new ≡ next_count (S.fetches shelf.old) }
-    ensures at { IfErr result (StopsOn S.told_files S.faults shelf.old shelf.new
+    ensures at { IfErr result (StopsAtFile (S.told_files shelf.old) (Rose (S.faults shelf.old) (S.faults shelf.new))
         (file_of source name.now)) }
     ensures may { IfOk result (MayHold source before.now) }
     ensures ok { IfOk result (λ content. ForSome (S.told_files shelf.old)
         (λ files. IsFileHeld files (file_of source name.now) before.now (Ok content))) }
-    ensures stop { IfErr result (Bars S.told_files S.faults shelf.old shelf.new
-        (λ files. IsFileHeld files (file_of source name.now) before.now)) }
+    ensures stop { IfErr result (IsBarred ⊥ (Rose (S.faults shelf.old) (S.faults shelf.new))
+        (S.told_files shelf.old) (λ files. IsFileHeld files (file_of source name.now) before.now)) }
 {
-    let bytes = fetch_file(alloc, shelf, source, name)?;
-    read_content(alloc, source, before, bytes)
+    match shelf.fetch(alloc, name, source.limit()) {
+        Ok(bytes) => read_content(alloc, source, before, bytes),
+        Err(FetchFault::Failed) => Err(Stop::Read),
+        Err(FetchFault::TooLong) => Err(Stop::Input(Refusal::TooLong(source))),
+        Err(FetchFault::Memory) => Err(Stop::Memory),
+    }
 }
 
 /// Fetches and reads these files, one after the other.

@@ -1,39 +1,17 @@
 //! What is asked for, from the words of a call and the bytes of the files that they name.
 
-ghost use Rattle.std.specs.Prelude.{◌≡◌, ◌⊎◌, IfOk, IfErr, IsErrOf, None, Some, map, string_bytes, length};
+ghost use Rattle.std.specs.Prelude.{◌≡◌, ◌⊎◌, IfOk, IfErr, IsErrOf, None, map, string_bytes, length};
 ghost use Rattle.ftt_io.specs.Counts.{Rose};
-ghost use Rattle.command_words.specs.Words.{IsOfRow, command_by, needs_threads};
-ghost use Rattle.command_words.specs.WordsRead.{command_read};
-ghost use Rattle.asked_files.specs.Asked.{IsAskedFor, IsNotAsked, IsTask, asked_of, is_live};
-ghost use Rattle.asked_files.specs.Loads.{Fetches};
-ghost use Rattle.asked_files.specs.Sources.{sources_of};
+ghost use Rattle.command_words.specs.Words.{command_by};
+ghost use Rattle.asked_files.specs.Asked.{IsAskedFor, IsNotAsked, IsTask, is_live};
+ghost use Rattle.asked_files.specs.Loads.{Fetches, sources_of};
 
 use crate::fetching::fetch_all;
 use crate::stopping::Stop;
 use crate::tasks::{Task, task_of};
-use command_words::{Command, command_in};
+use command_words::command_in;
 use ftt_io::Shelf;
 use std::alloc::Global;
-
-/// The task that a command asks for.
-fn load_command<S: Shelf>(alloc: Global, shelf: &mut S, command: &Command<'_>) -> Result<Task, Stop>
-    requires row { IsOfRow command.now.verb (command_read command.now) }
-    ensures fetched { Fetches S.told_files S.fetches S.faults shelf.old shelf.new
-        (length (command_read command.now).files) }
-    ensures task { IfOk result IsTask }
-    ensures threads { IfOk result (λ task. is_live (asked_of task) ≡ needs_threads command.now.verb) }
-    ensures asked { IfOk result (λ task. IsAskedFor (Some (command_read command.now)) (S.told_files shelf.old)
-        (S.fetches shelf.old) (S.fetches shelf.new) (asked_of task)) }
-    ensures stop { IfErr result (IsNotAsked (Some (command_read command.now))
-        (Rose (S.faults shelf.old) (S.faults shelf.new)) (S.told_files shelf.old)
-        (S.fetches shelf.old) (S.fetches shelf.new)) }
-{
-    let inputs = fetch_all(alloc, shelf, command.files.as_slice())?;
-    match task_of(alloc, command, inputs) {
-        Some(task) => Ok(task),
-        None => unreachable!(),
-    }
-}
 
 /// The task that the words of a call ask for, of what is carried out by threads or of the rest.
 pub fn load<S: Shelf>(
@@ -45,9 +23,9 @@ pub fn load<S: Shelf>(
     ensures fetched { Fetches S.told_files S.fetches S.faults shelf.old shelf.new
         (length (sources_of (command_by threads (map string_bytes words.now)))) }
     ensures task { IfOk result IsTask }
-    ensures threads { IfOk result (λ task. is_live (asked_of task) ≡ threads) }
-    ensures asked { IfOk result (λ task. IsAskedFor (command_by threads (map string_bytes words.now))
-        (S.told_files shelf.old) (S.fetches shelf.old) (S.fetches shelf.new) (asked_of task)) }
+    ensures threads { IfOk result (λ task. is_live task ≡ threads) }
+    ensures asked { IfOk result (IsAskedFor (command_by threads (map string_bytes words.now))
+        (S.told_files shelf.old) (S.fetches shelf.old) (S.fetches shelf.new)) }
     ensures stop { IfErr result (IsNotAsked (command_by threads (map string_bytes words.now))
         (Rose (S.faults shelf.old) (S.faults shelf.new)) (S.told_files shelf.old)
         (S.fetches shelf.old) (S.fetches shelf.new)) }
@@ -55,5 +33,9 @@ pub fn load<S: Shelf>(
         → IsErrOf result Stop.Words ⊎ IsErrOf result Stop.Memory }
 {
     let command = command_in(alloc, threads, words)?;
-    load_command(alloc, shelf, &command)
+    let inputs = fetch_all(alloc, shelf, command.files.as_slice())?;
+    match task_of(alloc, &command, inputs) {
+        Some(task) => Ok(task),
+        None => unreachable!(),
+    }
 }

@@ -1,8 +1,8 @@
 //! What a command asks for with what was read of its files.
 
-ghost use Rattle.std.specs.Prelude.{◌≡◌, None, Some, option_map};
+ghost use Rattle.std.specs.Prelude.{◌≡◌, Some};
 ghost use Rattle.command_words.specs.WordsRead.{command_read};
-ghost use Rattle.asked_files.specs.Asked.{asked_by, asked_of, asked_with, job_of};
+ghost use Rattle.asked_files.specs.Asked.{asked_by, asked_with, job_of};
 
 use crate::inputs::{Inputs, LogText, StreamList};
 use command_words::{Command, Verb};
@@ -66,17 +66,6 @@ fn job_of(
     })
 }
 
-/// What a command asks for with no run.
-fn task_alone(command: &Command<'_>) -> Option<Task>
-    ensures asked { (inputs : Inputs) → option_map asked_of result
-        ≡ asked_by command.now.verb (command_read command.now) None inputs }
-{
-    match command.verb {
-        Verb::Generate => Some(Task::Summary(command.number)),
-        _ => None,
-    }
-}
-
 /// What a command asks for of a run, with the rest of what was read.
 fn task_of_run(
     command: &Command<'_>,
@@ -86,9 +75,9 @@ fn task_of_run(
     log: Option<LogText>,
     streams: Option<StreamList>,
 ) -> Option<Task>
-    ensures asked { (inputs : Inputs) → plan ≡ inputs.plan → wish ≡ inputs.wish → log ≡ inputs.log
-        → streams ≡ inputs.streams → option_map asked_of result
-        ≡ asked_by command.now.verb (command_read command.now) (Some job) inputs }
+    ensures asked { (inputs : Inputs) → (command.now.verb ≡ Verb.Generate → ⊥) → plan ≡ inputs.plan
+        → wish ≡ inputs.wish → log ≡ inputs.log → streams ≡ inputs.streams
+        → result ≡ asked_by command.now.verb (command_read command.now) (Some job) inputs }
 {
     match command.verb {
         Verb::Replay => Some(Task::Log(job, command.tail, command.report)),
@@ -97,7 +86,7 @@ fn task_of_run(
             Some(plan) => Some(Task::Check(job, plan)),
             None => None,
         },
-        Verb::Generate => task_alone(command),
+        Verb::Generate => None,
         Verb::Live => Some(Task::Live(job, command.report)),
         Verb::Audit => match log {
             Some(log) => Some(Task::Audit(job, log)),
@@ -117,7 +106,7 @@ fn task_of_run(
 
 /// What a command asks for with what was read of its files; nothing where one that it needs is missing.
 pub fn task_of(alloc: Global, command: &Command<'_>, inputs: Inputs) -> Option<Task>
-    ensures asked { option_map asked_of result ≡ asked_with (command_read command.now) inputs }
+    ensures asked { result ≡ asked_with (command_read command.now) inputs }
 {
     let Inputs {
         system,
@@ -128,8 +117,11 @@ pub fn task_of(alloc: Global, command: &Command<'_>, inputs: Inputs) -> Option<T
         log,
         streams,
     } = inputs;
-    match job_of(alloc, system, steps, requests) {
-        Some(job) => task_of_run(command, job, plan, wish, log, streams),
-        None => task_alone(command),
+    match command.verb {
+        Verb::Generate => Some(Task::Summary(command.number)),
+        _ => match job_of(alloc, system, steps, requests) {
+            Some(job) => task_of_run(command, job, plan, wish, log, streams),
+            None => None,
+        },
     }
 }

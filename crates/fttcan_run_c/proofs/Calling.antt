@@ -7,8 +7,7 @@ use Rattle.ftt_io.specs.Counts.{Rose}
 use Rattle.ftt_io.specs.Files.{NamedFiles}
 use Rattle.command_words.specs.Words.{Command, NamedSource, command_of}
 use Rattle.asked_files.specs.Asked.{IsAskedBy, IsNotAsked}
-use Rattle.asked_files.specs.Loads.{IsBarred}
-use Rattle.asked_files.specs.Sources.{StoppedBehind, sources_of}
+use Rattle.asked_files.specs.Loads.{IsBarred, StoppedBehind, sources_of}
 use Rattle.asked_files.specs.declared.stopping.Refusal.{Refusal}
 use Rattle.asked_files.specs.declared.stopping.Stop.{Stop}
 use Rattle.asked_files.specs.declared.stopping.Stop.TheVariants.{Words, Input, Read, Write, Memory}

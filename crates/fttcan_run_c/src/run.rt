@@ -1,7 +1,7 @@
 //! A whole command over memory.
 
 ghost use Rattle.std.specs.Prelude.{◌≡◌, ◌≢◌, ◌≤◌, true, IfOk, length, min, take, drop};
-ghost use Rattle.fttcan_top.specs.Status.{code_of};
+ghost use Rattle.fttcan_top.specs.Output.{code_of};
 ghost use Rattle.fttcan_top.specs.declared.status.Status.{Status};
 ghost use Rattle.fttcan_run_c.specs.Called.{IsCalled, files_of, words_of};
 

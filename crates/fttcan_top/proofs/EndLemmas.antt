@@ -4,13 +4,12 @@ use Rattle.std.specs.Prelude.{◌⊎◌, IfOk, IsErrOf}
 use Rattle.std.specs.Result.{IsErrAnd}
 use Rattle.ftt_io.specs.Files.{NamedFiles}
 use Rattle.command_words.specs.Words.{Command}
-use Rattle.asked_files.specs.Asked.{Asked, IsAskedFor, IsNotAsked, asked_of, is_live}
+use Rattle.asked_files.specs.Asked.{IsAskedFor, IsNotAsked, is_live}
 use Rattle.asked_files.specs.declared.stopping.Refusal.{Refusal}
 use Rattle.asked_files.specs.declared.stopping.Stop.{Stop}
 use Rattle.asked_files.specs.declared.stopping.Stop.TheVariants.{Words, Input, Read, Write, Memory}
 use Rattle.asked_files.specs.declared.tasks.Job.{Job}
 use Rattle.asked_files.specs.declared.tasks.Task.{Task}
-use Rattle.asked_files.specs.declared.tasks.Task.TheVariants as task
 use Rattle.fttcan_top.specs.declared.status.Status.{Status}
 use Rattle.fttcan_top.specs.Ends.{Did, Ended, IsCarried, IsStatusOf, end_status, refusal_of}
 use Rattle.fttcan_top.specs.Output.{IsDoneStatus}
@@ -37,7 +36,7 @@ module _ (called : Option Command) (told : Option NamedFiles) (before behind : �
       stopped Memory cause = record { did = inl (cause, same) }
 
   -- a call that carried out what it was asked for
-  pub end-carried : (ended : Result Status Stop) → IfOk ended IsDoneStatus → (asked_for : Asked)
+  pub end-carried : (ended : Result Status Stop) → IfOk ended IsDoneStatus → (asked_for : Task)
       → IsAskedFor called told before behind asked_for → IsCarried asked_for out_rose old new ended → EndedSo ended
   end-carried (Ok Status.Done) done asked_for is tells = record { did = (asked_for, is, tells) }
   end-carried (Ok Status.Refused) done asked_for is tells = record { did = (asked_for, is, tells) }
@@ -78,14 +77,6 @@ no-live : false ≡ true → ⊥
 no-live same = cc
 
 -- a task for threads is that of a run by threads
-pub not-live : (one : Task) → ((job : Job) (report : Bool) → one ≡ task.Live job report → ⊥) → is_live (asked_of one) ≡ true
-    → ⊥
-not-live (task.Live job report) other live = other job report refl
-not-live (task.Log job tail report) other live = no-live live
-not-live (task.Table job) other live = no-live live
-not-live (task.Check job certificate) other live = no-live live
-not-live (task.Summary number) other live = no-live live
-not-live (task.Choice job wish) other live = no-live live
-not-live (task.Handover job at) other live = no-live live
-not-live (task.Audit job text) other live = no-live live
-not-live (task.Poll job streams) other live = no-live live
+pub not-live : (task : Task) → ((job : Job) (report : Bool) → task ≡ Task.Live job report → ⊥) → is_live task ≡ true → ⊥
+not-live (Task.Live job report) other live = other job report refl
+not-live _ other live = no-live live

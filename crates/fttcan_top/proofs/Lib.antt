@@ -1,4 +1,3 @@
 mod ChosenLemmas
 mod EndLemmas
-mod PolledLemmas
 mod StreamedLemmas

@@ -1,170 +1,203 @@
 -- What is told of a log that was written while its run went on.
-use Rattle.std.proofs.Common.{◌≡◌, ℕ, Bool, false, List, [], ◌++◌, ◌⊎◌, Option, Some, None, refl, sym, ap, ◌∙◌, subst, inl, inr, append-nil, append_assoc}
-use Rattle.can_frame.specs.declared.TimedFrame.{TimedFrame}
-use Rattle.async_window.specs.declared.request.Owner.{Owner}
-use Rattle.async_window.specs.declared.request.Request.{Request}
+use Rattle.std.proofs.Common.{◌≡◌, ℕ, Bool, false, List, [], ◌++◌, Option, Some, None, refl, sym, ap, ◌∙◌, subst, inl, inr, append-nil}
 use Rattle.std.specs.Prelude.{if◌then◌else◌, is_some}
+use Rattle.can_frame.specs.declared.TimedFrame.{TimedFrame}
 use Rattle.ftt_io.specs.Puts.{Puts, PutsPrefix}
 use Rattle.ftt_io.proofs.Shared.{Puts-append, PutsPrefix-append, PutsPrefix-longer}
-use Rattle.requests_file.specs.RequestsFile.{AreLegal}
-use Rattle.system_file.specs.SystemFile.{IsSystem}
-use Rattle.steps_file.specs.declared.steps.Step.{Step}
-use Rattle.system_file.specs.declared.system.System.{System}
 use Rattle.master_core.specs.declared.event.Event.{Event}
 use Rattle.bus_trace.specs.LastRows.{last_rows}
 use Rattle.bus_trace.specs.Log.{events_rows, log_text}
+use Rattle.sporadic_poll.specs.declared.stream.Stream.{Stream}
 use Rattle.replay_run.specs.Begun.{IsRunBegun}
 use Rattle.replay_run.specs.Run.{IsRun}
 use Rattle.replay_run.specs.Whole.{IsLogOf}
 use Rattle.replay_run.specs.Written.{HasLastRows, IsKeptLog, IsRunCut, IsWritten}
 use Rattle.replay_run.specs.declared.cut.Cut.{Cut}
 use Rattle.replay_run.specs.declared.replaying.Written.{Written}
-use Rattle.replay_run.proofs.Shared.{cut-before_more, front-at}
+use Rattle.replay_run.proofs.Shared.{front-at}
 use Rattle.handover_run.specs.HandedOver.{IsHandedLog}
+use Rattle.poll_run.specs.PolledRun.{IsPolledBegun, IsPolledRun}
+use Rattle.poll_run.specs.RequestRows.{request_rows}
+use Rattle.poll_run.specs.Whole.{IsPollOutput, IsPolledRunBegun}
+use Rattle.asked_files.specs.declared.tasks.Job.{Job}
+use Rattle.asked_files.specs.declared.tasks.Task.{Task}
 use Rattle.fttcan_top.specs.declared.status.Status.{Status}
 use Rattle.fttcan_top.specs.declared.status.Status.TheVariants.{Done, Refused}
-use Rattle.asked_files.specs.Asked.{Asked, log_of}
-use Rattle.asked_files.specs.declared.tasks.Job.{Job}
-use Rattle.fttcan_top.specs.Output.{IsLog, IsOutput, Tells, TellsBegun, TellsFront, report_if, status_of}
-use Rattle.fttcan_top.specs.Streamed.{IsOfReport}
+use Rattle.fttcan_top.specs.Output.{IsLog, IsOfReport, PutsPart, Tells, report_if, status_of}
 
--- the rows of a run of the first calls begin the log of every run of all calls
-pub record RowsSoFar : Type 0 where
-  pub front : (system : System) (steps : List Step) (requests : List Request) (history whole : List Event) (trace frames : List TimedFrame)
-      → IsSystem system → AreLegal system.owners requests → IsRunBegun system steps requests history trace → IsRun system steps requests whole frames
-      → (rest : List ℕ) × (log_text whole frames ≡ events_rows trace [] history ++ rest)
+-- rows that begin a log begin what it begins
+begins : (old new : Option (List ℕ)) (rows log behind text : List ℕ) → (rest : List ℕ) × (log ≡ rows ++ rest) → text ≡ log ++ behind
+    → PutsPrefix old new rows → PutsPrefix old new text
+begins old new rows log behind text (rest, is) written puts =
+    subst (PutsPrefix old new) (sym (written ∙ ap (λ l. l ++ behind) is)) (PutsPrefix-longer behind (PutsPrefix-longer rest puts))
 
--- a run that was cut short, or what stands behind its last event. The rows of a begun run begin the output of each whole
--- one
-pub tells-cut : (asked : Asked) (Begun : List Event → List TimedFrame → Type 0)
-    → ((history : List Event) (trace : List TimedFrame) (status : Status) (text : List ℕ) → Begun history trace → IsOutput asked status text
-    → (rest : List ℕ) × (text ≡ events_rows trace [] history ++ rest))
-    → (old new : Option (List ℕ)) (why : Cut) → IsRunCut Begun (λ text. (status : Status) × IsOutput asked status text) old new why
-    → TellsFront asked old new ⊎ TellsBegun Begun (λ status text. IsOutput asked status text) old new
-tells-cut asked Begun begins old new why (inl cut) =
-    let rows = events_rows cut.trace [] cut.history in
-    let puts = front-at why old new rows cut.heard in
-    inr (record {
-      history = cut.history;
-      trace = cut.trace;
-      begun = cut.begun;
-      puts = puts;
-      front = λ status text output.
-          let found = begins cut.history cut.trace status text cut.begun output in
-          subst (PutsPrefix old new) (sym found.1) (PutsPrefix-longer found.0 puts);
-    })
-tells-cut asked Begun begins old new why (inr cut) =
-    inl (record { status = cut.is.0; text = cut.text; output = cut.is.1; puts = cut.broke })
+module _ (job : Job) where
+  -- the rows of a run of the first calls begin the log of every run of all calls
+  abbrev pub RowsBegin : Type 0
+  RowsBegin = (history whole : List Event) (trace frames : List TimedFrame) → IsRunBegun job.system job.steps job.requests history trace
+      → IsRun job.system job.steps job.requests whole frames → (rest : List ℕ) × (log_text whole frames ≡ events_rows trace [] history ++ rest)
 
--- the rows of a begun run begin the log of each whole one, with its report behind it
-log-begins : RowsSoFar → (job : Job) (report : Bool) → IsSystem job.system → AreLegal job.system.owners job.requests
-    → (history : List Event) (trace : List TimedFrame) (status : Status) (text : List ℕ) → IsRunBegun job.system job.steps job.requests history trace
-    → IsLog job None report status text → (rest : List ℕ) × (text ≡ events_rows trace [] history ++ rest)
-log-begins laws job report known legal history trace status text begun log =
-    let found = laws.front job.system job.steps job.requests history log.history trace log.trace known legal begun log.run in
-    let behind = report_if report log.history log.trace job.system.owners job.requests in
-    (found.0 ++ behind, log.written ∙ ap (λ l. l ++ behind) found.1 ∙ append_assoc (events_rows trace [] history) found.0 behind)
+  -- a run that was cut for this reason
+  abbrev pub IsCut : Option (List ℕ) → Option (List ℕ) → Cut → Type 0
+  IsCut old new why =
+      IsRunCut (IsRunBegun job.system job.steps job.requests) (IsLogOf (IsRun job.system job.steps job.requests)) old new why
 
--- What a call tells that was given parts of the job
-module _ (job : Job) (report : Bool) (steps : List Step) (owners : List Owner) (requests : List Request)
-    (same_steps : steps ≡ job.steps) (same_owners : owners ≡ job.system.owners) (same_requests : requests ≡ job.requests) where
-  own : (P : List Step → List Owner → List Request → Type 0) → P steps owners requests → P job.steps job.system.owners job.requests
-  own P is =
-      subst (λ s. P s job.system.owners job.requests) same_steps
-      (subst (λ o. P steps o job.requests) same_owners (subst (λ r. P steps owners r) same_requests is))
+  -- a run that was cut short, or its last row
+  pub log-cut : (report : Bool) (old new : Option (List ℕ)) (why : Cut) → RowsBegin → IsCut old new why → PutsPart (Task.Log job None report) old new
+  log-cut report old new why front (inl cut) =
+      let puts = front-at why old new (events_rows cut.trace [] cut.history) cut.heard in
+      inr (record {
+        history = cut.history;
+        trace = cut.trace;
+        begun = cut.begun;
+        puts = puts;
+        front = λ status text log. begins old new (events_rows cut.trace [] cut.history) (log_text log.history log.trace)
+            (report_if report log.history log.trace job.system.owners job.requests) text
+            (front cut.history log.history cut.trace log.trace cut.begun log.run) log.written puts;
+      })
+  log-cut report old new why front (inr cut) =
+      let behind = report_if report cut.is.history cut.is.trace job.system.owners job.requests in
+      inl (record {
+        status = status_of cut.is.history;
+        text = cut.text ++ behind;
+        output = record {
+          history = cut.is.history;
+          trace = cut.is.trace;
+          run = cut.is.run;
+          ended = refl;
+          written = ap (λ l. l ++ behind) cut.is.text_is;
+        };
+        puts = PutsPrefix-longer behind cut.broke;
+      })
+
+  -- the same of a run whose master is replaced midway
+  pub handed-cut : (at : ℕ) (old new : Option (List ℕ)) (why : Cut) → RowsBegin → IsCut old new why → PutsPart (Task.Handover job at) old new
+  handed-cut at old new why front cut = go (log-cut false old new why front cut)
+    where
+      go : PutsPart (Task.Log job None false) old new → PutsPart (Task.Handover job at) old new
+      go (inl part) = inl (record { status = part.status; text = part.text; output = part.output; puts = part.puts })
+      go (inr part) = inr part
+
+  -- such a run whose text was put
+  pub handed-told : (at : ℕ) (old new : Option (List ℕ)) (accepted : Bool) (status : Status)
+      → IsWritten (IsHandedLog job.system job.steps job.requests accepted) old new
+      → status ≡ (if accepted then Done else Refused) → Tells (Task.Handover job at) status old new
+  handed-told at old new accepted status wrote ended = record {
+    text = wrote.text ++ [];
+    output = record {
+      history = wrote.is.history;
+      trace = wrote.is.trace;
+      run = wrote.is.run;
+      ended = ended ∙ ap (λ (b : Bool). if b then Done else Refused) wrote.is.accepted;
+      written = ap (λ l. l ++ []) wrote.is.text_is;
+    };
+    puts = subst (Puts old new) (sym (append-nil wrote.text)) wrote.heard;
+  }
+
+module _ (job : Job) (report : Bool) (run : Written) (kept : is_some run.trace ≡ report) where
+  -- the report of a run with this trace
+  abbrev behind_log : List TimedFrame → Bool → List ℕ
+  behind_log trace so = report_if so run.master.history trace job.system.owners job.requests
+
+  -- a log that was written whole
+  abbrev pub IsWhole : Option (List ℕ) → Option (List ℕ) → Type 0
+  IsWhole old new = IsWritten (IsKeptLog job.system job.steps job.requests run.master.history run.trace) old new
+
+  -- the text of it, with its report behind it
+  whole-log : (trace : List TimedFrame) (log : List ℕ) → IsRun job.system job.steps job.requests run.master.history trace
+      → log ≡ log_text run.master.history trace → IsLog job None report (status_of run.master.history) (log ++ behind_log trace report)
+  whole-log trace log is same = record {
+    history = run.master.history;
+    trace = trace;
+    run = is;
+    ended = refl;
+    written = ap (λ l. l ++ behind_log trace report) same;
+  }
 
   -- a log that was written whole, and its report behind it
-  pub log-told : (run : Written) (status : Status) (old middle new : Option (List ℕ))
-      → IsWritten (IsKeptLog job.system steps requests run.master.history run.trace) old middle → is_some run.trace ≡ report
-      → IsOfReport run owners requests (Puts middle new) → status ≡ status_of run.master.history → Tells (log_of job None report) status old new
-  log-told run status old middle new wrote kept puts ended =
-      let history = run.master.history in
-      let written = own (λ s o r. IsWritten (IsKeptLog job.system s r history run.trace) old middle) wrote in
-      let trace = written.is.trace in
-      let more = report_if report history trace job.system.owners job.requests in
-      let all = own (λ s o r. IsOfReport run o r (Puts middle new)) puts trace written.is.frames in
-      let behind = subst (λ b. Puts middle new (report_if b history trace job.system.owners job.requests)) kept all in
-      record {
-        text = written.text ++ more;
-        output = record { history = history; trace = trace; run = written.is.run; ended = ended; written = ap (λ l. l ++ more) written.is.text_is };
-        puts = Puts-append old middle new written.text more written.heard behind;
-      }
+  pub log-told : (old middle new : Option (List ℕ)) → IsWhole old middle
+      → IsOfReport run job.system.owners job.requests (Puts middle new) → Tells (Task.Log job None report) (status_of run.master.history) old new
+  log-told old middle new log puts = record {
+    text = log.text ++ behind_log log.is.trace report;
+    output = whole-log log.is.trace log.text log.is.run log.is.text_is;
+    puts = Puts-append old middle new log.text (behind_log log.is.trace report) log.heard
+        (subst (λ b. Puts middle new (behind_log log.is.trace b)) kept (puts log.is.trace log.is.frames));
+  }
 
   -- and one whose report was put in part
-  pub report-cut : (run : Written) (old middle new : Option (List ℕ))
-      → IsWritten (IsKeptLog job.system steps requests run.master.history run.trace) old middle → is_some run.trace ≡ report
-      → IsOfReport run owners requests (PutsPrefix middle new) → TellsFront (log_of job None report) old new
-  report-cut run old middle new wrote kept puts =
-      let history = run.master.history in
-      let written = own (λ s o r. IsWritten (IsKeptLog job.system s r history run.trace) old middle) wrote in
-      let trace = written.is.trace in
-      let more = report_if report history trace job.system.owners job.requests in
-      let front = own (λ s o r. IsOfReport run o r (PutsPrefix middle new)) puts trace written.is.frames in
-      let behind = subst (λ b. PutsPrefix middle new (report_if b history trace job.system.owners job.requests)) kept front in
-      record {
-        status = status_of history;
-        text = written.text ++ more;
-        output = record { history = history; trace = trace; run = written.is.run; ended = refl; written = ap (λ l. l ++ more) written.is.text_is };
-        puts = PutsPrefix-append old middle new written.text written.heard behind;
-      }
-
-  pub run-cut : RowsSoFar → (old new : Option (List ℕ)) (why : Cut) → IsSystem job.system → AreLegal job.system.owners job.requests
-      → IsRunCut (IsRunBegun job.system steps requests) (IsLogOf (IsRun job.system steps requests)) old new why
-      → TellsFront (log_of job None report) old new ⊎ TellsBegun (IsRunBegun job.system job.steps job.requests) (IsLog job None report) old new
-  run-cut laws old new why known legal cut =
-      let Begun = IsRunBegun job.system job.steps job.requests in
-      tells-cut (log_of job None report) Begun (log-begins laws job report known legal) old new why
-      (cut-before_more Begun (IsLogOf (IsRun job.system job.steps job.requests)) (λ text. (status : Status) × IsLog job None report status text) old new why
-      (λ text is.
-      let more = report_if report is.history is.trace job.system.owners job.requests in (
-        more,
-        (
-          status_of is.history,
-          record {
-            history = is.history;
-            trace = is.trace;
-            run = is.run;
-            ended = refl;
-            written = ap (λ l. l ++ more) is.text_is;
-          },
-        ),
-      ))
-      (own (λ s o r. IsRunCut (IsRunBegun job.system s r) (IsLogOf (IsRun job.system s r)) old new why) cut))
+  pub report-cut : (old middle new : Option (List ℕ)) → IsWhole old middle
+      → IsOfReport run job.system.owners job.requests (PutsPrefix middle new) → PutsPart (Task.Log job None report) old new
+  report-cut old middle new log puts = inl (record {
+    status = status_of run.master.history;
+    text = log.text ++ behind_log log.is.trace report;
+    output = whole-log log.is.trace log.text log.is.run log.is.text_is;
+    puts = PutsPrefix-append old middle new log.text log.heard
+        (subst (λ b. PutsPrefix middle new (behind_log log.is.trace b)) kept (puts log.is.trace log.is.frames));
+  })
 
   -- the last rows of a log, and the report behind them
-  pub tail-told : (run : Written) (count : ℕ) (status : Status) (rows behind text : List ℕ)
-      → HasLastRows job.system steps requests run.master.history run.trace count rows → is_some run.trace ≡ report
-      → IsOfReport run owners requests (λ report. behind ≡ report) → text ≡ rows ++ behind → status ≡ status_of run.master.history
-      → IsLog job (Some count) report status text
-  tail-told run count status rows behind text last kept reports all ended =
-      let history = run.master.history in
-      let is = own (λ s o r. HasLastRows job.system s r history run.trace count rows) last in
-      let trace = is.is.trace in
-      let reported = own (λ s o r. IsOfReport run o r (λ report. behind ≡ report)) reports trace is.is.frames in
+  pub tail-told : (count : ℕ) (rows behind text : List ℕ)
+      → HasLastRows job.system job.steps job.requests run.master.history run.trace count rows
+      → IsOfReport run job.system.owners job.requests (λ report. behind ≡ report) → text ≡ rows ++ behind
+      → IsLog job (Some count) report (status_of run.master.history) text
+  tail-told count rows behind text last reports all =
+      let is = last.is in
       record {
-        history = history;
-        trace = trace;
-        run = is.is.run;
-        ended = ended;
-        written = all ∙ ap (λ l. l ++ behind) (is.last ∙ ap (last_rows (Some count)) is.is.text_is)
-            ∙ ap (λ l. last_rows (Some count) (log_text history trace) ++ l) reported
-            ∙ ap (λ b. last_rows (Some count) (log_text history trace) ++ report_if b history trace job.system.owners job.requests) kept;
+        history = run.master.history;
+        trace = is.trace;
+        run = is.run;
+        ended = refl;
+        written = all ∙ ap (λ l. l ++ behind) (last.last ∙ ap (last_rows (Some count)) is.text_is)
+            ∙ ap (λ l. last_rows (Some count) (log_text run.master.history is.trace) ++ l)
+            (reports is.trace is.frames ∙ ap (behind_log is.trace) kept);
       }
 
-  -- a run whose master is replaced midway
-  pub handed-told : (accepted : Bool) (status : Status) (old new : Option (List ℕ))
-      → IsWritten (IsHandedLog job.system steps requests accepted) old new
-      → status ≡ (if accepted then Done else Refused) → Tells (log_of job None false) status old new
-  handed-told accepted status old new wrote ended =
-      let is = wrote.is in
-      record {
-        text = wrote.text ++ [];
+module _ (job : Job) (streams : List Stream) (old new : Option (List ℕ)) where
+  -- a polled run whose text was put
+  pub polled-told : (accepted : Bool) (status : Status) → IsWritten (IsPollOutput job.system job.steps streams accepted) old new
+      → status ≡ (if accepted then Done else Refused) → Tells (Task.Poll job streams) status old new
+  polled-told accepted status wrote ended = record {
+    text = wrote.text;
+    output = record {
+      history = wrote.is.history;
+      carried = wrote.is.carried;
+      trace = wrote.is.trace;
+      run = wrote.is.run;
+      ended = ended ∙ ap (λ (b : Bool). if b then Done else Refused) wrote.is.accepted;
+      written = wrote.is.is_text;
+    };
+    puts = wrote.heard;
+  }
+
+  -- and one that was cut short, where the rows of a polled run of the first calls begin the log of every one of all calls
+  pub polled-cut : (why : Cut) → ((history whole : List Event) (carried again : ℕ → ℕ → Option ℕ) (trace frames : List TimedFrame)
+      → IsPolledBegun job.system job.steps streams history carried trace → IsPolledRun job.system job.steps streams whole again frames
+      → (rest : List ℕ) × (log_text whole frames ≡ events_rows trace [] history ++ rest))
+      → IsRunCut (IsPolledRunBegun job.system job.steps streams)
+      (λ text. (quiet : Bool) × IsPollOutput job.system job.steps streams quiet text) old new why → PutsPart (Task.Poll job streams) old new
+  polled-cut why front (inl cut) =
+      let puts = front-at why old new (events_rows cut.trace [] cut.history) cut.heard in
+      inr (record {
+        history = cut.history;
+        trace = cut.trace;
+        begun = cut.begun;
+        puts = puts;
+        front = λ status text is.
+            begins old new (events_rows cut.trace [] cut.history) (log_text is.history is.trace) (request_rows 1 streams is.written.fates) text
+            (front cut.history is.history cut.begun.carried is.carried cut.trace is.trace cut.begun.begun is.run) is.written.text_is puts;
+      })
+  polled-cut why front (inr cut) =
+      let is = cut.is.1 in
+      inl (record {
+        status = status_of is.history;
+        text = cut.text;
         output = record {
           history = is.history;
+          carried = is.carried;
           trace = is.trace;
-          run = own (λ s o r. IsRun job.system s r is.history is.trace) is.run;
-          ended = ended ∙ ap (λ (b : Bool). if b then Done else Refused) is.accepted;
-          written = ap (λ l. l ++ []) is.text_is;
+          run = is.run;
+          ended = refl;
+          written = is.is_text;
         };
-        puts = subst (Puts old new) (sym (append-nil wrote.text)) wrote.heard;
-      }
+        puts = cut.broke;
+      })

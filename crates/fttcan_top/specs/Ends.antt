@@ -3,14 +3,14 @@ use Rattle.std.specs.Prelude.{◌≡◌, ◌≤◌, ◌⊎◌, ℕ, List, length
 use Rattle.ftt_io.specs.Counts.{Rose}
 use Rattle.ftt_io.specs.Files.{NamedFiles}
 use Rattle.command_words.specs.Words.{Command}
-use Rattle.asked_files.specs.Asked.{Asked, IsAskedFor, IsNotAsked}
-use Rattle.asked_files.specs.Loads.{IsFetched}
-use Rattle.asked_files.specs.Sources.{sources_of}
+use Rattle.asked_files.specs.Asked.{IsAskedFor, IsNotAsked}
+use Rattle.asked_files.specs.Loads.{IsFetched, sources_of}
 use Rattle.asked_files.specs.declared.stopping.Refusal.{Refusal}
 use Rattle.asked_files.specs.declared.stopping.Stop.{Stop}
 use Rattle.asked_files.specs.declared.stopping.Stop.TheVariants.{Words, Input, Read, Write, Memory}
+use Rattle.asked_files.specs.declared.tasks.Task.{Task}
 use Rattle.fttcan_top.specs.declared.status.Status.{Status}
-use Rattle.fttcan_top.specs.Output.{IsCutWhileRun, Says, Tells, TellsFront, message_of}
+use Rattle.fttcan_top.specs.Output.{PutsPart, Says, Tells, message_of}
 
 -- the status of a call that ended so
 abbrev pub end_status : Result Status Stop → Status
@@ -31,13 +31,8 @@ abbrev pub refusal_of : Result Status Stop → Refusal
 refusal_of (Err (Input refusal)) = refusal
 refusal_of _ = Refusal.LaterPlan
 
--- the first bytes of an answer were put; or of the rows of a run that was begun, where the answer is a whole log,
--- which is written while the run goes on
-abbrev pub PutsPart : Asked → Option (List ℕ) → Option (List ℕ) → Type 0
-PutsPart asked_for old new = TellsFront asked_for old new ⊎ IsCutWhileRun asked_for old new
-
 -- this was asked for, and carried out so: its answer was put, or the first part of it, or nothing
-abbrev pub IsCarried : Asked → Type 0 → Option (List ℕ) → Option (List ℕ) → Result Status Stop → Type 0
+abbrev pub IsCarried : Task → Type 0 → Option (List ℕ) → Option (List ℕ) → Result Status Stop → Type 0
 IsCarried asked_for out_rose old new (Ok status) = Tells asked_for status old new
 IsCarried asked_for out_rose old new (Err Write) = out_rose × ((new ≡ old) ⊎ PutsPart asked_for old new)
 IsCarried asked_for out_rose old new (Err Memory) = (new ≡ old) ⊎ PutsPart asked_for old new
@@ -55,12 +50,12 @@ module _ (called : Option Command) (told : Option NamedFiles) (before behind : �
   -- it was asked for something, and put the whole answer, which has this status
   abbrev pub IsAnsweredWhole : Status → Type 0
   IsAnsweredWhole status =
-      (asked_for : Asked) × IsAskedFor called told before behind asked_for × Tells asked_for status old new
+      (asked_for : Task) × IsAskedFor called told before behind asked_for × Tells asked_for status old new
 
   -- it was asked for something, and was cut short: it put the first part of the answer, or nothing
   abbrev pub IsAnswerCut : Type 0
   IsAnswerCut =
-      (asked_for : Asked) × IsAskedFor called told before behind asked_for × ((new ≡ old) ⊎ PutsPart asked_for old new)
+      (asked_for : Task) × IsAskedFor called told before behind asked_for × ((new ≡ old) ⊎ PutsPart asked_for old new)
 
   -- *What a call did* that ends with this status, and where a file is refused with this refusal
   abbrev pub Did : Status → Refusal → Type 0

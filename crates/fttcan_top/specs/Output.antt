@@ -1,5 +1,5 @@
 -- The headline's definitions: what is written for what the words and the files ask for, and what a status says.
-use Rattle.std.specs.Prelude.{◌≡◌, ℕ, ◌⊎◌, ⊤, Bool, List, [], ◌++◌, length, codes, if◌then◌else◌, Option, None}
+use Rattle.std.specs.Prelude.{◌≡◌, ℕ, ◌⊎◌, ⊤, Bool, false, List, [], ◌++◌, length, codes, if◌then◌else◌, Option, None, is_some}
 use Rattle.std.specs.Fmt.{decimal}
 use Rattle.can_frame.specs.declared.TimedFrame.{TimedFrame}
 use Rattle.ftt_io.specs.Puts.{Puts, PutsPrefix}
@@ -16,6 +16,7 @@ use Rattle.generated_input.specs.Generator.{requests_made, steps_made, system_ma
 use Rattle.master_core.specs.Accepted.{all_accepted}
 use Rattle.replay_run.specs.AskedTable.{table_of}
 use Rattle.replay_run.specs.Begun.{IsRunBegun}
+use Rattle.replay_run.specs.Progress.{KeepsFrames}
 use Rattle.replay_run.specs.Run.{AnswersSteps, IsRun}
 use Rattle.live_steps.specs.Live.{IsLive}
 use Rattle.poll_run.specs.PolledRun.{IsPolledRun}
@@ -26,18 +27,27 @@ use Rattle.async_window.specs.declared.request.Owner.{Owner}
 use Rattle.async_window.specs.declared.request.Request.{Request}
 use Rattle.admission.specs.Verdict.{bounds_by}
 use Rattle.master_core.specs.Certificates.{IsCertificateOfPlan}
-use Rattle.master_core.specs.History.{IsPlainlyLegal, placed_of}
+use Rattle.master_core.specs.History.{IsPlainlyLegal, placed_of, next_of, plan_of}
 use Rattle.master_core.specs.declared.event.Event.{Event}
 use Rattle.command_words.specs.Words.{usage}
 use Rattle.fttcan_top.specs.declared.status.Status.{Status}
 use Rattle.fttcan_top.specs.declared.status.Status.TheVariants.{Done, Refused, Words, Input, Read, Write, Memory, No}
 use Rattle.asked_files.specs.declared.stopping.Refusal.{Refusal}
-use Rattle.asked_files.specs.Asked.{Asked, audit_of, check_of, choice_of, live_log_of, log_of, plan_of, poll_of, summary_of}
 use Rattle.asked_files.specs.declared.tasks.Job.{Job}
+use Rattle.asked_files.specs.declared.tasks.Task.{Task}
 use Rattle.asked_files.specs.Refusals.{refusal_line}
-use Rattle.fttcan_top.specs.Audited.{IsAuditText}
-use Rattle.fttcan_top.specs.Chosen.{IsChoiceText}
 use Rattle.fttcan_top.specs.Summary.{summary_text}
+use Rattle.planner_policies.specs.Plan.{pending_at}
+use Rattle.admission_rules.specs.declared.Rules.{Rules}
+use Rattle.elastic.specs.Choice.{IsChoice, IsElasticFault}
+use Rattle.elastic.specs.ChoiceRows.{IsFaultText, choice_row}
+use Rattle.elastic.specs.declared.choice.Choice.{Choice}
+use Rattle.elastic.specs.declared.choice.ElasticFault.{ElasticFault}
+use Rattle.elastic.specs.declared.wish.Wish.{Wish}
+use Rattle.log_reader.specs.Row.{AreRowsOf}
+use Rattle.log_reader.specs.declared.row.LogRow.{LogRow}
+use Rattle.trace_audit.specs.Audit.{IsAudited, IsFirstBreak, IsUnfinished}
+use Rattle.replay_run.specs.declared.replaying.Written.{Written}
 
 -- What is written
 
@@ -48,6 +58,12 @@ status_of history = if all_accepted history then Done else Refused
 -- the report of a run, where it is asked for
 abbrev pub report_if : Bool → List Event → List TimedFrame → List Owner → List Request → List ℕ
 report_if report history trace owners requests = if report then report_text history trace owners requests else []
+
+-- this is so of the report of a run, where its frames were kept, and of no text otherwise, whatever its trace is
+abbrev pub IsOfReport : Written → List Owner → List Request → (List ℕ → Type 0) → Type 0
+IsOfReport run owners requests IsSo =
+    (trace : List TimedFrame) → KeepsFrames run.trace trace
+    → IsSo (report_if (is_some run.trace) run.master.history trace owners requests)
 
 -- the log of a run, or so many of its last rows, and the report behind it where that is asked for: the history answers
 -- the steps, and history and trace keep what is promised
@@ -74,11 +90,12 @@ pub record IsPlanText (job : Job) (status : Status) (text : List ℕ) : Type 0 w
 -- the line of a breach
 abbrev pub breach_line : Breach → List ℕ
 breach_line (BadLoop slot) = codes "no,badloop," ++ decimal slot ++ codes "\n"
-breach_line (NotReleased cycle slot) = codes "no,notreleased," ++ decimal cycle ++ codes "," ++ decimal slot
-    ++ codes "\n"
-breach_line (TooWide cycle sum) = codes "no,toowide," ++ decimal cycle ++ codes "," ++ decimal sum ++ codes "\n"
+breach_line (NotReleased cycle slot) =
+    codes "no,notreleased," ++ (decimal cycle ++ (codes "," ++ (decimal slot ++ codes "\n")))
+breach_line (TooWide cycle sum) = codes "no,toowide," ++ (decimal cycle ++ (codes "," ++ (decimal sum ++ codes "\n")))
 breach_line (Missed slot release cycle) =
-    codes "no,missed," ++ decimal slot ++ codes "," ++ decimal release ++ codes "," ++ decimal cycle ++ codes "\n"
+    codes "no,missed,"
+    ++ (decimal slot ++ (codes "," ++ (decimal release ++ (codes "," ++ (decimal cycle ++ codes "\n")))))
 breach_line (NotClosed slot) = codes "no,notclosed," ++ decimal slot ++ codes "\n"
 
 -- why a plan does not keep the table that the steps ask for
@@ -123,26 +140,77 @@ pub record IsPollText (job : Job) (streams : List Stream) (status : Status) (tex
   pub ended : status ≡ status_of history
   pub written : IsPolledText streams history carried trace text
 
--- *Output*: the text that answers what is asked, with the status of the call; a run whose master is replaced midway is
--- asked for the log of the replay
-abbrev pub IsOutput : Asked → Status → List ℕ → Type 0
-IsOutput (log_of job tail report) status text = IsLog job tail report status text
-IsOutput (summary_of number) status text = IsSummary number status text
-IsOutput (plan_of job) status text = IsPlanText job status text
-IsOutput (check_of job certificate) status text = IsCheckText job certificate status text
-IsOutput (choice_of job wish) status text = IsChoiceText job wish status text
-IsOutput (live_log_of job report) status text = IsLiveLog job report status text
-IsOutput (audit_of job log) status text = IsAuditText job log status text
-IsOutput (poll_of job streams) status text = IsPollText job streams status text
+-- the slots that are pending before the next cycle of a master with these rules and this history
+abbrev pub pending_behind : Rules → List Event → ℕ
+pending_behind rules history = pending_at (plan_of rules (placed_of history)) (next_of history)
+
+-- a master alone has answered the steps, which has this history now
+pub record IsBehindSteps (job : Job) (history : List Event) : Type 0 where
+  pub answers : AnswersSteps history job.steps
+  pub plain : IsPlainlyLegal job.system.rules history
+
+-- the row of what is chosen behind the steps
+pub record IsChosen (job : Job) (wish : Wish) (text : List ℕ) : Type 0 where
+  pub history : List Event
+  pub behind : IsBehindSteps job history
+  pub choice : Choice
+  pub chosen : IsChoice job.system.rules (placed_of history) (pending_behind job.system.rules history) (next_of history)
+      wish choice
+  pub written : text ≡ choice_row choice
+
+-- the rows of why nothing is chosen behind the steps
+pub record IsUnchosen (job : Job) (wish : Wish) (text : List ℕ) : Type 0 where
+  pub history : List Event
+  pub behind : IsBehindSteps job history
+  pub fault : ElasticFault
+  pub why : IsElasticFault job.system.rules (placed_of history) (pending_behind job.system.rules history)
+      (next_of history) wish fault
+  pub written : IsFaultText fault text
+
+-- the answer to a wish: done where something is chosen, and refused where nothing is; what became of the changes of the
+-- steps does not count
+abbrev pub IsChoiceText : Job → Wish → Status → List ℕ → Type 0
+IsChoiceText job wish Done text = IsChosen job wish text
+IsChoiceText job wish Refused text = IsUnchosen job wish text
+IsChoiceText job wish _ text = ⊥
+
+-- what an audit says of these rows: that they are all rows of a whole run; or the least number of first rows that
+-- cannot stand; or that all rows can stand, and are not all rows of a whole run
+abbrev pub SaysOfRows : Job → List LogRow → Status → List ℕ → Type 0
+SaysOfRows job rows Done text = IsAudited job.system job.steps job.requests rows × (text ≡ codes "yes\n")
+SaysOfRows job rows No text =
+    ((number : ℕ) × IsFirstBreak job.system job.steps job.requests rows number
+    × (text ≡ codes "no,row," ++ decimal number ++ codes "\n"))
+    ⊎ (IsUnfinished job.system job.steps job.requests rows × (text ≡ codes "no,unfinished\n"))
+SaysOfRows job rows _ text = ⊥
+
+-- the answer to a log: what is said of the rows that are read from it
+pub record IsAuditText (job : Job) (log : List ℕ) (status : Status) (text : List ℕ) : Type 0 where
+  pub rows : List LogRow
+  pub read : AreRowsOf log rows
+  pub says : SaysOfRows job rows status text
+
+-- *Output*: the text that answers what is asked, with the status of the call; that of a run whose master is replaced
+-- midway is the log of the replay of the same files, whenever the standby takes over
+abbrev pub IsOutput : Task → Status → List ℕ → Type 0
+IsOutput (Task.Log job tail report) status text = IsLog job tail report status text
+IsOutput (Task.Handover job at) status text = IsLog job None false status text
+IsOutput (Task.Summary number) status text = IsSummary number status text
+IsOutput (Task.Table job) status text = IsPlanText job status text
+IsOutput (Task.Check job certificate) status text = IsCheckText job certificate status text
+IsOutput (Task.Choice job wish) status text = IsChoiceText job wish status text
+IsOutput (Task.Live job report) status text = IsLiveLog job report status text
+IsOutput (Task.Audit job log) status text = IsAuditText job log status text
+IsOutput (Task.Poll job streams) status text = IsPollText job streams status text
 
 -- the output was put, and the status is that of what was asked
-pub record Tells (asked_for : Asked) (status : Status) (old new : Option (List ℕ)) : Type 0 where
+pub record Tells (asked_for : Task) (status : Status) (old new : Option (List ℕ)) : Type 0 where
   pub text : List ℕ
   pub output : IsOutput asked_for status text
   pub puts : Puts old new text
 
 -- the first bytes of the output were put, or nothing was
-pub record TellsFront (asked_for : Asked) (old new : Option (List ℕ)) : Type 0 where
+pub record TellsFront (asked_for : Task) (old new : Option (List ℕ)) : Type 0 where
   pub status : Status
   pub text : List ℕ
   pub output : IsOutput asked_for status text
@@ -159,13 +227,21 @@ pub record TellsBegun (Begun : List Event → List TimedFrame → Type 0) (IsTex
   pub puts : PutsPrefix old new (events_rows trace [] history)
   pub front : (status : Status) (text : List ℕ) → IsText status text → PutsPrefix old new text
 
--- this may be so of a whole log alone, or of that of a polled run, which are written while the run goes on
-abbrev pub IsCutWhileRun : Asked → Option (List ℕ) → Option (List ℕ) → Type 0
-IsCutWhileRun (log_of job None report) old new =
+-- this may be so of a whole log alone, or of that of a handover or of a polled run, which are written while the run goes
+-- on
+abbrev pub IsCutWhileRun : Task → Option (List ℕ) → Option (List ℕ) → Type 0
+IsCutWhileRun (Task.Log job None report) old new =
     TellsBegun (IsRunBegun job.system job.steps job.requests) (IsLog job None report) old new
-IsCutWhileRun (poll_of job streams) old new =
+IsCutWhileRun (Task.Handover job at) old new =
+    TellsBegun (IsRunBegun job.system job.steps job.requests) (IsLog job None false) old new
+IsCutWhileRun (Task.Poll job streams) old new =
     TellsBegun (IsPolledRunBegun job.system job.steps streams) (IsPollText job streams) old new
 IsCutWhileRun _ old new = ⊥
+
+-- the first part of an answer was put: its first bytes; or those of the rows of a run that was begun, where the answer is
+-- written while the run goes on
+abbrev pub PutsPart : Task → Option (List ℕ) → Option (List ℕ) → Type 0
+PutsPart asked_for old new = TellsFront asked_for old new ⊎ IsCutWhileRun asked_for old new
 
 -- What a status says
 
@@ -175,6 +251,17 @@ IsDoneStatus Done = ⊤
 IsDoneStatus Refused = ⊤
 IsDoneStatus No = ⊤
 IsDoneStatus _ = ⊥
+
+-- the exit status of each way in which a call ends
+abbrev pub code_of : Status → ℕ
+code_of Done = 0
+code_of Refused = 1
+code_of Words = 2
+code_of Input = 3
+code_of Read = 4
+code_of Write = 5
+code_of Memory = 6
+code_of No = 7
 
 -- What is put to the error sink
 

@@ -30,26 +30,14 @@ is_asynchronous sent = nat_le least_asynchronous sent.frame.identifier
 abbrev pub row : List ℕ → ℕ → List ℕ
 row name number = name ++ codes "," ++ decimal number ++ codes "\n"
 
--- the rows of a history: the changes that were accepted, those that were refused, and the opened cycles
-unfoldable pub history_rows : List Event → List ℕ
-history_rows history =
-    row (codes "accepted") (count_by accepts history)
-    ++ (row (codes "refused") (count_by refuses history) ++ row (codes "cycles") (count_by is_open history))
-
--- how many of so many requests were left, where each asynchronous frame sent one; and the bit times that the frames
--- took
-unfoldable pub rest_rows : List TimedFrame → ℕ → List ℕ
-rest_rows trace requests =
-    row (codes "left") (requests - count_by is_asynchronous trace)
-    ++ row (codes "busy") (sum_by (λ sent. sent.len) trace)
-
--- the rows of a trace: the synchronous and the asynchronous frames, and the rest
-unfoldable pub trace_rows : List TimedFrame → ℕ → List ℕ
-trace_rows trace requests =
-    row (codes "synchronous") (count_by is_synchronous trace)
-    ++ (row (codes "asynchronous") (count_by is_asynchronous trace) ++ rest_rows trace requests)
-
--- *Summary*: the number that made the input, the rows of history and trace, and the last row
-abbrev pub summary_text : ℕ → List Event → List TimedFrame → ℕ → List ℕ
+-- *Summary*: the number that made the input; the changes that were accepted, those that were refused, and the opened
+-- cycles; the synchronous and the asynchronous frames; how many of so many requests were left, where each asynchronous
+-- frame sent one; the bit times that the frames took; and the last row
+unfoldable pub summary_text : ℕ → List Event → List TimedFrame → ℕ → List ℕ
 summary_text number history trace requests =
-    row (codes "gen") number ++ (history_rows history ++ (trace_rows trace requests ++ codes "end\n"))
+    row (codes "gen") number ++ row (codes "accepted") (count_by accepts history)
+    ++ row (codes "refused") (count_by refuses history) ++ row (codes "cycles") (count_by is_open history)
+    ++ row (codes "synchronous") (count_by is_synchronous trace)
+    ++ row (codes "asynchronous") (count_by is_asynchronous trace)
+    ++ row (codes "left") (requests - count_by is_asynchronous trace)
+    ++ row (codes "busy") (sum_by (λ sent. sent.len) trace) ++ codes "end\n"

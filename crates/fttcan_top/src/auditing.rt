@@ -3,8 +3,7 @@
 ghost use Rattle.std.specs.Prelude.{IfOk};
 ghost use Rattle.asked_files.specs.Asked.{IsJob};
 ghost use Rattle.asked_files.specs.Inputs.{IsLogText};
-ghost use Rattle.fttcan_top.specs.Audited.{IsAuditText};
-ghost use Rattle.fttcan_top.specs.Output.{IsDoneStatus};
+ghost use Rattle.fttcan_top.specs.Output.{IsAuditText, IsDoneStatus};
 
 use crate::status::Status;
 use crate::work::Outcome;

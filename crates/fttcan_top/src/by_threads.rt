@@ -4,8 +4,7 @@
 ghost use Rattle.std.specs.Prelude.{◌≡◌, ◌≤◌, ◌⊎◌, length, map, string_bytes, IfOk, IsErrOf, None};
 ghost use Rattle.ftt_io.specs.Counts.{Rose};
 ghost use Rattle.command_words.specs.Words.{live_of};
-ghost use Rattle.asked_files.specs.Loads.{Fetches};
-ghost use Rattle.asked_files.specs.Sources.{sources_of};
+ghost use Rattle.asked_files.specs.Loads.{Fetches, sources_of};
 ghost use Rattle.fttcan_top.specs.Ends.{Answers, Ended};
 ghost use Rattle.fttcan_top.specs.Output.{IsDoneStatus};
 

@@ -5,8 +5,7 @@ ghost use Rattle.elastic.specs.ChoiceRows.{IsFaultText};
 ghost use Rattle.elastic.specs.declared.choice.ElasticFault.TheVariants.{NoPeriod};
 ghost use Rattle.asked_files.specs.Asked.{IsJob};
 ghost use Rattle.asked_files.specs.Inputs.{IsToChoose};
-ghost use Rattle.fttcan_top.specs.Chosen.{IsChoiceText};
-ghost use Rattle.fttcan_top.specs.Output.{IsDoneStatus};
+ghost use Rattle.fttcan_top.specs.Output.{IsChoiceText, IsDoneStatus};
 
 use crate::status::Status;
 use crate::work::Outcome;

@@ -5,7 +5,6 @@ mod auditing;
 mod by_threads;
 mod choosing;
 mod gathered;
-mod polling;
 mod program;
 mod rows;
 mod status;

@@ -3,18 +3,16 @@
 ghost use Rattle.std.specs.Prelude.{◌≡◌, ◌≤◌, ◌⊎◌, false, length, map, string_bytes, IfOk, IsErrOf, None};
 ghost use Rattle.ftt_io.specs.Counts.{Rose};
 ghost use Rattle.command_words.specs.Words.{command_of};
-ghost use Rattle.asked_files.specs.Asked.{IsTask, asked_of, is_live};
-ghost use Rattle.asked_files.specs.Loads.{Fetches};
-ghost use Rattle.asked_files.specs.Sources.{sources_of};
+ghost use Rattle.asked_files.specs.Asked.{IsTask, is_live};
+ghost use Rattle.asked_files.specs.Loads.{Fetches, sources_of};
 ghost use Rattle.fttcan_top.specs.Ends.{Answers, Ended, IsCarried};
 ghost use Rattle.fttcan_top.specs.Output.{IsDoneStatus};
 
 use crate::auditing::audit_of;
 use crate::choosing::choice_of;
-use crate::polling::write_polled;
 use crate::status::Status;
 use crate::stop::tell;
-use crate::streamed::{as_answer, write_handed, write_log};
+use crate::streamed::{as_answer, write_handed, write_log, write_polled};
 use crate::work::{check_of, plan_of, put_answer, summary_of_made, tail_of};
 use asked_files::{Stop, Task, load};
 use ftt_io::{Shelf, Sink};
@@ -24,10 +22,10 @@ use std::alloc::Global;
 /// out.
 fn carry_out<O: Sink>(alloc: Global, task: Task, out: &mut O) -> Result<Status, Stop>
     requires task { IsTask task }
-    requires alone { is_live (asked_of task) ≡ false }
+    requires alone { is_live task ≡ false }
     ensures faults_never_fall { O.faults out.old ≤ O.faults out.new }
     ensures done { IfOk result IsDoneStatus }
-    ensures carried { IsCarried (asked_of task) (Rose (O.faults out.old) (O.faults out.new))
+    ensures carried { IsCarried task (Rose (O.faults out.old) (O.faults out.new))
         (O.told_bytes out.old) (O.told_bytes out.new) result }
 {
     match task {

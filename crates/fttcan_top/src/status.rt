@@ -1,7 +1,7 @@
 //! How a call ends.
 
 ghost use Rattle.std.specs.Prelude.{◌≡◌};
-ghost use Rattle.fttcan_top.specs.Status.{code_of};
+ghost use Rattle.fttcan_top.specs.Output.{code_of};
 
 /// How a call of the program ended.
 #[derive(Clone, Copy, PartialEq, Eq, Debug)]

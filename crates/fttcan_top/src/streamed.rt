@@ -1,12 +1,13 @@
-//! The log of a run, written while the run goes on, and the report behind it.
+//! The log of a run, written while the run goes on, and what stands behind it.
 
-ghost use Rattle.std.specs.Prelude.{◌≡◌, ◌≤◌, ℕ, List, Option, None, false, IfOk, IsErrOf, OnErr, OnOk, is_some};
+ghost use Rattle.std.specs.Prelude.{◌≡◌, ◌≤◌, ℕ, List, Option, None, IfOk, IsErrOf, OnErr, OnOk, is_some};
 ghost use Rattle.ftt_io.specs.Counts.{Rose};
 ghost use Rattle.ftt_io.specs.Puts.{Puts, PutsPrefix};
-ghost use Rattle.asked_files.specs.Asked.{Asked, IsJob, log_of};
-ghost use Rattle.fttcan_top.specs.Ends.{IsCarried, PutsPart};
-ghost use Rattle.fttcan_top.specs.Output.{IsDoneStatus, Tells};
-ghost use Rattle.fttcan_top.specs.Streamed.{IsOfReport};
+ghost use Rattle.sporadic_poll.specs.StreamsFile.{AreLegalStreams};
+ghost use Rattle.asked_files.specs.Asked.{IsJob};
+ghost use Rattle.asked_files.specs.declared.tasks.Task.{Task};
+ghost use Rattle.fttcan_top.specs.Ends.{IsCarried};
+ghost use Rattle.fttcan_top.specs.Output.{IsDoneStatus, IsOfReport, PutsPart, Tells};
 
 use crate::rows::put_rows;
 use crate::status::Status;
@@ -15,8 +16,10 @@ use asked_files::{Job, Stop};
 use async_window::{Owner, Request};
 use ftt_io::Sink;
 use handover_run::replay_handed;
+use poll_run::replay_polled;
 use replay_run::laws::rows_so_far;
 use replay_run::{Cut, Written, replay_to};
+use sporadic_poll::Stream;
 use std::alloc::{AllocError, Global};
 
 /// The report of a run, where its frames were kept; else no text.
@@ -69,7 +72,7 @@ fn put_report<O: Sink>(
 ///
 /// # Errors
 ///
-/// `Memory` where memory runs out, `Write` where the sink fails. Then the sink took the first bytes of the output.
+/// Here and in the two functions below `Memory` where memory runs out, and `Write` where the sink fails.
 pub fn write_log<O: Sink>(
     alloc: Global,
     job: &Job,
@@ -80,8 +83,8 @@ pub fn write_log<O: Sink>(
     ensures faults_never_fall { O.faults out.old ≤ O.faults out.new }
     ensures done { IfOk result IsDoneStatus }
     ensures tells { IfOk result
-        (λ status. Tells (log_of job.now None report) status (O.told_bytes out.old) (O.told_bytes out.new)) }
-    ensures cut { OnErr result (PutsPart (log_of job.now None report) (O.told_bytes out.old) (O.told_bytes out.new)) }
+        (λ status. Tells (Task.Log job.now None report) status (O.told_bytes out.old) (O.told_bytes out.new)) }
+    ensures cut { OnErr result (PutsPart (Task.Log job.now None report) (O.told_bytes out.old) (O.told_bytes out.new)) }
     ensures failed { IsErrOf result Cut.Write → Rose (O.faults out.old) (O.faults out.new) }
 {
     rows_so_far();
@@ -96,24 +99,41 @@ pub fn write_log<O: Sink>(
 
 /// Runs the steps, has the standby take over after `at` opened cycles, and writes the log meanwhile. Answers the status
 /// of the run.
-///
-/// # Errors
-///
-/// `Memory` where memory runs out, `Write` where the sink fails. Then the sink took the first bytes of the output.
 pub fn write_handed<O: Sink>(alloc: Global, job: &Job, at: u32, out: &mut O) -> Result<Status, Cut>
     requires job { IsJob job.now }
     ensures faults_never_fall { O.faults out.old ≤ O.faults out.new }
     ensures done { IfOk result IsDoneStatus }
     ensures tells { IfOk result
-        (λ status. Tells (log_of job.now None false) status (O.told_bytes out.old) (O.told_bytes out.new)) }
-    ensures cut { OnErr result (PutsPart (log_of job.now None false) (O.told_bytes out.old) (O.told_bytes out.new)) }
+        (λ status. Tells (Task.Handover job.now at) status (O.told_bytes out.old) (O.told_bytes out.new)) }
+    ensures cut { OnErr result (PutsPart (Task.Handover job.now at) (O.told_bytes out.old) (O.told_bytes out.new)) }
     ensures failed { IsErrOf result Cut.Write → Rose (O.faults out.old) (O.faults out.new) }
 {
     rows_so_far();
-    let at = u64::from(at);
     let steps = job.steps.as_slice();
     let requests = job.requests.as_slice();
-    let accepted = replay_handed(alloc, &job.system, steps, requests, at, out)?;
+    let accepted = replay_handed(alloc, &job.system, steps, requests, u64::from(at), out)?;
+    Ok(status_when(accepted))
+}
+
+/// Runs the steps with these requests in the frames of polled slots, and writes the log meanwhile, and then what became
+/// of each request. Answers the status of the run.
+pub fn write_polled<O: Sink>(
+    alloc: Global,
+    job: &Job,
+    streams: Vec<Stream>,
+    out: &mut O,
+) -> Result<Status, Cut>
+    requires job { IsJob job.now }
+    requires streams { AreLegalStreams job.now.system.rules.slots streams.items }
+    ensures faults_never_fall { O.faults out.old ≤ O.faults out.new }
+    ensures done { IfOk result IsDoneStatus }
+    ensures tells { IfOk result
+        (λ status. Tells (Task.Poll job.now streams.items) status (O.told_bytes out.old) (O.told_bytes out.new)) }
+    ensures cut { OnErr result (PutsPart (Task.Poll job.now streams.items) (O.told_bytes out.old) (O.told_bytes out.new)) }
+    ensures failed { IsErrOf result Cut.Write → Rose (O.faults out.old) (O.faults out.new) }
+{
+    poll_run::laws::rows_so_far();
+    let accepted = replay_polled(alloc, &job.system, job.steps.as_slice(), streams, out)?;
     Ok(status_when(accepted))
 }
 
@@ -121,7 +141,7 @@ pub fn write_handed<O: Sink>(alloc: Global, job: &Job, at: u32, out: &mut O) -> 
 pub fn as_answer(ended: Result<Status, Cut>) -> Result<Status, Stop>
     requires done { IfOk ended IsDoneStatus }
     ensures done { IfOk result IsDoneStatus }
-    ensures carried { (asked_for : Asked) (faults faults_after : ℕ) (old new : Option (List ℕ))
+    ensures carried { (asked_for : Task) (faults faults_after : ℕ) (old new : Option (List ℕ))
         → IfOk ended (λ status. Tells asked_for status old new) → OnErr ended (PutsPart asked_for old new)
         → (IsErrOf ended Cut.Write → Rose faults faults_after)
         → IsCarried asked_for (Rose faults faults_after) old new result }

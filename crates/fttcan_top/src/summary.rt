@@ -1,10 +1,9 @@
 //! The summary of a run, which `gen` writes.
 
-ghost use Rattle.std.specs.Prelude.{◌≡◌, ◌++◌, IfOk, List, OnOk, count_by, string_bytes};
+ghost use Rattle.std.specs.Prelude.{◌≡◌, IfOk, count_by, string_bytes};
 ghost use Rattle.std.specs.List.{sum_by};
-ghost use Rattle.can_frame.specs.declared.data_frame.TimedFrame.{TimedFrame};
 ghost use Rattle.master_core.specs.History.{accepts, is_open};
-ghost use Rattle.fttcan_top.specs.Summary.{is_asynchronous, history_rows, is_synchronous, refuses, rest_rows, row, summary_text, trace_rows};
+ghost use Rattle.fttcan_top.specs.Summary.{is_asynchronous, is_synchronous, refuses, summary_text};
 
 use can_frame::TimedFrame;
 use generated_input::GENERATED_SLOTS;
@@ -58,22 +57,11 @@ fn opened(history: &[Event]) -> usize
     history.iter().filter(|event| event.opens_cycle()).count()
 }
 
-/// What is counted of a trace.
-#[derive(Clone, Copy)]
-struct Counts {
-    /// The synchronous frames.
-    synchronous: usize,
-    /// The asynchronous frames.
-    asynchronous: usize,
-    /// The bit times that all frames took.
-    busy: u128,
-}
-
-/// Counts the frames of a trace.
-fn counted(trace: &[TimedFrame]) -> Counts
-    ensures synchronous { result.synchronous ≡ count_by is_synchronous trace.now }
-    ensures asynchronous { result.asynchronous ≡ count_by is_asynchronous trace.now }
-    ensures busy { result.busy ≡ sum_by (λ sent. sent.len) trace.now }
+/// The numbers of synchronous and of asynchronous frames, and the bit times that all frames took.
+fn counted(trace: &[TimedFrame]) -> (usize, usize, u128)
+    ensures synchronous { result.0 ≡ count_by is_synchronous trace.now }
+    ensures asynchronous { result.1 ≡ count_by is_asynchronous trace.now }
+    ensures busy { result.2 ≡ sum_by (λ sent. sent.len) trace.now }
 {
     let mut synchronous = 0;
     let mut asynchronous = 0;
@@ -83,73 +71,34 @@ fn counted(trace: &[TimedFrame]) -> Counts
         synchronous += usize::from(is_synchronous(sent));
         asynchronous += usize::from(is_asynchronous(sent));
     }
-    Counts {
-        synchronous,
-        asynchronous,
-        busy,
-    }
-}
-
-/// Appends a row of a name and a number.
-fn push_row(text: &mut String, name: &str, number: u128) -> Result<(), AllocError>
-    ensures ok { OnOk result (string_bytes text.new ≡ string_bytes text.old ++ row name.now number) }
-{
-    text.push_str(name)?;
-    writeln!(text, ",{number}")?;
-    Ok(())
-}
-
-/// Appends the rows of a history.
-#[tactic(auto, unfolding(crate::specs::Summary::history_rows))]
-fn push_history(text: &mut String, history: &[Event]) -> Result<(), AllocError>
-    ensures ok { OnOk result (string_bytes text.new ≡ string_bytes text.old ++ history_rows history.now) }
-{
-    push_row(text, "accepted", accepted(history) as u128)?;
-    push_row(text, "refused", refused(history) as u128)?;
-    push_row(text, "cycles", opened(history) as u128)
-}
-
-/// Appends how many of so many requests were left, and the bit times that the frames took.
-#[tactic(auto, unfolding(crate::specs::Summary::rest_rows))]
-fn push_rest(text: &mut String, counts: Counts, requests: usize) -> Result<(), AllocError>
-    ensures ok { (trace : List TimedFrame) → counts.asynchronous ≡ count_by is_asynchronous trace
-        → counts.busy ≡ sum_by (λ sent. sent.len) trace
-        → OnOk result (string_bytes text.new ≡ string_bytes text.old ++ rest_rows trace requests) }
-{
-    let left = requests.saturating_sub(counts.asynchronous);
-    push_row(text, "left", left as u128)?;
-    push_row(text, "busy", counts.busy)
-}
-
-/// Appends the rows of a trace, in a run with so many requests.
-#[tactic(auto, unfolding(crate::specs::Summary::trace_rows))]
-fn push_trace(text: &mut String, trace: &[TimedFrame], requests: usize) -> Result<(), AllocError>
-    ensures ok { OnOk result (string_bytes text.new ≡ string_bytes text.old ++ trace_rows trace.now requests) }
-{
-    let counts = counted(trace);
-    push_row(text, "synchronous", counts.synchronous as u128)?;
-    push_row(text, "asynchronous", counts.asynchronous as u128)?;
-    push_rest(text, counts, requests)
+    (synchronous, asynchronous, busy)
 }
 
 /// The summary of a run of the input that a number made, with so many requests.
-///
-/// # Errors
-///
-/// Only where memory runs out.
 pub fn summary_of(
     alloc: Global,
     number: u32,
     history: &[Event],
     trace: &[TimedFrame],
     requests: usize,
-) -> Result<Vec<u8>, AllocError>
-    ensures text { IfOk result (λ text. text.items ≡ summary_text number history.now trace.now requests) }
+) -> Result<String, AllocError>
+    ensures text { IfOk result
+        (λ text. string_bytes text ≡ summary_text number history.now trace.now requests) }
 {
+    let accepted = accepted(history);
+    let refused = refused(history);
+    let opened = opened(history);
+    let (synchronous, asynchronous, busy) = counted(trace);
+    let left = requests.saturating_sub(asynchronous);
     let mut text = String::new(alloc);
-    push_row(&mut text, "gen", u128::from(number))?;
-    push_history(&mut text, history)?;
-    push_trace(&mut text, trace, requests)?;
+    writeln!(text, "gen,{number}")?;
+    writeln!(text, "accepted,{accepted}")?;
+    writeln!(text, "refused,{refused}")?;
+    writeln!(text, "cycles,{opened}")?;
+    writeln!(text, "synchronous,{synchronous}")?;
+    writeln!(text, "asynchronous,{asynchronous}")?;
+    writeln!(text, "left,{left}")?;
+    writeln!(text, "busy,{busy}")?;
     text.push_str("end\n")?;
-    Ok(text.into_bytes())
+    Ok(text)
 }

@@ -1,8 +1,9 @@
 //! What is done of what was asked: the answer to a task as a text, before it is written.
 
-ghost use Rattle.std.specs.Prelude.{◌≡◌, ◌≤◌, ◌++◌, if◌then◌else◌, Some, IfOk, OnOk};
+ghost use Rattle.std.specs.Prelude.{◌≡◌, ◌≤◌, if◌then◌else◌, Some, IfOk, string_bytes};
 ghost use Rattle.ftt_io.specs.Counts.{Rose};
-ghost use Rattle.asked_files.specs.Asked.{Asked, IsJob};
+ghost use Rattle.asked_files.specs.Asked.{IsJob};
+ghost use Rattle.asked_files.specs.declared.tasks.Task.{Task};
 ghost use Rattle.asked_files.specs.Inputs.{IsToCheck};
 ghost use Rattle.fttcan_top.specs.Ends.{IsCarried};
 ghost use Rattle.fttcan_top.specs.Output.{IsCheckText, IsDoneStatus, IsLiveLog, IsLog, IsOutput, IsPlanText, IsSummary, breach_line, report_if, status_of};
@@ -45,33 +46,23 @@ pub fn status_when(accepted: bool) -> Status
     }
 }
 
-/// The status of a run with this history.
-pub fn status_of(history: &[Event]) -> Status
-    ensures status { result ≡ status_of history.now }
-    ensures done { IsDoneStatus result }
-{
-    status_when(all_accepted(history))
-}
-
-/// Appends the report of a run, where it is asked for.
-fn push_report(
+/// The report of a run, where it is asked for.
+fn report_if(
     alloc: Global,
-    text: &mut Vec<u8>,
+    report: bool,
     master: &Master,
     trace: &[TimedFrame],
     owners: &[Owner],
     requests: &[Request],
-    report: bool,
-) -> Result<(), AllocError>
-    ensures report { OnOk result
-        (text.new.items ≡ text.old.items ++ report_if report master.now.history trace.now owners.now requests.now) }
+) -> Result<Vec<u8>, AllocError>
+    ensures report { IfOk result
+        (λ text. text.items ≡ report_if report master.now.history trace.now owners.now requests.now) }
 {
-    if !report {
-        return Ok(());
+    if report {
+        plan_report::report(alloc, master, trace, owners, requests)
+    } else {
+        Ok(Vec::new(alloc))
     }
-    let rows = plan_report::report(alloc, master, trace, owners, requests)?;
-    text.extend_from_slice(rows.as_slice())?;
-    Ok(())
 }
 
 /// Runs the steps, and answers with so many of the last rows of the log, and with the report after them where that is
@@ -122,9 +113,10 @@ pub fn live_log_of<T: Threads + Wait + Sync, G: Gate>(
     let history = master.history();
     let trace = run.trace.as_slice();
     let mut text = log_text(alloc, history, trace)?;
-    push_report(alloc, &mut text, &master, trace, owners, requests, report)?;
+    let rows = report_if(alloc, report, &master, trace, owners, requests)?;
+    text.extend_from_slice(rows.as_slice())?;
     Ok(Outcome {
-        status: status_of(history),
+        status: status_when(all_accepted(history)),
         text,
     })
 }
@@ -146,7 +138,7 @@ pub fn summary_of_made(alloc: Global, number: u32) -> Result<Outcome, AllocError
     )?;
     Ok(Outcome {
         status: Status::Done,
-        text,
+        text: text.into_bytes(),
     })
 }
 
@@ -160,28 +152,28 @@ pub fn plan_of(alloc: Global, job: &Job) -> Result<Outcome, AllocError>
     let certificate = master.certificate(alloc)?;
     let text = write_plan(alloc, &certificate)?;
     Ok(Outcome {
-        status: status_of(master.history()),
+        status: status_when(all_accepted(master.history())),
         text,
     })
 }
 
 /// The line of a breach.
-fn breach_line(alloc: Global, breach: &Breach) -> Result<Vec<u8>, AllocError>
-    ensures line { IfOk result (λ text. text.items ≡ breach_line breach.now) }
+fn breach_line(alloc: Global, breach: &Breach) -> Result<String, AllocError>
+    ensures line { IfOk result (λ text. string_bytes text ≡ breach_line breach.now) }
 {
-    let mut text = String::new(alloc);
     match breach {
-        Breach::BadLoop { slot } => writeln!(text, "no,badloop,{slot}")?,
-        Breach::NotReleased { cycle, slot } => writeln!(text, "no,notreleased,{cycle},{slot}")?,
-        Breach::TooWide { cycle, sum } => writeln!(text, "no,toowide,{cycle},{sum}")?,
+        Breach::BadLoop { slot } => format!(in alloc; "no,badloop,{slot}\n"),
+        Breach::NotReleased { cycle, slot } => {
+            format!(in alloc; "no,notreleased,{cycle},{slot}\n")
+        }
+        Breach::TooWide { cycle, sum } => format!(in alloc; "no,toowide,{cycle},{sum}\n"),
         Breach::Missed {
             slot,
             release,
             cycle,
-        } => writeln!(text, "no,missed,{slot},{release},{cycle}")?,
-        Breach::NotClosed { slot } => writeln!(text, "no,notclosed,{slot}")?,
+        } => format!(in alloc; "no,missed,{slot},{release},{cycle}\n"),
+        Breach::NotClosed { slot } => format!(in alloc; "no,notclosed,{slot}\n"),
     }
-    Ok(text.into_bytes())
 }
 
 /// Checks a plan against the table that the steps ask for.
@@ -201,7 +193,7 @@ pub fn check_of(alloc: Global, job: &Job, certificate: &Certificate) -> Result<O
         }),
         Err(breach) => Ok(Outcome {
             status: Status::No,
-            text: breach_line(alloc, &breach)?,
+            text: breach_line(alloc, &breach)?.into_bytes(),
         }),
     }
 }
@@ -211,7 +203,7 @@ pub fn put_answer<O: Sink>(answer: Result<Outcome, AllocError>, out: &mut O) -> 
     requires done { IfOk answer (λ outcome. IsDoneStatus outcome.status) }
     ensures faults_never_fall { O.faults out.old ≤ O.faults out.new }
     ensures done { IfOk result IsDoneStatus }
-    ensures carried { (asked_for : Asked)
+    ensures carried { (asked_for : Task)
         → IfOk answer (λ outcome. IsOutput asked_for outcome.status outcome.text.items)
         → IsCarried asked_for (Rose (O.faults out.old) (O.faults out.new))
         (O.told_bytes out.old) (O.told_bytes out.new) result }

@@ -1,12 +1,8 @@
-use Rattle.std.proofs.Common.{◌≡◌, arith, map, refl, string_bytes, subst}
-use Rattle.std.specs.Prelude.{IfErr, IfOk, length}
-use Rattle.ftt_io.specs.Counts.{Rose}
-use Rattle.command_words.specs.Words.{command_by}
-use Rattle.asked_files.specs.Asked.{IsAskedFor, IsNotAsked, asked_of, is_live}
-use Rattle.asked_files.specs.Loads.{Fetches, stop_of_words}
-use Rattle.asked_files.specs.Sources.{sources_of}
-use Rattle.asked_files.proofs.LoadLemmas.{handed-on}
-use Rattle.asked_files.proofs.TaskLemmas.{never-called, not-called, words-stop}
+use Rattle.std.proofs.Common.{◌∙◌, arith, refl, sym}
+use Rattle.std.proofs.lemmas.Result.{err_from_is_err_and}
+use Rattle.command_words.specs.WordsRead.{command_read}
+use Rattle.asked_files.specs.Loads.{AreAllRead}
+use Rattle.asked_files.proofs.TaskLemmas.{loaded, never-called, never-none, not-called, not-loaded, words-stop}
 use Rattle.asked_files.proofs.loading.load.Goals as goal
 
 pub returns-in_err-command-clause-fetched : goal.returns-in_err-command-clause-fetched
@@ -15,46 +11,46 @@ returns-in_err-command-clause-fetched g c =
 
 pub returns-in_err-command-clause-stop : goal.returns-in_err-command-clause-stop
 returns-in_err-command-clause-stop g c =
-    let told = g.S.Shelf.told_files c.args.shelf.now in
-    let faults = g.S.Shelf.faults c.args.shelf.now in
-    let count = g.S.Shelf.fetches c.args.shelf.now in
-    let called = command_by c.args.threads (map string_bytes c.args.words.now) in
-    let fault = c.in_err-command.field-0.0 in
-    handed-on (IsNotAsked called (Rose faults faults) told count count) c.from_residual.result (stop_of_words fault)
-    c.from_residual.ensures.1 (not-called called told (Rose faults faults) count fault c.in_err-command.ensures.stop)
+    let at = err_from_is_err_and c.from_residual.result c.from_residual.ensures.1 in
+    rw (at.1, at.2) (not-called _ _ _ _ _ c.in_err-command.ensures.stop)
 
 pub returns-in_err-command-clause-command : goal.returns-in_err-command-clause-command
 returns-in_err-command-clause-command g c =
     λ none. words-stop c.from_residual.result c.in_err-command.field-0.0 c.from_residual.ensures.1
 
-pub returns-clause-fetched : goal.returns-clause-fetched
-returns-clause-fetched g c =
-    subst
-    (λ called. Fetches g.S.Shelf.told_files g.S.Shelf.fetches g.S.Shelf.faults c.args.shelf.now c.load_command.new.shelf
-    (length (sources_of called)))
-    c.in_ok-command.ensures.ok c.load_command.ensures.fetched
+pub returns-in_err-inputs-clause-fetched : goal.returns-in_err-inputs-clause-fetched
+returns-in_err-inputs-clause-fetched g c =
+    rw (sym c.in_ok-command.ensures.ok, sym c.as_slice.ensures.value) c.fetch_all.ensures.fetched
 
-pub returns-clause-threads : goal.returns-clause-threads
-returns-clause-threads g c =
-    subst (λ threads. IfOk c.load_command.result (λ task. is_live (asked_of task) ≡ threads)) c.in_ok-command.ensures.carried
-    c.load_command.ensures.threads
+pub returns-in_err-inputs-clause-stop : goal.returns-in_err-inputs-clause-stop
+returns-in_err-inputs-clause-stop g c =
+    let at = err_from_is_err_and c.from_residual-in_err-inputs.result c.from_residual-in_err-inputs.ensures.1 in
+    rw (at.1, at.2, sym c.in_ok-command.ensures.ok)
+    (not-loaded (command_read c.in_ok-command.command) _ _ _ _ _ (rw (sym c.as_slice.ensures.value) c.in_err-inputs.ensures.stop))
 
-pub returns-clause-asked : goal.returns-clause-asked
-returns-clause-asked g c =
+pub returns-in_err-inputs-clause-command : goal.returns-in_err-inputs-clause-command
+returns-in_err-inputs-clause-command g c = λ none. absurd (never-called _ _ c.in_ok-command.ensures.ok none)
+
+pub returns : goal.returns
+returns g c =
+    let command = command_read c.in_ok-command.command in
     let told = g.S.Shelf.told_files c.args.shelf.now in
-    let old = g.S.Shelf.fetches c.args.shelf.now in
-    let new = g.S.Shelf.fetches c.load_command.new.shelf in
-    subst (λ called. IfOk c.load_command.result (λ task. IsAskedFor called told old new (asked_of task)))
-    c.in_ok-command.ensures.ok c.load_command.ensures.asked
+    let all : AreAllRead told command.files (g.S.Shelf.fetches c.args.shelf.now) (g.S.Shelf.fetches c.fetch_all.new.shelf) c.in_ok-inputs.inputs =
+    rw (sym c.as_slice.ensures.value) c.in_ok-inputs.ensures.read in
+    let it = loaded command told _ _ _ c.in_ok-command.ensures.row all c.in-Some.task (sym c.in-Some.is ∙ c.task_of.ensures.asked) in
+    record {
+      fetched = rw (sym c.in_ok-command.ensures.ok, sym c.as_slice.ensures.value) c.fetch_all.ensures.fetched;
+      task = it.legal;
+      threads = it.threads ∙ c.in_ok-command.ensures.carried;
+      asked = rw (sym c.in_ok-command.ensures.ok) it.asked;
+      stop = tt;
+      command = λ none. absurd (never-called _ _ c.in_ok-command.ensures.ok none);
+    }
 
-pub returns-clause-stop : goal.returns-clause-stop
-returns-clause-stop g c =
+pub unreachable-requires : goal.unreachable-requires
+unreachable-requires g c =
+    let command = command_read c.in_ok-command.command in
     let told = g.S.Shelf.told_files c.args.shelf.now in
-    let rose = Rose (g.S.Shelf.faults c.args.shelf.now) (g.S.Shelf.faults c.load_command.new.shelf) in
-    let old = g.S.Shelf.fetches c.args.shelf.now in
-    let new = g.S.Shelf.fetches c.load_command.new.shelf in
-    subst (λ called. IfErr c.load_command.result (IsNotAsked called rose told old new)) c.in_ok-command.ensures.ok
-    c.load_command.ensures.stop
-
-pub returns-clause-command : goal.returns-clause-command
-returns-clause-command g c = λ none. absurd (never-called _ _ c.in_ok-command.ensures.ok none)
+    let all : AreAllRead told command.files (g.S.Shelf.fetches c.args.shelf.now) (g.S.Shelf.fetches c.fetch_all.new.shelf) c.in_ok-inputs.inputs =
+    rw (sym c.as_slice.ensures.value) c.in_ok-inputs.ensures.read in
+    never-none command told _ _ _ c.in_ok-command.ensures.row all (sym c.in-None.is ∙ c.task_of.ensures.asked)

@@ -1,5 +1,4 @@
 use Rattle.std.proofs.Common.{refl}
-use Rattle.asked_files.specs.Asked.{asked_of}
 use Rattle.fttcan_top.proofs.EndLemmas.{end-carried, end-stopped}
 use Rattle.fttcan_top.proofs.program.call.Goals as goal
 
@@ -9,5 +8,5 @@ returns-in_err-task-clause-ended g c =
 
 pub returns-clause-ended : goal.returns-clause-ended
 returns-clause-ended g c =
-    end-carried _ _ _ _ _ _ _ _ _ c.carry_out.ensures.done (asked_of c.in_ok-task.task) c.in_ok-task.ensures.asked
+    end-carried _ _ _ _ _ _ _ _ _ c.carry_out.ensures.done c.in_ok-task.task c.in_ok-task.ensures.asked
     c.carry_out.ensures.carried
