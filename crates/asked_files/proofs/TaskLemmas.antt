@@ -1,5 +1,5 @@
 -- What was read of the files of a row of the table is what its command needs, and it is legal.
-use Rattle.std.proofs.Common.{◌≡◌, ◌∙◌, ℕ, List, [], ◌∷◌, Option, Some, None, Result, Ok, Err, false, refl, sym, ap, arith, codes, inl, inr, option_map, rules, subst, unwrap_or}
+use Rattle.std.proofs.Common.{◌≡◌, ◌∙◌, ℕ, List, [], ◌∷◌, Option, Some, None, Result, Ok, Err, refl, sym, ap, arith, codes, inl, inr, option_map, rules, subst, unwrap_or}
 use Rattle.std.specs.Prelude.{◌⊎◌, IsErrOf}
 use Rattle.std.specs.Result.{IsErrAnd}
 use Rattle.std.proofs.lemmas.Option.{same_Some}
@@ -74,30 +74,18 @@ module _ (command : Command) (inputs : Inputs) (name : Option (List ℕ)) (syste
   alone-legal = record { system = is_system; steps = are_steps; requests = no-requests system.owners }
 
   check-read : MayBeRead (file_of Source.Plan [] ∷ []) (begun system steps) inputs → Gives Verb.Check command inputs
-  check-read (Content.Plan plan, is, same) = record {
-    task = Task.Check alone plan;
-    is = ap (λ it. asked_by Verb.Check command (job_in it) it) same;
-    legal = (alone-legal, is);
-    live = refl;
-  }
+  check-read (Content.Plan plan, is, same) =
+      record { task = Task.Check alone plan; is = ap (λ it. asked_by Verb.Check command (job_in it) it) same; legal = (alone-legal, is); live = refl }
   check-read (_, is, same) = absurd is
 
   elastic-read : MayBeRead (file_of Source.Wishes [] ∷ []) (begun system steps) inputs → Gives Verb.Elastic command inputs
-  elastic-read (Content.Wish wish, is, same) = record {
-    task = Task.Choice alone wish;
-    is = ap (λ it. asked_by Verb.Elastic command (job_in it) it) same;
-    legal = (alone-legal, is);
-    live = refl;
-  }
+  elastic-read (Content.Wish wish, is, same) =
+      record { task = Task.Choice alone wish; is = ap (λ it. asked_by Verb.Elastic command (job_in it) it) same; legal = (alone-legal, is); live = refl }
   elastic-read (_, is, same) = absurd is
 
   poll-read : MayBeRead (file_of Source.Streams [] ∷ []) (begun system steps) inputs → Gives Verb.Poll command inputs
-  poll-read (Content.Streams streams, are, same) = record {
-    task = Task.Poll alone streams;
-    is = ap (λ it. asked_by Verb.Poll command (job_in it) it) same;
-    legal = (alone-legal, are);
-    live = refl;
-  }
+  poll-read (Content.Streams streams, are, same) =
+      record { task = Task.Poll alone streams; is = ap (λ it. asked_by Verb.Poll command (job_in it) it) same; legal = (alone-legal, are); live = refl }
   poll-read (_, is, same) = absurd is
 
   audit-read : MayBeRead (file_of Source.Log [] ∷ file_if Source.Requests name) (begun system steps) inputs → Gives Verb.Audit command inputs
