@@ -1,8 +1,13 @@
 -- How a call ends: done with a status or stopped for a reason, and for each status what the call did.
-use Rattle.std.specs.Prelude.{◌≡◌, ◌≤◌, ◌⊎◌, ℕ, List, length, Option, None, Result, Ok, Err}
+use Rattle.std.specs.Prelude.{◌≡◌, ◌≤◌, ◌⊎◌, ℕ, List, length, Option, None, Result, Ok, Err, is_some}
+use Rattle.can_frame.specs.declared.TimedFrame.{TimedFrame}
+use Rattle.async_window.specs.declared.request.Owner.{Owner}
+use Rattle.async_window.specs.declared.request.Request.{Request}
 use Rattle.ftt_io.specs.Counts.{Rose}
 use Rattle.ftt_io.specs.Files.{NamedFiles}
 use Rattle.command_words.specs.Words.{Command}
+use Rattle.replay_run.specs.Progress.{KeepsFrames}
+use Rattle.replay_run.specs.declared.replaying.Written.{Written}
 use Rattle.asked_files.specs.Asked.{IsAskedFor, IsNotAsked}
 use Rattle.asked_files.specs.Loads.{IsFetched, sources_of}
 use Rattle.asked_files.specs.declared.stopping.Refusal.{Refusal}
@@ -10,7 +15,13 @@ use Rattle.asked_files.specs.declared.stopping.Stop.{Stop}
 use Rattle.asked_files.specs.declared.stopping.Stop.TheVariants.{Words, Input, Read, Write, Memory}
 use Rattle.asked_files.specs.declared.tasks.Task.{Task}
 use Rattle.fttcan_top.specs.declared.status.Status.{Status}
-use Rattle.fttcan_top.specs.Output.{PutsPart, Says, Tells, message_of}
+use Rattle.fttcan_top.specs.Output.{PutsPart, Says, Tells, message_of, report_if}
+
+-- this is so of the report of a run, where its frames were kept, and of no text otherwise, whatever its trace is
+abbrev pub IsOfReport : Written → List Owner → List Request → (List ℕ → Type 0) → Type 0
+IsOfReport run owners requests IsSo =
+    (trace : List TimedFrame) → KeepsFrames run.trace trace
+    → IsSo (report_if (is_some run.trace) run.master.history trace owners requests)
 
 -- the status of a call that ended so
 abbrev pub end_status : Result Status Stop → Status

@@ -1,5 +1,5 @@
 -- The headline's definitions: what is written for what the words and the files ask for, and what a status says.
-use Rattle.std.specs.Prelude.{◌≡◌, ℕ, ◌⊎◌, ⊤, Bool, false, List, [], ◌++◌, length, codes, if◌then◌else◌, Option, None, is_some}
+use Rattle.std.specs.Prelude.{◌≡◌, ℕ, ◌⊎◌, ⊤, Bool, false, List, [], ◌++◌, length, codes, if◌then◌else◌, Option, None}
 use Rattle.std.specs.Fmt.{decimal}
 use Rattle.can_frame.specs.declared.TimedFrame.{TimedFrame}
 use Rattle.ftt_io.specs.Puts.{Puts, PutsPrefix}
@@ -16,7 +16,6 @@ use Rattle.generated_input.specs.Generator.{requests_made, steps_made, system_ma
 use Rattle.master_core.specs.Accepted.{all_accepted}
 use Rattle.replay_run.specs.AskedTable.{table_of}
 use Rattle.replay_run.specs.Begun.{IsRunBegun}
-use Rattle.replay_run.specs.Progress.{KeepsFrames}
 use Rattle.replay_run.specs.Run.{AnswersSteps, IsRun}
 use Rattle.live_steps.specs.Live.{IsLive}
 use Rattle.poll_run.specs.PolledRun.{IsPolledRun}
@@ -47,7 +46,6 @@ use Rattle.elastic.specs.declared.wish.Wish.{Wish}
 use Rattle.log_reader.specs.Row.{AreRowsOf}
 use Rattle.log_reader.specs.declared.row.LogRow.{LogRow}
 use Rattle.trace_audit.specs.Audit.{IsAudited, IsFirstBreak, IsUnfinished}
-use Rattle.replay_run.specs.declared.replaying.Written.{Written}
 
 -- What is written
 
@@ -58,12 +56,6 @@ status_of history = if all_accepted history then Done else Refused
 -- the report of a run, where it is asked for
 abbrev pub report_if : Bool → List Event → List TimedFrame → List Owner → List Request → List ℕ
 report_if report history trace owners requests = if report then report_text history trace owners requests else []
-
--- this is so of the report of a run, where its frames were kept, and of no text otherwise, whatever its trace is
-abbrev pub IsOfReport : Written → List Owner → List Request → (List ℕ → Type 0) → Type 0
-IsOfReport run owners requests IsSo =
-    (trace : List TimedFrame) → KeepsFrames run.trace trace
-    → IsSo (report_if (is_some run.trace) run.master.history trace owners requests)
 
 -- the log of a run, or so many of its last rows, and the report behind it where that is asked for: the history answers
 -- the steps, and history and trace keep what is promised
@@ -227,8 +219,7 @@ pub record TellsBegun (Begun : List Event → List TimedFrame → Type 0) (IsTex
   pub puts : PutsPrefix old new (events_rows trace [] history)
   pub front : (status : Status) (text : List ℕ) → IsText status text → PutsPrefix old new text
 
--- this may be so of a whole log alone, or of that of a handover or of a polled run, which are written while the run goes
--- on
+-- this may be so of a whole log alone, or of that of a handover or of a polled run: these are written during the run
 abbrev pub IsCutWhileRun : Task → Option (List ℕ) → Option (List ℕ) → Type 0
 IsCutWhileRun (Task.Log job None report) old new =
     TellsBegun (IsRunBegun job.system job.steps job.requests) (IsLog job None report) old new
@@ -238,8 +229,7 @@ IsCutWhileRun (Task.Poll job streams) old new =
     TellsBegun (IsPolledRunBegun job.system job.steps streams) (IsPollText job streams) old new
 IsCutWhileRun _ old new = ⊥
 
--- the first part of an answer was put: its first bytes; or those of the rows of a run that was begun, where the answer is
--- written while the run goes on
+-- the first part of an answer was put: its first bytes, or the first ones of the rows of a run that was cut short
 abbrev pub PutsPart : Task → Option (List ℕ) → Option (List ℕ) → Type 0
 PutsPart asked_for old new = TellsFront asked_for old new ⊎ IsCutWhileRun asked_for old new
 

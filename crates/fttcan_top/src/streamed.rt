@@ -6,8 +6,8 @@ ghost use Rattle.ftt_io.specs.Puts.{Puts, PutsPrefix};
 ghost use Rattle.sporadic_poll.specs.StreamsFile.{AreLegalStreams};
 ghost use Rattle.asked_files.specs.Asked.{IsJob};
 ghost use Rattle.asked_files.specs.declared.tasks.Task.{Task};
-ghost use Rattle.fttcan_top.specs.Ends.{IsCarried};
-ghost use Rattle.fttcan_top.specs.Output.{IsDoneStatus, IsOfReport, PutsPart, Tells};
+ghost use Rattle.fttcan_top.specs.Ends.{IsCarried, IsOfReport};
+ghost use Rattle.fttcan_top.specs.Output.{IsDoneStatus, PutsPart, Tells};
 
 use crate::rows::put_rows;
 use crate::status::Status;

@@ -6,7 +6,7 @@ ghost use Rattle.asked_files.specs.Asked.{IsJob};
 ghost use Rattle.asked_files.specs.declared.tasks.Task.{Task};
 ghost use Rattle.asked_files.specs.Inputs.{IsToCheck};
 ghost use Rattle.fttcan_top.specs.Ends.{IsCarried};
-ghost use Rattle.fttcan_top.specs.Output.{IsCheckText, IsDoneStatus, IsLiveLog, IsLog, IsOutput, IsPlanText, IsSummary, breach_line, report_if, status_of};
+ghost use Rattle.fttcan_top.specs.Output.{IsCheckText, IsDoneStatus, IsLiveLog, IsLog, IsOutput, IsPlanText, IsSummary, breach_line, report_if};
 
 use crate::rows::put_rows;
 use crate::status::Status;

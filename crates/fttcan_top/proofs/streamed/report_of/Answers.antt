@@ -2,7 +2,7 @@ use Rattle.std.proofs.Common.{◌≡◌, ◌∙◌, ap, subst}
 use Rattle.std.proofs.lemmas.Result.{IfOk-weaker}
 use Rattle.plan_report.specs.Report.{report_text}
 use Rattle.replay_run.specs.Progress.{KeepsFrames}
-use Rattle.fttcan_top.specs.Output.{IsOfReport}
+use Rattle.fttcan_top.specs.Ends.{IsOfReport}
 use Rattle.fttcan_top.proofs.streamed.report_of.Goals as goal
 
 pub returns-in-None : goal.returns-in-None

@@ -1,12 +1,13 @@
-use Rattle.std.proofs.Common.{rules, sym}
-use Rattle.fttcan_top.proofs.StreamedLemmas.{log-cut, log-told, report-cut}
+use Rattle.std.proofs.Common.{None, rules, sym}
+use Rattle.asked_files.specs.declared.tasks.Task.{Task}
+use Rattle.fttcan_top.proofs.StreamedLemmas.{log-told, report-cut, run-cut}
 use Rattle.fttcan_top.proofs.streamed.write_log.Goals as goal
 
 pub returns-in_err-run-clause-cut : goal.returns-in_err-run-clause-cut
 returns-in_err-run-clause-cut g c =
     let job = c.args.job.now in
-    let all = log-cut job c.args.report (g.O.Sink.told_bytes c.args.out.now) (g.O.Sink.told_bytes c.replay_to.new.out)
-    c.in_err-run.field-0.0
+    let all = run-cut job (Task.Log job None c.args.report) c.args.report (g.O.Sink.told_bytes c.args.out.now) (g.O.Sink.told_bytes c.replay_to.new.out)
+    c.in_err-run.field-0.0 (λ status text is. is) (λ is. is)
     (λ history whole trace frames. c.rows_so_far.ensures.front job.system job.steps job.requests history whole trace frames
     c.requires.job.system c.requires.job.requests)
     (rw (sym c.as_slice-steps.ensures.list, sym c.as_slice-requests.ensures.list) c.in_err-run.ensures.cut) in
