@@ -38,6 +38,6 @@ module _ {L : Type 0} (Heard Broke : L → List ℕ → L → Type 0) (Begun : L
     pub write : why ≡ Write
     pub broke : Broke old text new
 
-  -- a run was cut short, or the hearing of what stands behind its last event was
+  -- a run was cut short, or the hearing of the text of a whole run was
   abbrev pub IsCutOff : Cut → Type 0
   IsCutOff why = IsHeardInPart why ⊎ IsHeardToEnd why

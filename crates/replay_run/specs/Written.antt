@@ -27,7 +27,7 @@ IsWritten IsText old new = IsHeard Took IsText old new
 
 -- where `Begun` says that a history and a trace are those of a run of the first calls, a run was cut for this reason.
 -- All rows of a run of the first calls were put, where memory ran out; or the first bytes of them, where the sink failed.
--- Or the sink failed behind the last event, and the first bytes of the text of a whole run were put
+-- Or the sink failed, and the first bytes of the text of a whole run were put
 abbrev pub IsRunCut : (List Event → List TimedFrame → Type 0) → (List ℕ → Type 0) → Option (List ℕ) → Option (List ℕ)
     → Cut → Type 0
 IsRunCut Begun IsText old new why = IsCutOff Took TookFront Begun IsText old new why
