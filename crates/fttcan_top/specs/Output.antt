@@ -219,7 +219,7 @@ pub record TellsBegun (Begun : List Event → List TimedFrame → Type 0) (IsTex
   pub puts : PutsPrefix old new (events_rows trace [] history)
   pub front : (status : Status) (text : List ℕ) → IsText status text → PutsPrefix old new text
 
--- this may be so of a whole log alone, or of that of a handover or of a polled run: these are written during the run
+-- this may be so of a whole log alone, or of that of a handover or a polled run. These are written during the run
 abbrev pub IsCutWhileRun : Task → Option (List ℕ) → Option (List ℕ) → Type 0
 IsCutWhileRun (Task.Log job None report) old new =
     TellsBegun (IsRunBegun job.system job.steps job.requests) (IsLog job None report) old new
