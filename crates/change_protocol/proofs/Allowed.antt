@@ -1,5 +1,5 @@
 -- What holds of the operations of a change that breaks no rule.
-use Rattle.std.proofs.Common.{◌≡◌, ◌≢◌, ℕ, ◌<◌, ◌≤◌, ◌^◌, Bool, true, false, ◌||◌, nat_eq, nat_lt, nat_le, Option, Some, None, IfSome, IsSomeAnd, is_none, List, [], ◌∷◌, ◌++◌, length, map, All, AllPairs, append_assoc, refl, append-nil, arith}
+use Rattle.std.proofs.Common.{◌≡◌, ◌≢◌, ℕ, ◌<◌, ◌≤◌, Bool, true, false, ◌||◌, nat_eq, nat_lt, nat_le, Option, Some, None, IfSome, IsSomeAnd, is_none, List, [], ◌∷◌, ◌++◌, length, map, All, AllPairs, append_assoc, refl, append-nil, arith}
 use Rattle.std.specs.List.{list_any}
 use Rattle.std.specs.Option.{option_map_or}
 use Rattle.std.proofs.lemmas.Bool.{eqb-false, leb-false, or_parts}
@@ -11,10 +11,11 @@ use Rattle.requirement_table.specs.declared.entries.Placed.{Placed}
 use Rattle.bit_sets.specs.Sets.{most_slots}
 use Rattle.change_protocol.specs.declared.operations.Op.{Op}
 use Rattle.change_protocol.specs.declared.operations.Op.TheVariants.{Add, Remove, Change}
+use Rattle.change_protocol.specs.declared.operations.Change.{Change as TableChange}
 use Rattle.change_protocol.specs.declared.malformed.Why.{Why}
 use Rattle.change_protocol.specs.Operations.{entry_of, slot_of}
 use Rattle.change_protocol.specs.Applied.{free_in, live_in}
-use Rattle.change_protocol.specs.Malformed.{Bounds, Broken, add_busy_by, broken, deadline_range, end_busy_by, length_range, node_unknown, op_faults, period_zero, places, slot_busy, slot_empty, slot_range, slot_twice, where_holds, whys}
+use Rattle.change_protocol.specs.Malformed.{Bounds, IsWellFormed, add_busy_by, bounds_of, broken, change_faults, deadline_range, end_busy_by, length_range, node_unknown, op_faults, period_zero, slot_busy, slot_empty, slot_range, slot_twice, where_holds, whys}
 
 -- the slot has a live entry that does not begin behind the start
 abbrev pub CanEnd : List Placed → ℕ → ℕ → Type 0
@@ -115,6 +116,19 @@ all-allowed placed bounds start earlier (op ∷ ops) none =
     (allowed-at placed bounds start earlier op (none-mapped (broken (length earlier)) (whys placed bounds start earlier op) parts.0)).0
     (all-allowed placed bounds start (earlier ++ op ∷ []) ops parts.1)
 
+-- and each finds the live entry that it ends
+not-empty : (placed : List Placed) (bounds : Bounds) (start : ℕ) (earlier : List Op) (op : Op) → whys placed bounds start earlier op ≡ [] → slot_empty placed op ≡ []
+not-empty placed bounds start earlier op none =
+    (both-none (slot_range bounds.slots op ++ slot_twice earlier op ++ node_unknown bounds.nodes op ++ length_range op ++ period_zero op ++ deadline_range op ++ slot_busy placed start op) (slot_empty placed op) none).1
+
+pub all-live : (placed : List Placed) (bounds : Bounds) (start : ℕ) (earlier ops : List Op) → op_faults placed bounds start earlier ops ≡ [] → All (λ op. slot_empty placed op ≡ []) ops
+all-live placed bounds start earlier [] none = All-nil (λ op. slot_empty placed op ≡ [])
+all-live placed bounds start earlier (op ∷ ops) none =
+    let parts = both-none (map (broken (length earlier)) (whys placed bounds start earlier op)) (op_faults placed bounds start (earlier ++ op ∷ []) ops) none in
+    All-cons (λ op. slot_empty placed op ≡ []) op ops
+    (not-empty placed bounds start earlier op (none-mapped (broken (length earlier)) (whys placed bounds start earlier op) parts.0))
+    (all-live placed bounds start (earlier ++ op ∷ []) ops parts.1)
+
 -- and they have different slots
 pub all-differ : (placed : List Placed) (bounds : Bounds) (start : ℕ) (earlier ops : List Op) → op_faults placed bounds start earlier ops ≡ [] → AllPairs Differ earlier → AllPairs Differ (earlier ++ ops)
 all-differ placed bounds start earlier [] none differ = rw (append-nil earlier) differ
@@ -141,3 +155,14 @@ allowed-most placed bounds start ops room none =
       entry = allowed.entry;
       fits = allowed.fits;
     }) ops (all-allowed placed bounds start [] ops none)
+
+-- so each slot of a well formed change has room
+pub formed-slots : (placed : List Placed) (nodes slots : ℕ) (change : TableChange) → slots ≤ most_slots → IsWellFormed placed (bounds_of nodes slots) change → All (λ op. slot_of op < most_slots) change.ops
+formed-slots placed nodes slots change room formed =
+    All-weaker (IsAllowed most_slots placed change.start) (λ op. slot_of op < most_slots) (λ op allowed. allowed.slot) change.ops
+    (allowed-most placed (bounds_of nodes slots) change.start change.ops room (both-none (change_faults change.start change.ops) _ formed).1)
+
+-- and each operation finds the live entry that it ends
+pub formed-live : (placed : List Placed) (nodes slots : ℕ) (change : TableChange) → IsWellFormed placed (bounds_of nodes slots) change → All (λ op. slot_empty placed op ≡ []) change.ops
+formed-live placed nodes slots change formed =
+    all-live placed (bounds_of nodes slots) change.start [] change.ops (both-none (change_faults change.start change.ops) _ formed).1

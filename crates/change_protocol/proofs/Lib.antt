@@ -1,4 +1,5 @@
 mod Allowed
+mod Counts
 mod Ends
 mod First
 mod Kept

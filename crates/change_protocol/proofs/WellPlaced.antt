@@ -1,6 +1,6 @@
 -- A well formed change keeps a list of placed entries well placed.
-use Rattle.std.proofs.Common.{◌≡◌, ◌≢◌, ℕ, ◌+◌, ◌-◌, ◌^◌, ◌<◌, ◌≤◌, ◌⊎◌, Bool, true, false, ◌&&◌, if◌then◌else◌, nat_eq, nat_le, Option, Some, None, IfSome, IsSomeAnd, is_none, List, [], ◌∷◌, ◌++◌, length, get_or, map, All, AllPairs, refl, sym, ap, ◌∙◌, ⊎_elim, inl, inr, arith}
-use Rattle.std.specs.List.{filter_map, find, list_any}
+use Rattle.std.proofs.Common.{◌≡◌, ℕ, ◌+◌, ◌-◌, ◌^◌, ◌<◌, ◌≤◌, ◌⊎◌, Bool, true, false, ◌&&◌, if◌then◌else◌, nat_eq, nat_le, Option, Some, None, IfSome, IsSomeAnd, is_none, List, [], ◌∷◌, ◌++◌, length, get_or, map, All, AllPairs, refl, sym, ap, ◌∙◌, ⊎_elim, inl, inr, arith}
+use Rattle.std.specs.List.{filter_map, list_any}
 use Rattle.std.specs.Option.{option_map, option_map_or}
 use Rattle.std.proofs.lemmas.Bool.Decides.{nat_tests}
 use Rattle.std.proofs.lemmas.Bool.{and_parts, cases_Bool, eq-eqb, eqb-true, or_cases}
@@ -17,7 +17,7 @@ use Rattle.change_protocol.specs.declared.operations.Op.TheVariants.{Add, Remove
 use Rattle.change_protocol.specs.declared.operations.Change.{Change as TableChange}
 use Rattle.change_protocol.specs.Operations.{HasTypes, IsTyped, ends}
 use Rattle.change_protocol.specs.Applied.{IsKept, applied, ended, free_in, freed_by, live_in, lives_in, origin_behind, placed_by}
-use Rattle.change_protocol.specs.Malformed.{Bounds, broken, change_faults, no_ops, op_faults, start_range, too_many_ops}
+use Rattle.change_protocol.specs.Malformed.{Bounds, IsWellFormed, bounds_of, broken, change_faults, no_ops, op_faults, start_range, too_many_ops}
 use Rattle.change_protocol.proofs.Allowed.{CanEnd, Differ, IsAllowed, IsSound, all-differ, allowed-most, both-none, none-mapped, not-held}
 use Rattle.change_protocol.proofs.Kept.{ended-kept, live-in_range, none-from_test}
 use Rattle.change_protocol.proofs.Live.{find-kept, find-none}
@@ -286,3 +286,9 @@ well_placed-applied placed bounds change room well whole each typed =
     (allowed-most placed bounds change.start change.ops room each)
     (all-differ placed bounds change.start [] change.ops each (pairs-nil Differ))
     typed
+
+pub well_placed-formed : (placed : List Placed) (nodes slots : ℕ) (change : TableChange) → slots ≤ most_slots → IsWellPlaced placed → IsWellFormed placed (bounds_of nodes slots) change → All HasTypes change.ops
+    → IsWellPlaced (applied placed change)
+well_placed-formed placed nodes slots change room well formed typed =
+    let parts = both-none (change_faults change.start change.ops) (op_faults placed (bounds_of nodes slots) change.start [] change.ops) formed in
+    well_placed-applied placed (bounds_of nodes slots) change room well parts.0 parts.1 typed

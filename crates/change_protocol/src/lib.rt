@@ -11,8 +11,10 @@ mod operations;
 mod pruning;
 mod rules;
 mod slots;
+mod table;
 
 pub use applying::apply;
 pub use malformed::{ApplyFault, Why};
 pub use operations::{Act, Change, Op, Ops};
 pub use pruning::prune;
+pub use table::PlacedTable;

@@ -1,11 +1,10 @@
 //! What the placed entries make of each slot.
 
-ghost use Rattle.std.specs.Prelude.{◌≡◌, ◌<◌, None, IfSome};
+ghost use Rattle.std.specs.Prelude.{◌≡◌, ℕ, ◌+◌, ◌<◌, ◌≤◌, None, Some, IfSome, length, slice_index_or, take};
 ghost use Rattle.std.proofs.Props.{props};
 ghost use Rattle.bit_sets.specs.Sets.{most_slots};
 ghost use Rattle.requirement_table.specs.Table.{IsInRange, IsWellPlaced};
-ghost use Rattle.change_protocol.specs.Slots.{AreUpToLast, FindsOnly, IsLastAt, ended_by, unused, use_by, use_of};
-ghost use Rattle.change_protocol.specs.declared.operations.Op.TheVariants.{Remove};
+ghost use Rattle.change_protocol.specs.Slots.{AreUpToLast, IsCounted, IsLastAt, counts_of, unused, use_by, use_of};
 
 use requirement_table::{MOST_SLOTS, Placed};
 
@@ -36,27 +35,60 @@ fn use_by(p: &Placed) -> SlotUse
     }
 }
 
+/// For each slot how many placed entries there are up to its last one, which is counted, and 0 where it has none.
+pub type Counts = [usize; MOST_SLOTS as usize];
+
+/// Counts the entries from the place `from` on, where those before it are counted.
+pub fn count_from(counts: &mut Counts, placed: &[Placed], from: usize)
+    requires within { from ≤ length placed.now }
+    requires well_placed { IsWellPlaced placed.now }
+    requires counted { counts.old ≡ counts_of (take from placed.now) }
+    ensures counted { IsCounted placed.now counts.new }
+{
+    for place in from..placed.len() {
+        counts[usize::from(placed[place].entry.slot)] = place + 1;
+    }
+}
+
+/// Where the last entry of each slot of the list stands.
+pub fn counts_of(placed: &[Placed]) -> Counts
+    requires { IsWellPlaced placed.now }
+    ensures { IsCounted placed.now result }
+{
+    let mut counts = [0; MOST_SLOTS as usize];
+    count_from(&mut counts, placed, 0);
+    counts
+}
+
+/// The place of the slot's last entry by these numbers, where it has one.
+pub fn last_place(counts: &Counts, slot: u8) -> Option<usize>
+    requires { slot < most_slots }
+    ensures none { result ≡ None → slice_index_or counts.now slot 0 ≡ 0 }
+    ensures some { (place : ℕ) → result ≡ Some place → slice_index_or counts.now slot 0 ≡ place + 1 }
+{
+    let count = counts[usize::from(slot)];
+    if count == 0 {
+        return None;
+    }
+    Some(count - 1)
+}
+
 /// The placed entries, and where the last one of each slot stands.
 #[derive(Drop)]
 pub struct SlotTable<'a> {
     pub placed: &'a [Placed],
-    // For each slot how many entries there are up to its last one, which is counted, and 0 where it has none.
-    up_to_last: [usize; MOST_SLOTS as usize],
+    counts: &'a Counts,
     ghost well_placed: { IsWellPlaced placed.now } by { Prim.hlevel props },
-    ghost counted: { AreUpToLast placed.now up_to_last },
+    ghost counted: { AreUpToLast placed.now counts.now },
 }
 
 impl<'a> SlotTable<'a> {
-    /// The table of these placed entries.
-    pub fn of(placed: &'a [Placed]) -> SlotTable<'a>
-        requires { IsWellPlaced placed.now }
+    /// The table of these placed entries, of which these are the numbers.
+    pub fn of(placed: &'a [Placed], counts: &'a Counts) -> SlotTable<'a>
+        requires { IsCounted placed.now counts.now }
         ensures { result.placed.now ≡ placed.now }
     {
-        let mut up_to_last = [0; MOST_SLOTS as usize];
-        for (place, p) in placed.iter().enumerate() {
-            up_to_last[usize::from(p.entry.slot)] = place + 1;
-        }
-        SlotTable { placed, up_to_last }
+        SlotTable { placed, counts }
     }
 
     /// The place of the slot's last entry, where it has one.
@@ -65,28 +97,7 @@ impl<'a> SlotTable<'a> {
         ensures none { result ≡ None → use_of self.now.placed.now slot ≡ unused }
         ensures last { IfSome result (IsLastAt self.now.placed.now slot) }
     {
-        let count = self.up_to_last[usize::from(slot)];
-        if count == 0 {
-            return None;
-        }
-        Some(count - 1)
-    }
-
-    /// The place of the slot's live entry, where it has one.
-    pub fn live_place(&self, slot: u8) -> Option<usize>
-        requires { slot < most_slots }
-        ensures only { FindsOnly (ended_by (Remove slot)) self.now.placed.now result }
-    {
-        match self.last(slot) {
-            Some(place) => {
-                if self.placed[place].end.is_some() {
-                    None
-                } else {
-                    Some(place)
-                }
-            }
-            None => None,
-        }
+        last_place(self.counts, slot)
     }
 
     /// What the placed entries make of this slot.

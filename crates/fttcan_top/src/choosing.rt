@@ -28,7 +28,7 @@ fn fault_rows(alloc: Global, fault: &ElasticFault) -> Result<String, AllocError>
 }
 
 /// Has a master answer the steps, and answers with the first combination of periods of the wish that it would accept
-/// then, or with why it would accept none. The master is not changed by that.
+/// then, or with why none was chosen. The master is not changed by that.
 #[tactic(auto, using(crate::proofs::ChosenLemmas::no_lack))]
 pub fn choice_of(alloc: Global, job: &Job, wish: &Wish) -> Result<Outcome, AllocError>
     requires job { IsJob job.now }

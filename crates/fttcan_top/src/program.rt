@@ -79,7 +79,7 @@ fn call<S: Shelf, O: Sink>(
 ///   breach.
 /// - `gen NUMBER` makes an input from a number of 0 to 4,294,967,295, runs it and writes a summary; it reads no file.
 /// - `elastic SYSTEM STEPS WISHES` has a master answer the steps, with no bus, and writes which periods of the wish it
-///   would accept first then, or why it would accept none.
+///   would accept first then, or why it chose none.
 /// - `handover SYSTEM STEPS AT` and `handover SYSTEM STEPS AT REQUESTS` run as `replay` does, with AT from 0 to 20,000.
 ///   After AT cycles were opened the first master is dropped. Its standby goes on, which was told the accepted changes
 ///   and heard the triggers. What is written is what `replay` writes.

@@ -9,7 +9,8 @@ pub enum Status {
     /// What was asked was done: no change was refused, the checked plan keeps the table, the audited log is that of a
     /// whole run, or periods were chosen.
     Done,
-    /// The run was done, and some change was refused, or no periods of the wish would be accepted.
+    /// The run was done, and some change was refused, or no periods of the wish were chosen: none would be accepted, or
+    /// they have too many combinations.
     Refused,
     /// The words are those of no command.
     Words,

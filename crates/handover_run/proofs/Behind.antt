@@ -2,6 +2,7 @@
 use Rattle.std.proofs.Common.{◌≡◌, ℕ, ◌*◌, ◌≤◌, true, List, [], Option, Some, None, All, sym, ap, ◌∙◌, subst}
 use Rattle.can_frame.specs.declared.data_frame.TimedFrame.{TimedFrame}
 use Rattle.requirement_table.specs.declared.entries.Order.{Order}
+use Rattle.requirement_table.specs.declared.entries.Placed.{Placed}
 use Rattle.requirement_table.specs.Opening.{Opening}
 use Rattle.admission_rules.specs.declared.Rules.{Rules}
 use Rattle.bus_line.specs.Trace.{end_of}
@@ -12,7 +13,7 @@ use Rattle.master_core.specs.declared.event.Event.{Event}
 use Rattle.master_core.specs.History.{IsLegal, IsPlainlyLegal, is_changed, next_of, placed_of}
 use Rattle.master_core.specs.Journals.{LeanView}
 use Rattle.master_core.specs.Openings.{openings_of}
-use Rattle.master_core.specs.Orders.{IsOrder}
+use Rattle.master_core.specs.Orders.{IsOrder, StandsFor}
 use Rattle.trigger_kind.specs.Kind.{IsSlots}
 use Rattle.system_file.specs.SystemFile.{IsSystem}
 use Rattle.system_file.specs.declared.system.System.{System}
@@ -58,7 +59,9 @@ module _ (laws : OneCore) where
     numbers = ready.numbers;
     known = ready.known;
     bus = subst (λ (n : ℕ). IsBus setting.layout setting.owners setting.requests ready.known trace n (states_of nodes.nodes)) (laws.next one other same) ready.bus;
-    up_to_date = λ is. ready.up_to_date (laws.changed one other same ∙ is) ∙ laws.placed one other same;
+    up_to_date = λ is.
+        subst (λ (n : ℕ). StandsFor n (placed_of other) ready.known) (laws.next one other same)
+        (subst (λ (l : List Placed). StandsFor (next_of one) l ready.known) (laws.placed one other same) (ready.up_to_date (laws.changed one other same ∙ is)));
   }
 
   -- a run goes on with another master whose history has the core of the first one's

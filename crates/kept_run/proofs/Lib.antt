@@ -5,5 +5,6 @@ mod Plans
 mod Ready
 mod Served
 pub mod Shared
+mod Standing
 mod Steps
 mod Triggers

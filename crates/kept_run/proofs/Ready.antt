@@ -1,5 +1,5 @@
 -- The nodes of a run: what they know once they have learnt the list of an order and heard a cycle.
-use Rattle.std.proofs.Common.{◌≡◌, ℕ, ◌+◌, ◌*◌, ◌^◌, ◌<◌, ◌≤◌, Bool, length, true, false, cond, List, [], ◌∷◌, ◌++◌, map, All, Contains, Option, Some, None, refl, ap, sym, ◌∙◌, subst}
+use Rattle.std.proofs.Common.{◌≡◌, ℕ, ◌+◌, ◌*◌, ◌^◌, ◌<◌, ◌≤◌, Bool, length, true, false, cond, List, [], ◌∷◌, ◌++◌, map, All, Contains, Option, Some, None, refl, ap, sym, ◌∙◌, subst, arith}
 use Rattle.std.specs.Prelude.{IfSome, is_some}
 use Rattle.std.proofs.lemmas.List.Elements.{All-contains, All-map, All-weaker}
 use Rattle.can_frame.specs.declared.data_frame.TimedFrame.{TimedFrame}
@@ -15,7 +15,7 @@ use Rattle.admission_rules.specs.declared.Rules.{Rules}
 use Rattle.master_core.specs.declared.event.Event.{Event}
 use Rattle.master_core.specs.declared.event.Event.TheVariants.{Open}
 use Rattle.master_core.specs.History.{IsLegal, IsRight, is_changed, is_open, next_of, placed_of, plan_of}
-use Rattle.master_core.specs.Orders.{IsOrder}
+use Rattle.master_core.specs.Orders.{IsOrder, IsOrderFor, IsOrderWith, StandsFor}
 use Rattle.master_core.proofs.Shared.{sound-of_legal}
 use Rattle.async_window.specs.declared.request.Owner.{Owner}
 use Rattle.async_window.specs.declared.request.Request.{Request}
@@ -25,10 +25,11 @@ use Rattle.node_model.proofs.Shared.{instance-of_own}
 use Rattle.cycle_engine.specs.Cycle.{FitsWindow}
 use Rattle.cycle_engine.specs.Nodes.{CanLearn, FitsOrder, HaveSpare, IsBefore, IsBus, IsNumber, IsOwned, IsSlotKnown, NodesView, heard_by, learnt_by, opening_of, states_of}
 use Rattle.cycle_engine.proofs.Shared.{number_kept_all}
-use Rattle.kept_run.specs.Progress.{AreNodesReady, IsUnderWay}
+use Rattle.kept_run.specs.Progress.{AreBeforeCycle, AreNodesReady, IsUnderWay}
 use Rattle.kept_run.specs.Setting.{IsSetting, Setting}
 use Rattle.kept_run.proofs.Histories.{next_of-closed, next_of-push, placed_of-push, unchanged-closed}
 use Rattle.kept_run.proofs.Lists.{Contains-from_map}
+use Rattle.kept_run.proofs.Standing.{stands-now, width-stands}
 
 -- Nodes keep their numbers
 
@@ -67,23 +68,32 @@ owned-same owners before after request same owned = record {
   node = subst (λ l. Contains l owned.owner.node) (sym same) owned.node;
 }
 
--- nodes that learn a list, where it changed, are a bus for it
-bus-learnt : (layout : CycleLayout) (owners : List Owner) (requests : List Request) (known placed : List Placed) (past : List TimedFrame) (next : ℕ) (nodes : List NodeState) (changed : Bool)
-    → IsWellPlaced placed → IsBus layout owners requests known past next nodes → (changed ≡ false → known ≡ placed)
-    → IsBus layout owners requests placed past next (learnt_by (cond changed (Some placed) None) nodes)
-bus-learnt layout owners requests known placed past next nodes true well bus up_to_date =
-    let same = numbers-learnt placed nodes in
+-- the list that nodes know once they have learnt another one, where it changed
+abbrev known_then : Bool → List Placed → List Placed → List Placed
+known_then changed list known = cond changed list known
+
+-- nodes that learn a list, where it changed, are a bus for what they know then
+bus-learnt : (layout : CycleLayout) (owners : List Owner) (requests : List Request) (known list : List Placed) (past : List TimedFrame) (next : ℕ) (nodes : List NodeState) (changed : Bool)
+    → IsWellPlaced list → IsBus layout owners requests known past next nodes
+    → IsBus layout owners requests (known_then changed list known) past next (learnt_by (cond changed (Some list) None) nodes)
+bus-learnt layout owners requests known list past next nodes true well bus =
+    let same = numbers-learnt list nodes in
     record {
       well_placed = well;
       are_owners = bus.are_owners;
-      stand = All-map (StandsOnBus layout owners requests placed past next) (learnt placed) nodes
-          (All-weaker (StandsOnBus layout owners requests known past next) (λ node. StandsOnBus layout owners requests placed past next (learnt placed node))
-          (λ node stands. stands-learnt layout owners requests known placed past next node stands) nodes bus.stand);
-      owned = All-weaker (IsOwned owners nodes) (IsOwned owners (map (learnt placed) nodes))
-          (λ request owned. owned-same owners nodes (map (learnt placed) nodes) request same owned) requests bus.owned;
+      stand = All-map (StandsOnBus layout owners requests list past next) (learnt list) nodes
+          (All-weaker (StandsOnBus layout owners requests known past next) (λ node. StandsOnBus layout owners requests list past next (learnt list node))
+          (λ node stands. stands-learnt layout owners requests known list past next node stands) nodes bus.stand);
+      owned = All-weaker (IsOwned owners nodes) (IsOwned owners (map (learnt list) nodes))
+          (λ request owned. owned-same owners nodes (map (learnt list) nodes) request same owned) requests bus.owned;
     }
-bus-learnt layout owners requests known placed past next nodes false well bus up_to_date =
-    subst (λ l. IsBus layout owners requests l past next nodes) (up_to_date refl) bus
+bus-learnt layout owners requests known list past next nodes false well bus = bus
+
+-- and it stands for the placed entries
+stands-known : (next : ℕ) (whole list known : List Placed) (changed : Bool) → StandsFor next whole list → (changed ≡ false → StandsFor next whole known)
+    → StandsFor next whole (known_then changed list known)
+stands-known next whole list known true stands up_to_date = stands
+stands-known next whole list known false stands up_to_date = up_to_date refl
 
 well-learned : (placed : List Placed) (changed : Bool) → IsWellPlaced placed → IfSome (cond changed (Some placed) None) IsWellPlaced
 well-learned placed true well = well
@@ -100,7 +110,7 @@ ready-at_first setting nodes same bytes bus numbers = record {
   numbers = numbers;
   known = [];
   bus = bus;
-  up_to_date = λ _. refl;
+  up_to_date = λ _. record { well_placed = bus.well_placed; instances = λ slot at late. refl };
 }
 
 -- A call that opens no cycle
@@ -115,19 +125,17 @@ ready-answered setting trace nodes history event closed ready = record {
   bus = subst (λ n. IsBus setting.layout setting.owners setting.requests ready.known trace n (states_of nodes.nodes)) (sym (next_of-closed history event closed)) ready.bus;
   up_to_date = λ not_changed.
       let unchanged = unchanged-closed history event closed not_changed in
-      ready.up_to_date unchanged.was ∙ unchanged.same;
+      subst (λ n. StandsFor n (placed_of (history ++ event ∷ [])) ready.known) (sym (next_of-closed history event closed))
+      (subst (λ l. StandsFor (next_of history) l ready.known) unchanged.same (ready.up_to_date unchanged.was));
 }
 
 -- An order
 
--- nodes know an instance of the slot, since each entry is that of a node
-known-instance : (layout : CycleLayout) (owners : List Owner) (requests : List Request) (count : ℕ) (placed : List Placed) (past : List TimedFrame) (next slot : ℕ) (nodes : List NodeState)
-    → IsBus layout owners requests placed past next nodes → ((number : ℕ) → number < count → IsNumber nodes number) → All (λ p. p.entry.node < count) placed
-    → (i : Instance) → instance_in placed slot next ≡ Some i → IsSlotKnown nodes next slot
-known-instance layout owners requests count placed past next slot nodes bus numbers of_nodes i found =
-    let sends = subst (λ x. IfSome x (λ y. Contains placed y.placed × (y.placed.entry.slot ≡ slot) × MaySend y.placed y.number next)) found (instance_in-sound placed slot next) in
-    let few = All-contains (λ p. p.entry.node < count) placed i.placed of_nodes sends.0 in
-    let its = Contains-from_map (λ (node : NodeState). node.number) nodes i.placed.entry.node (numbers i.placed.entry.node few) in
+-- nodes know an instance of the slot that stands in their list, where its entry is that of a node
+known-instance : (layout : CycleLayout) (owners : List Owner) (requests : List Request) (placed : List Placed) (past : List TimedFrame) (next slot : ℕ) (nodes : List NodeState)
+    → IsBus layout owners requests placed past next nodes → (i : Instance) → instance_in placed slot next ≡ Some i → IsNumber nodes i.placed.entry.node → IsSlotKnown nodes next slot
+known-instance layout owners requests placed past next slot nodes bus i found is_node =
+    let its = Contains-from_map (λ (node : NodeState). node.number) nodes i.placed.entry.node is_node in
     let node : NodeState = its.0 in
     let stands = All-contains (StandsOnBus layout owners requests placed past next) nodes node bus.stand its.1 in
     let own : instance_in (entries_of node.number placed) slot next ≡ Some i =
@@ -135,30 +143,46 @@ known-instance layout owners requests count placed past next slot nodes bus numb
     let known : instance_in node.entries slot next ≡ Some i = ap (λ entries. instance_in entries slot next) stands.own_entries ∙ own in
     (its.1.0, node, its.1.1, its.1.2, ap is_some known)
 
+-- the entry of an instance stands in the list
+few-nodes : (count : ℕ) (placed : List Placed) (slot next : ℕ) (i : Instance) → All (λ p. p.entry.node < count) placed
+    → instance_in placed slot next ≡ Some i → i.placed.entry.node < count
+few-nodes count placed slot next i of_nodes found =
+    let sends = subst (λ x. IfSome x (λ y. Contains placed y.placed × (y.placed.entry.slot ≡ slot) × MaySend y.placed y.number next)) found (instance_in-sound placed slot next) in
+    All-contains (λ p. p.entry.node < count) placed i.placed of_nodes sends.0
+
 -- the opening is right after the history
-pub order-right : (rules : Rules) (history : List Event) (order : Order) → IsOrder rules history order → IsRight rules history (Open order.cycle order.mask)
-order-right rules history order is = (is.cycle, is.mask ∙ ap (λ n. mask_at (plan_of rules (placed_of history)) n) (sym is.cycle))
+pub order-right : (rules : Rules) (history : List Event) (order : Order) → IsOrderFor rules history order → IsRight rules history (Open order.cycle order.mask)
+order-right rules history order its = (its.is.cycle, its.is.mask ∙ ap (λ n. mask_at (plan_of rules (placed_of history)) n) (sym its.is.cycle))
 
 -- what the nodes are to learn is well placed
-pub order-learned : (rules : Rules) (history : List Event) (order : Order) → IsLegal rules history → IsOrder rules history order → IfSome order.learned IsWellPlaced
-order-learned rules history order legal is =
-    subst (λ o. IfSome o IsWellPlaced) (sym is.learned) (well-learned (placed_of history) (is_changed history) (sound-of_legal rules history legal).well_placed)
+pub order-learned : (rules : Rules) (history : List Event) (order : Order) → IsOrderFor rules history order → IfSome order.learned IsWellPlaced
+order-learned rules history order its =
+    subst (λ o. IfSome o IsWellPlaced) (sym its.is.learned) (well-learned its.list (is_changed history) its.stands.well_placed)
 
--- nodes with room for the placed entries can learn it without memory
+-- nodes with room for its list can learn it without memory
 can-learn : (placed : List Placed) (changed : Bool) (nodes : List NodeView) → HaveSpare (length placed) nodes
     → CanLearn (cond changed (Some placed) None) nodes
 can-learn placed true nodes have = have
 can-learn placed false nodes have = tt
 
-pub order-spare : (rules : Rules) (history : List Event) (nodes : NodesView) (order : Order) → HaveSpare (length (placed_of history)) nodes.nodes
-    → IsOrder rules history order → CanLearn order.learned nodes.nodes
-order-spare rules history nodes order have is =
-    subst (λ o. CanLearn o nodes.nodes) (sym is.learned) (can-learn (placed_of history) (is_changed history) nodes.nodes have)
+pub order-spare : (rules : Rules) (history : List Event) (nodes : NodesView) (list : List Placed) (order : Order) → HaveSpare (length list) nodes.nodes
+    → IsOrderWith rules history list order → CanLearn order.learned nodes.nodes
+order-spare rules history nodes list order have is =
+    subst (λ o. CanLearn o nodes.nodes) (sym is.learned) (can-learn list (is_changed history) nodes.nodes have)
+
+-- where they learn all placed entries, these stand for themselves
+pub order-whole : (rules : Rules) (history : List Event) (order : Order) → IsLegal rules history → IsOrder rules history order → IsOrderFor rules history order
+order-whole rules history order legal is = record {
+  list = placed_of history;
+  stands = record { well_placed = (sound-of_legal rules history legal).well_placed; instances = λ slot at late. refl };
+  is = is;
+}
 
 -- its flagged slots have instances to send, and fit the largest window together
-pub order-fits : (setting : Setting) (history : List Event) (order : Order) → IsSetting setting → IsOrder setting.rules history order
+pub order-fits : (setting : Setting) (history : List Event) (order : Order) → IsSetting setting → IsOrderFor setting.rules history order
     → FitsWindow setting.layout (opening_of order (placed_of history))
-order-fits setting history order known is =
+order-fits setting history order known its =
+    let is = its.is in
     let placed : List Placed = placed_of history in
     let width : order.l ≡ width_in placed order.cycle (has_bit order.mask) =
     is.window ∙ ap (λ n. width_in placed n (has_bit order.mask)) (sym is.cycle) in
@@ -174,64 +198,82 @@ module _ (setting : Setting) (history : List Event) (trace : List TimedFrame) (n
   after = learnt_by order.learned (states_of nodes.nodes)
 
   -- the nodes are before the cycle of the order
-  pub order-next : AreNodesReady setting history trace nodes → IsOrder setting.rules history order → All (λ node. node.next ≡ order.cycle) (states_of nodes.nodes)
-  order-next ready is =
+  pub order-next : AreNodesReady setting history trace nodes → IsOrderFor setting.rules history order → All (λ node. node.next ≡ order.cycle) (states_of nodes.nodes)
+  order-next ready its =
       All-weaker (StandsOnBus setting.layout setting.owners setting.requests ready.known trace (next_of history)) (λ node. node.next ≡ order.cycle)
-      (λ node stands. stands.next_cycle ∙ sym is.cycle) (states_of nodes.nodes) ready.bus.stand
+      (λ node stands. stands.next_cycle ∙ sym its.is.cycle) (states_of nodes.nodes) ready.bus.stand
 
   -- the window is not above the largest one
-  pub order-window : IsSetting setting → AreNodesReady setting history trace nodes → IsOrder setting.rules history order → order.l ≤ nodes.layout.window
-  order-window known ready is = subst (λ l. order.l ≤ l.window) (sym ready.same_layout) (subst (λ w. order.l ≤ w) known.same_window is.fits)
+  pub order-window : IsSetting setting → AreNodesReady setting history trace nodes → IsOrderFor setting.rules history order → order.l ≤ nodes.layout.window
+  order-window known ready its = subst (λ l. order.l ≤ l.window) (sym ready.same_layout) (subst (λ w. order.l ≤ w) known.same_window its.is.fits)
 
   -- the flagged slots are slots of the layout
-  pub order-slots : IsSetting setting → AreNodesReady setting history trace nodes → IsOrder setting.rules history order → order.mask < 2 ^ nodes.layout.slots
-  order-slots known ready is = subst (λ l. order.mask < 2 ^ l.slots) (sym ready.same_layout) (subst (λ n. order.mask < 2 ^ n) known.same_slots is.slots)
+  pub order-slots : IsSetting setting → AreNodesReady setting history trace nodes → IsOrderFor setting.rules history order → order.mask < 2 ^ nodes.layout.slots
+  order-slots known ready its = subst (λ l. order.mask < 2 ^ l.slots) (sym ready.same_layout) (subst (λ n. order.mask < 2 ^ n) known.same_slots its.is.slots)
 
-  bus-now : IsWellPlaced (placed_of history) → AreNodesReady setting history trace nodes → IsOrder setting.rules history order
-      → IsBus setting.layout setting.owners setting.requests (placed_of history) trace (next_of history) after
-  bus-now well ready is =
-      subst (λ o. IsBus setting.layout setting.owners setting.requests (placed_of history) trace (next_of history) (learnt_by o (states_of nodes.nodes))) (sym is.learned)
-      (bus-learnt setting.layout setting.owners setting.requests ready.known (placed_of history) trace (next_of history) (states_of nodes.nodes) (is_changed history) well ready.bus ready.up_to_date)
+  module _ (ready : AreNodesReady setting history trace nodes) (its : IsOrderFor setting.rules history order) where
+    -- what they know once they have learnt its list
+    abbrev now : List Placed
+    now = known_then (is_changed history) its.list ready.known
 
-  fits-now : IsWellPlaced (placed_of history) → IsLegal setting.rules history → AreNodesReady setting history trace nodes → IsOrder setting.rules history order
-      → FitsOrder order.l (record { cycle = next_of history; mask = order.mask; placed = placed_of history }) after
-  fits-now well legal ready is = record {
-    width = is.window;
-    present = λ slot known flagged.
-        let found = is.present slot known flagged in
-        known-instance setting.layout setting.owners setting.requests setting.rules.nodes (placed_of history) trace (next_of history) slot after (bus-now well ready is)
-        (λ number few. subst (λ l. Contains l number) (sym (numbers-learnt_by order.learned (states_of nodes.nodes))) (ready.numbers number few))
-        (sound-of_legal setting.rules history legal).nodes found.0 found.1;
-  }
+    now-stands : StandsFor (next_of history) (placed_of history) now
+    now-stands = stands-known (next_of history) (placed_of history) its.list ready.known (is_changed history) its.stands ready.up_to_date
+
+    bus-now : IsBus setting.layout setting.owners setting.requests now trace (next_of history) after
+    bus-now =
+        subst (λ o. IsBus setting.layout setting.owners setting.requests now trace (next_of history) (learnt_by o (states_of nodes.nodes))) (sym its.is.learned)
+        (bus-learnt setting.layout setting.owners setting.requests ready.known its.list trace (next_of history) (states_of nodes.nodes) (is_changed history) its.stands.well_placed ready.bus)
+
+    fits-now : IsLegal setting.rules history → FitsOrder order.l (record { cycle = next_of history; mask = order.mask; placed = now }) after
+    fits-now legal = record {
+      width = its.is.window ∙ sym (width-stands (next_of history) order.mask (placed_of history) now now-stands);
+      present = λ slot known flagged.
+          let found = its.is.present slot known flagged in
+          let few = few-nodes setting.rules.nodes (placed_of history) slot (next_of history) found.0 (sound-of_legal setting.rules history legal).nodes found.1 in
+          known-instance setting.layout setting.owners setting.requests now trace (next_of history) slot after bus-now found.0
+          (stands-now (next_of history) (placed_of history) now now-stands slot ∙ found.1)
+          (subst (λ l. Contains l found.0.placed.entry.node) (sym (numbers-learnt_by order.learned (states_of nodes.nodes))) (ready.numbers found.0.placed.entry.node few));
+    }
 
   -- the nodes that have learnt it stand for a bus before the cycle of the order
-  pub order-before : IsUnderWay setting history trace → AreNodesReady setting history trace nodes → IsOrder setting.rules history order
-      → IsBefore nodes.layout setting.owners setting.requests (placed_of history) trace order after
-  order-before way ready is =
-      let well = (sound-of_legal setting.rules history way.legal).well_placed in
-      subst (λ l. IsBefore l setting.owners setting.requests (placed_of history) trace order after) (sym ready.same_layout)
-      (record {
-        bus = subst (λ n. IsBus setting.layout setting.owners setting.requests (placed_of history) trace n after) (sym is.cycle) (bus-now well ready is);
-        fits = subst (λ n. FitsOrder order.l (record { cycle = n; mask = order.mask; placed = placed_of history }) after) (sym is.cycle) (fits-now well way.legal ready is);
-        before = subst (λ n. All (λ sent. sent.start < n * setting.layout.cycle) trace) (sym is.cycle) way.can_trace.within;
-      })
+  pub order-before : IsUnderWay setting history trace → AreNodesReady setting history trace nodes → IsOrderFor setting.rules history order
+      → AreBeforeCycle setting history trace nodes.layout order after
+  order-before way ready its =
+      let cycle = its.is.cycle in
+      let known : List Placed = now ready its in
+      record {
+        known = known;
+        stands = now-stands ready its;
+        before = subst (λ l. IsBefore l setting.owners setting.requests known trace order after) (sym ready.same_layout)
+            (record {
+              bus = subst (λ n. IsBus setting.layout setting.owners setting.requests known trace n after) (sym cycle) (bus-now ready its);
+              fits = subst (λ n. FitsOrder order.l (record { cycle = n; mask = order.mask; placed = known }) after) (sym cycle) (fits-now ready its way.legal);
+              before = subst (λ n. All (λ sent. sent.start < n * setting.layout.cycle) trace) (sym cycle) way.can_trace.within;
+            });
+      }
 
   -- a cycle was run
-  pub ready-run : AreNodesReady setting history trace nodes → IsOrder setting.rules history order
-      → (new : NodesView) (frames : List TimedFrame) → new.layout ≡ nodes.layout → states_of new.nodes ≡ heard_by frames after
-      → IsBus nodes.layout setting.owners setting.requests (placed_of history) (trace ++ frames) (order.cycle + 1) (states_of new.nodes)
+  pub ready-run : AreNodesReady setting history trace nodes → IsOrderFor setting.rules history order
+      → (new : NodesView) (frames : List TimedFrame) (known : List Placed) → StandsFor (next_of history) (placed_of history) known
+      → new.layout ≡ nodes.layout → states_of new.nodes ≡ heard_by frames after
+      → IsBus nodes.layout setting.owners setting.requests known (trace ++ frames) (order.cycle + 1) (states_of new.nodes)
       → AreNodesReady setting (history ++ Open order.cycle order.mask ∷ []) (trace ++ frames) new
-  ready-run ready is new frames same heard bus =
+  ready-run ready its new frames known stands same heard bus =
       let event = Open order.cycle order.mask in
       let numbers : numbers_of (states_of new.nodes) ≡ numbers_of (states_of nodes.nodes) =
       ap numbers_of heard ∙ numbers-heard frames after ∙ numbers-learnt_by order.learned (states_of nodes.nodes) in
-      let next : order.cycle + 1 ≡ next_of (history ++ event ∷ []) = ap (λ n. n + 1) is.cycle ∙ sym (next_of-push history event) in
+      let next : order.cycle + 1 ≡ next_of (history ++ event ∷ []) = ap (λ n. n + 1) its.is.cycle ∙ sym (next_of-push history event) in
       record {
         same_layout = same ∙ ready.same_layout;
         same_bytes = ready.same_bytes;
         numbers = λ number few. subst (λ l. Contains l number) (sym numbers) (ready.numbers number few);
-        known = placed_of history;
-        bus = subst (λ n. IsBus setting.layout setting.owners setting.requests (placed_of history) (trace ++ frames) n (states_of new.nodes)) next
-            (subst (λ l. IsBus l setting.owners setting.requests (placed_of history) (trace ++ frames) (order.cycle + 1) (states_of new.nodes)) ready.same_layout bus);
-        up_to_date = λ _. sym (placed_of-push history event);
+        known = known;
+        bus = subst (λ n. IsBus setting.layout setting.owners setting.requests known (trace ++ frames) n (states_of new.nodes)) next
+            (subst (λ l. IsBus l setting.owners setting.requests known (trace ++ frames) (order.cycle + 1) (states_of new.nodes)) ready.same_layout bus);
+        up_to_date = λ _. record {
+          well_placed = stands.well_placed;
+          instances = λ slot at late.
+              let now = next_of-push history event in
+              stands.instances slot at (omega (arith, now, late)) ∙ ap (λ l. instance_in l slot at) (sym (placed_of-push history event));
+        };
       }

@@ -8,23 +8,25 @@ ghost use Rattle.std.specs.Prelude.{◌≡◌, ℕ, ◌+◌, ◌*◌, ◌^◌, �
 ghost use Rattle.std.specs.Prelude.{filter, length};
 ghost use Rattle.can_frame.specs.declared.data_frame.TimedFrame.{TimedFrame};
 ghost use Rattle.requirement_table.specs.declared.entries.Order.{Order};
-ghost use Rattle.requirement_table.specs.Instance.{bytes_of};
+ghost use Rattle.requirement_table.specs.declared.entries.Placed.{Placed};
+ghost use Rattle.requirement_table.specs.Instance.{Instance, bytes_of};
+ghost use Rattle.cycle_layout.specs.Layout.{CycleLayout};
 ghost use Rattle.requirement_table.specs.Table.{IsWellPlaced};
 ghost use Rattle.admission_rules.specs.declared.Rules.{Rules};
 ghost use Rattle.master_core.specs.declared.event.Event.{Event};
 ghost use Rattle.master_core.specs.declared.event.Event.TheVariants.{Open};
-ghost use Rattle.master_core.specs.History.{IsLegal, IsRight, is_open, placed_of};
-ghost use Rattle.master_core.specs.Orders.{IsOrder};
+ghost use Rattle.master_core.specs.History.{IsLegal, IsRight, is_open, next_of, placed_of};
+ghost use Rattle.master_core.specs.Orders.{IsOrder, IsOrderFor, IsOrderWith, StandsFor};
 ghost use Rattle.async_window.specs.declared.request.Owner.{Owner};
 ghost use Rattle.async_window.specs.declared.request.Request.{Request};
 ghost use Rattle.async_window.specs.Owners.{AreOwners};
 ghost use Rattle.bus_line.specs.Trace.{Follows};
 ghost use Rattle.cycle_engine.specs.Cycle.{FitsWindow, RunsCycle, cycle_of};
-ghost use Rattle.cycle_engine.specs.Nodes.{CanLearn, HaveSpare, IsBefore, IsBus, IsNumber, NodesView};
+ghost use Rattle.cycle_engine.specs.Nodes.{CanLearn, HaveSpare, IsBus, IsNumber, NodesView};
 ghost use Rattle.cycle_engine.specs.Nodes.{heard_by, learnt_by, opening_of, states_of};
 ghost use Rattle.cycle_engine.specs.Offered.{AreAsynchronous, SendsWhole, offered_in};
 ghost use Rattle.kept_run.specs.Kept.{Kept};
-ghost use Rattle.kept_run.specs.Progress.{AreNodesReady, IsUnderWay};
+ghost use Rattle.kept_run.specs.Progress.{AreBeforeCycle, AreNodesReady, IsUnderWay};
 ghost use Rattle.kept_run.specs.Setting.{IsSetting, Setting};
 ghost use Rattle.kept_run.specs.Served.{ForgetsEnds};
 
@@ -75,43 +77,46 @@ pub fn calls_between()
 /// An order of the master can be run as it is: its opening is right after the history, its frames fit into the largest
 /// window, its flagged slots are slots of the layout, what the nodes are to learn is well placed, and when they have
 /// learnt it each flagged slot has a node that knows what to send. Nodes that can learn a list as long as that of the
-/// placed entries without memory can learn what the order has for them, so its cycle needs no memory.
+/// order without memory can learn what the order has for them, so its cycle needs no memory. An order for which nodes
+/// learn all placed entries is one for which they learn a list that stands for these.
 pub fn orders()
-    ensures right { (rules : Rules) (history : List Event) (order : Order) → IsOrder rules history order
+    ensures right { (rules : Rules) (history : List Event) (order : Order) → IsOrderFor rules history order
         → IsRight rules history (Open order.cycle order.mask) }
     ensures next { (setting : Setting) (history : List Event) (trace : List TimedFrame)
         (nodes : NodesView) (order : Order)
-        → AreNodesReady setting history trace nodes → IsOrder setting.rules history order
+        → AreNodesReady setting history trace nodes → IsOrderFor setting.rules history order
         → All (λ node. node.next ≡ order.cycle) (states_of nodes.nodes) }
     ensures learned { (rules : Rules) (history : List Event) (order : Order)
-        → IsLegal rules history → IsOrder rules history order
-        → IfSome order.learned IsWellPlaced }
-    ensures spare { (rules : Rules) (history : List Event) (nodes : NodesView) (order : Order)
-        → HaveSpare (length (placed_of history)) nodes.nodes → IsOrder rules history order
+        → IsOrderFor rules history order → IfSome order.learned IsWellPlaced }
+    ensures spare { (rules : Rules) (history : List Event) (nodes : NodesView) (list : List Placed) (order : Order)
+        → HaveSpare (length list) nodes.nodes → IsOrderWith rules history list order
         → CanLearn order.learned nodes.nodes }
+    ensures whole { (rules : Rules) (history : List Event) (order : Order)
+        → IsLegal rules history → IsOrder rules history order → IsOrderFor rules history order }
     ensures window { (setting : Setting) (history : List Event) (trace : List TimedFrame)
         (nodes : NodesView) (order : Order)
         → IsSetting setting → AreNodesReady setting history trace nodes
-        → IsOrder setting.rules history order → order.l ≤ nodes.layout.window }
+        → IsOrderFor setting.rules history order → order.l ≤ nodes.layout.window }
     ensures slots { (setting : Setting) (history : List Event) (trace : List TimedFrame)
         (nodes : NodesView) (order : Order)
         → IsSetting setting → AreNodesReady setting history trace nodes
-        → IsOrder setting.rules history order → order.mask < 2 ^ nodes.layout.slots }
+        → IsOrderFor setting.rules history order → order.mask < 2 ^ nodes.layout.slots }
     ensures fits { (setting : Setting) (history : List Event) (order : Order)
-        → IsSetting setting → IsOrder setting.rules history order
+        → IsSetting setting → IsOrderFor setting.rules history order
         → FitsWindow setting.layout (opening_of order (placed_of history)) }
     ensures before { (setting : Setting) (history : List Event) (trace : List TimedFrame)
         (nodes : NodesView) (order : Order)
         → IsUnderWay setting history trace → AreNodesReady setting history trace nodes
-        → IsOrder setting.rules history order
-        → IsBefore nodes.layout setting.owners setting.requests (placed_of history) trace order
+        → IsOrderFor setting.rules history order
+        → AreBeforeCycle setting history trace nodes.layout order
         (learnt_by order.learned (states_of nodes.nodes)) }
 {}
 
 /// A cycle that is opened right after the history, with whatever slots the plan gives, and whose frames follow the
 /// trace by what is offered in it, keeps a run under way, whatever bytes an instance sends, if they are as many as its
 /// entry's length. Its frames are what the opening says, and its flagged slots have instances and fit into the window.
-/// The run of an order on the bus keeps a run under way and leaves its nodes ready.
+/// The run of an order on the bus keeps a run under way and leaves its nodes ready. In a cycle the same is offered by a
+/// list of entries and by one that stands for it.
 pub fn cycles_run()
     ensures opened { (setting : Setting) (history : List Event) (cycle mask : ℕ) (trace frames : List TimedFrame)
         → IsSetting setting → SendsWhole setting.sends
@@ -131,20 +136,28 @@ pub fn cycles_run()
     ensures fits { (setting : Setting) (history : List Event) (cycle mask : ℕ)
         → IsSetting setting → IsLegal setting.rules (history ++ Open cycle mask ∷ [])
         → FitsWindow setting.layout (record { cycle = cycle; mask = mask; placed = placed_of history }) }
+    ensures same_offers { (sends : Instance → List ℕ) (layout : CycleLayout) (requests : List Request)
+        (cycle mask : ℕ) (whole list : List Placed) (past frames : List TimedFrame) (free until : ℕ)
+        → StandsFor cycle whole list
+        → Follows (offered_in sends layout requests (record { cycle = cycle; mask = mask; placed = list }))
+        past free until frames
+        → Follows (offered_in sends layout requests (record { cycle = cycle; mask = mask; placed = whole }))
+        past free until frames }
     ensures under_way { (setting : Setting) (history : List Event) (trace frames : List TimedFrame)
         (nodes : NodesView) (order : Order)
         → IsSetting setting → IsUnderWay setting history trace
-        → AreNodesReady setting history trace nodes → IsOrder setting.rules history order
+        → AreNodesReady setting history trace nodes → IsOrderFor setting.rules history order
         → Follows (offered_in bytes_of nodes.layout setting.requests (opening_of order (placed_of history)))
         trace (order.cycle * nodes.layout.cycle) ((order.cycle + 1) * nodes.layout.cycle) frames
         → IsUnderWay setting (history ++ Open order.cycle order.mask ∷ []) (trace ++ frames) }
     ensures ready { (setting : Setting) (history : List Event) (trace frames : List TimedFrame)
-        (nodes new : NodesView) (order : Order)
+        (nodes new : NodesView) (order : Order) (known : List Placed)
+        → StandsFor (next_of history) (placed_of history) known
         → IsUnderWay setting history trace → AreNodesReady setting history trace nodes
-        → IsOrder setting.rules history order
+        → IsOrderFor setting.rules history order
         → new.layout ≡ nodes.layout
         → states_of new.nodes ≡ heard_by frames (learnt_by order.learned (states_of nodes.nodes))
-        → IsBus nodes.layout setting.owners setting.requests (placed_of history)
+        → IsBus nodes.layout setting.owners setting.requests known
         (trace ++ frames) (order.cycle + 1) (states_of new.nodes)
         → AreNodesReady setting (history ++ Open order.cycle order.mask ∷ []) (trace ++ frames) new }
 {}

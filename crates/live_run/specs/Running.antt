@@ -9,7 +9,7 @@ use Rattle.cycle_engine.specs.Nodes.{states_of}
 use Rattle.master_core.specs.declared.event.Event.{Event}
 use Rattle.master_core.specs.declared.event.Event.TheVariants.{Open}
 use Rattle.master_core.specs.History.{IsLegal, is_open}
-use Rattle.master_core.specs.Orders.{IsOrder}
+use Rattle.master_core.specs.Orders.{IsOrder, IsOrderFor}
 use Rattle.kept_run.specs.Progress.{IsOnTheWay}
 use Rattle.kept_run.specs.Setting.{Setting}
 use Rattle.live_run.specs.declared.dispatching.LiveBus.{LiveBus}
@@ -17,7 +17,7 @@ use Rattle.live_run.specs.declared.dispatching.LiveBus.{LiveBus}
 -- history and bus are on the way in this setting, before a cycle is run by this order, which is that of the history
 pub record IsBeforeOrder (setting : Setting) (history : List Event) (order : Order) (bus : LiveBus) : Type 0 where
   pub way : IsOnTheWay setting history bus.trace.items bus.nodes
-  pub ordered : IsOrder setting.rules history order
+  pub ordered : IsOrderFor setting.rules history order
 
 -- what a dispatcher has seen and its bus are on the way, and the shared master has the rules of the setting
 pub record IsRunning (setting : Setting) (shared : Lock Rules) (seen : List Event) (bus : LiveBus) : Type 0 where

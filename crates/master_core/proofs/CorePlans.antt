@@ -22,7 +22,7 @@ use Rattle.master_core.specs.declared.answered.Answered.{Answered}
 use Rattle.master_core.specs.declared.apart.Snapshot.{Snapshot}
 use Rattle.master_core.specs.declared.event.Event.{Event}
 use Rattle.master_core.specs.declared.event.Event.TheVariants.{Submit}
-use Rattle.master_core.specs.Answers.{AreKept, AreMadeTo, IsAnswerTo, IsPlannedFrom, answer_at, decision_of, is_passed_by}
+use Rattle.master_core.specs.Answers.{AreKept, AreMadeAs, IsAnswerTo, IsPlannedFrom, answer_at, decision_of, is_passed_by}
 use Rattle.master_core.specs.Apart.{IsPlannable}
 use Rattle.master_core.specs.CorePlans.{CanSettleFrom, CorePlannedView, IsAnsweredFrom, IsLedTo, IsSettledByPlan, Leads}
 use Rattle.master_core.specs.Cores.{CoreView, IsAnswered, IsCore, IsHeld, IsStateOf}
@@ -225,7 +225,7 @@ module _ (core : CoreView) (is : IsCore core) (snapshot : Snapshot) (plannable :
           leads = leads;
           verdict = refused;
           made =
-              subst (λ (o : Option Made). AreMadeTo core (record answer { verdict = Passed answer.change.start core.cycle; trail = []; made = made }) o)
+              subst (λ (o : Option Made). AreMadeAs core.forgets core (record answer { verdict = Passed answer.change.start core.cycle; trail = []; made = made }) o)
               (sym (none-kept core.forgets answer.from made kept)) refl;
         };
         by = record {
@@ -249,7 +249,7 @@ module _ (core : CoreView) (is : IsCore core) (snapshot : Snapshot) (plannable :
           held = held;
           leads = leads;
           verdict = stays;
-          made = made-to core is (record answer { made = made }) answer.made made planned.decided.list planned.made kept;
+          made = made-to core is core.forgets (record answer { made = made }) answer.made made planned.decided.list planned.made kept;
         };
         by = record {
           pending = snapshot.state.pending;

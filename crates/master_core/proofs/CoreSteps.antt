@@ -8,6 +8,7 @@ use Rattle.bit_sets.specs.Sets.{has_bit, most_slots}
 use Rattle.requirement_table.specs.Table.{not_over}
 use Rattle.bit_sets.proofs.Shared.{has_bit-none, set_of-below, set_of-has_bit, set_of-same}
 use Rattle.change_protocol.specs.Applied.{applied}
+use Rattle.change_protocol.specs.Pruned.{pruned}
 use Rattle.change_protocol.proofs.Shared.{changed-applied, not_over-pruned}
 use Rattle.planner_policies.specs.Plan.{IsValid, Ranking, pending_at, pending_before}
 use Rattle.planner_policies.proofs.Shared.{before-first}
@@ -21,8 +22,8 @@ use Rattle.master_core.specs.declared.answer.Made.{Made}
 use Rattle.master_core.specs.declared.saved.Saved.{Saved}
 use Rattle.master_core.specs.declared.table.Table.{Table}
 use Rattle.master_core.specs.declared.upcoming.Upcoming.{Upcoming}
-use Rattle.master_core.specs.Answers.{AreKept, AreMadeTo, AreTablesOf, IsAnswerTo, IsPlannedFrom, IsTakenOver, entries_of}
-use Rattle.master_core.specs.Cores.{CoreView, IsCore, IsCoreUpcoming, IsRanked, answered_by, kept_by, core_of, most_kept, new_core, onward, opened, saved_of}
+use Rattle.master_core.specs.Answers.{AreKept, AreMadeAs, AreTablesOf, IsAnswerAs, IsPlannedFrom, IsTakenOver, entries_of}
+use Rattle.master_core.specs.Cores.{CoreView, IsCore, IsCoreUpcoming, IsPruned, IsRanked, answered_as, kept_by, core_of, most_kept, new_core, onward, opened, saved_of}
 use Rattle.master_core.proofs.KnownSlots.{HasNode, HasSlot, both-none, nodes-applied, slots-applied}
 use Rattle.master_core.proofs.Legal.{nothing-missed}
 use Rattle.master_core.proofs.Onward.{FoundLaw, LaterLaw, PrunedLaw, all-pruned, safe-accepted, well_placed-made}
@@ -77,16 +78,16 @@ core-opened later core before is = record {
 
 -- An answer
 
-kept-safe : PrunedLaw → (rules : Rules) (forgets : Bool) (c from pending : ℕ) (placed : List Placed) → c ≤ from → IsSafeWithin rules placed from pending
-    → IsSafeWithin rules (kept_by forgets c placed) from pending
-kept-safe prunes rules true c from pending placed early safe = prunes rules placed c from pending early safe
-kept-safe prunes rules false c from pending placed early safe = safe
+kept-safe : PrunedLaw → (rules : Rules) (prunes : Bool) (c from pending : ℕ) (placed : List Placed) → c ≤ from → IsSafeWithin rules placed from pending
+    → IsSafeWithin rules (kept_by prunes c placed) from pending
+kept-safe law rules true c from pending placed early safe = law rules placed c from pending early safe
+kept-safe law rules false c from pending placed early safe = safe
 
-left-kept : (forgets : Bool) (from : ℕ) (placed : List Placed) → not_over from (kept_by forgets from placed) ≡ not_over from placed
+left-kept : (prunes : Bool) (from : ℕ) (placed : List Placed) → not_over from (kept_by prunes from placed) ≡ not_over from placed
 left-kept true from placed = not_over-pruned from from placed (omega arith)
 left-kept false from placed = refl
 
-kept-all : (P : Placed → Type 0) (forgets : Bool) (c : ℕ) (placed : List Placed) → All P placed → All P (kept_by forgets c placed)
+kept-all : (P : Placed → Type 0) (prunes : Bool) (c : ℕ) (placed : List Placed) → All P placed → All P (kept_by prunes c placed)
 kept-all P true c placed low = all-pruned P c placed low
 kept-all P false c placed low = low
 
@@ -95,7 +96,7 @@ record AreOfRules (rules : Rules) (placed : List Placed) : Type 0 where
   pub slots : All (HasSlot rules.slots) placed
   pub nodes : All (HasNode rules.nodes) placed
 
-module _ (found : FoundLaw) (later : LaterLaw) (prunes : PrunedLaw) (core : CoreView) (is : IsCore core) (answer : Answer) (to : IsAnswerTo core answer) where
+module _ (found : FoundLaw) (later : LaterLaw) (law : PrunedLaw) (core : CoreView) (is : IsCore core) (prunes : Bool) (answer : Answer) (to : IsAnswerAs prunes core answer) where
   abbrev new : List Placed
   new = applied core.placed answer.change
 
@@ -122,37 +123,37 @@ module _ (found : FoundLaw) (later : LaterLaw) (prunes : PrunedLaw) (core : Core
 
   -- the core with the list that an accepted change makes
   core-taken : is_accepted answer.verdict ≡ true
-      → (core.forgets ≡ true → length (kept_by core.forgets answer.from new) ≤ most_kept)
+      → (core.forgets ≡ true → length (kept_by prunes answer.from new) ≤ most_kept)
       → IsCore
       (record core {
-        placed = kept_by core.forgets answer.from new;
-        learned = Some (kept_by core.forgets answer.from new);
+        placed = kept_by prunes answer.from new;
+        learned = Some (kept_by prunes answer.from new);
         accepted = core.accepted + 1;
       })
   core-taken accepted short =
       let (whole, known) = accepted-safe answer.verdict accepted to.verdict in
       record {
-        safe = kept-safe prunes core.rules core.forgets answer.from core.cycle core.pending new to.early whole;
+        safe = kept-safe law core.rules prunes answer.from core.cycle core.pending new to.early whole;
         known = is.known;
-        slots = kept-all (HasSlot core.rules.slots) core.forgets answer.from new known.slots;
-        nodes = kept-all (HasNode core.rules.nodes) core.forgets answer.from new known.nodes;
+        slots = kept-all (HasSlot core.rules.slots) prunes answer.from new known.slots;
+        nodes = kept-all (HasNode core.rules.nodes) prunes answer.from new known.nodes;
         to_learn = refl;
         few = short;
       }
 
   -- what is taken over
-  pub core-put : (made : Option Made) → AreMadeTo core answer made → (core.forgets ≡ true → entries_of made ≤ most_kept)
-      → IsCore (answered_by core answer.from answer.change answer.verdict)
+  pub core-put : (made : Option Made) → AreMadeAs prunes core answer made → (core.forgets ≡ true → entries_of made ≤ most_kept)
+      → IsCore (answered_as prunes core answer.from answer.change answer.verdict)
   core-put None refused short =
       subst (λ (b : Bool). IsCore (if b then record core {
-        placed = kept_by core.forgets answer.from new;
-        learned = Some (kept_by core.forgets answer.from new);
+        placed = kept_by prunes answer.from new;
+        learned = Some (kept_by prunes answer.from new);
         accepted = core.accepted + 1;
       } else core)) (sym refused) is
   core-put (Some made) by short =
       subst (λ (b : Bool). IsCore (if b then record core {
-        placed = kept_by core.forgets answer.from new;
-        learned = Some (kept_by core.forgets answer.from new);
+        placed = kept_by prunes answer.from new;
+        learned = Some (kept_by prunes answer.from new);
         accepted = core.accepted + 1;
       } else core)) (sym by.accepted)
       (core-taken by.accepted (λ on. subst (λ (l : List Placed). length l ≤ most_kept) by.placed (short on)))
@@ -193,22 +194,22 @@ one-more : (b : Bool) → bool_byte b ≡ cond b 1 0
 one-more true = refl
 one-more false = refl
 
-module _ (core : CoreView) (since : ℕ) (ranked : Ranking) (is : IsCore core) (ranks : IsRanked core since ranked) (found : FoundLaw) (later : LaterLaw) (prunes : PrunedLaw)
-    (answer : Answer) (to : IsAnswerTo core answer) where
+module _ (core : CoreView) (since : ℕ) (ranked : Ranking) (is : IsCore core) (ranks : IsRanked core since ranked) (found : FoundLaw) (later : LaterLaw) (law : PrunedLaw)
+    (prunes : Bool) (answer : Answer) (to : IsAnswerAs prunes core answer) where
   abbrev with_answer : Bool → CoreView
   with_answer b =
       if b then record core {
-        placed = kept_by core.forgets answer.from (applied core.placed answer.change);
-        learned = Some (kept_by core.forgets answer.from (applied core.placed answer.change));
+        placed = kept_by prunes answer.from (applied core.placed answer.change);
+        learned = Some (kept_by prunes answer.from (applied core.placed answer.change));
         accepted = core.accepted + 1;
       } else core
 
   abbrev taken_by : Table → Option (List Placed) → ℕ → CoreView
   taken_by table learned accepted = record core { placed = table.placed.items; learned = learned; accepted = accepted }
 
-  put-is : (made : Option Made) (old new : Table) (old_learned new_learned : Option (List Placed)) (more : ℕ) → AreMadeTo core answer made
+  put-is : (made : Option Made) (old new : Table) (old_learned new_learned : Option (List Placed)) (more : ℕ) → AreMadeAs prunes core answer made
       → IsTakenOver made old new old_learned new_learned → core.placed ≡ old.placed.items → core.learned ≡ old_learned
-      → more ≡ cond (is_accepted answer.verdict) 1 0 → taken_by new new_learned (core.accepted + more) ≡ answered_by core answer.from answer.change answer.verdict
+      → more ≡ cond (is_accepted answer.verdict) 1 0 → taken_by new new_learned (core.accepted + more) ≡ answered_as prunes core answer.from answer.change answer.verdict
   put-is None old new old_learned new_learned more refused same list_is learned_is more_is =
       let none : more ≡ 0 = more_is ∙ ap (λ (b : Bool). cond b 1 0) refused in
       let count : core.accepted + more ≡ core.accepted = omega arith in
@@ -217,7 +218,7 @@ module _ (core : CoreView) (since : ℕ) (ranked : Ranking) (is : IsCore core) (
       let one : more ≡ 1 = more_is ∙ ap (λ (b : Bool). cond b 1 0) by.accepted in
       rw (same.0, same.1, one, by.learned, by.placed) (ap with_answer (sym by.accepted))
 
-  put-ranked : (made : Option Made) (old new : Table) (old_learned new_learned : Option (List Placed)) (accepted : ℕ) → AreMadeTo core answer made
+  put-ranked : (made : Option Made) (old new : Table) (old_learned new_learned : Option (List Placed)) (accepted : ℕ) → AreMadeAs prunes core answer made
       → IsTakenOver made old new old_learned new_learned → core.placed ≡ old.placed.items → since ≡ old.since → ranked ≡ old.planner.ranking
       → IsRanked (taken_by new new_learned accepted) new.since new.planner.ranking
   put-ranked None old new old_learned new_learned accepted refused same list_is since_is ranked_is =
@@ -229,13 +230,13 @@ module _ (core : CoreView) (since : ℕ) (ranked : Ranking) (is : IsCore core) (
 
   module _ (old new : Table) (old_learned new_learned : Option (List Placed)) (more : ℕ) (taken : IsTakenOver answer.made old new old_learned new_learned)
       (list_is : core.placed ≡ old.placed.items) (learned_is : core.learned ≡ old_learned) (more_is : more ≡ bool_byte (is_accepted answer.verdict)) where
-    pub put-then : taken_by new new_learned (core.accepted + more) ≡ answered_by core answer.from answer.change answer.verdict
+    pub put-then : taken_by new new_learned (core.accepted + more) ≡ answered_as prunes core answer.from answer.change answer.verdict
     put-then = put-is answer.made old new old_learned new_learned more to.made taken list_is learned_is (more_is ∙ one-more (is_accepted answer.verdict))
 
     pub core-after : (core.forgets ≡ true → entries_of answer.made ≤ most_kept) → since ≡ old.since → ranked ≡ old.planner.ranking
         → IsCore (taken_by new new_learned (core.accepted + more)) × IsRanked (taken_by new new_learned (core.accepted + more)) new.since new.planner.ranking
     core-after short since_is ranked_is = (
-      subst IsCore (sym put-then) (core-put found later prunes core is answer to answer.made to.made short),
+      subst IsCore (sym put-then) (core-put found later law core is prunes answer to answer.made to.made short),
       put-ranked answer.made old new old_learned new_learned (core.accepted + more) to.made taken list_is since_is ranked_is,
     )
 
@@ -250,16 +251,16 @@ module _ (core : CoreView) (is : IsCore core) where
       ∙ set_of-same most_slots (pending_before (onward core) 0) (has_bit core.pending) (λ slot known. before-first (onward core) slot)
       ∙ sym (set_of-has_bit most_slots core.pending is.known))
 
-  pub made-to : (answer : Answer) (plain : Option Made) (made : Option Made) → option_map (λ m. m.learned) plain ≡ placed_with (applied core.placed answer.change) answer.verdict
-      → AreTablesOf core.rules answer.from plain → AreKept core.forgets answer.from plain made → AreMadeTo core answer made
-  made-to answer None None none tables kept = refused-is (applied core.placed answer.change) answer.verdict (sym none)
-  made-to answer None (Some made) none tables kept = absurd kept
-  made-to answer (Some plain) None some tables kept = absurd kept
-  made-to answer (Some plain) (Some made) some tables kept =
+  pub made-to : (prunes : Bool) (answer : Answer) (plain : Option Made) (made : Option Made) → option_map (λ m. m.learned) plain ≡ placed_with (applied core.placed answer.change) answer.verdict
+      → AreTablesOf core.rules answer.from plain → AreKept prunes answer.from plain made → AreMadeAs prunes core answer made
+  made-to prunes answer None None none tables kept = refused-is (applied core.placed answer.change) answer.verdict (sym none)
+  made-to prunes answer None (Some made) none tables kept = absurd kept
+  made-to prunes answer (Some plain) None some tables kept = absurd kept
+  made-to prunes answer (Some plain) (Some made) some tables kept =
       let taken = taken-is (applied core.placed answer.change) plain.learned answer.verdict (sym some) in
       record {
         accepted = taken.0;
-        placed = kept.placed ∙ ap (kept_by core.forgets answer.from) (tables.placed ∙ sym taken.1);
+        placed = kept.placed ∙ ap (kept_by prunes answer.from) (tables.placed ∙ sym taken.1);
         since = kept.since ∙ tables.since;
         ranked =
             kept.ranked
@@ -267,14 +268,14 @@ module _ (core : CoreView) (is : IsCore core) where
             ∙ ap (ranking_by core.rules)
             (sym
             (ap (λ (n : ℕ). not_over n made.table.placed.items) (kept.since ∙ tables.since)
-            ∙ ap (not_over answer.from) (kept.placed ∙ ap (kept_by core.forgets answer.from) tables.placed)
-            ∙ left-kept core.forgets answer.from plain.learned));
-        learned = kept.learned ∙ sym (kept.placed ∙ ap (kept_by core.forgets answer.from) tables.placed);
+            ∙ ap (not_over answer.from) (kept.placed ∙ ap (kept_by prunes answer.from) tables.placed)
+            ∙ left-kept prunes answer.from plain.learned));
+        learned = kept.learned ∙ sym (kept.placed ∙ ap (kept_by prunes answer.from) tables.placed);
       }
 
-  pub answer-to : (answer : Answer) (made : Option Made) → IsPlannedFrom core.rules core.placed (record { cycle = core.cycle; pending = core.pending }) answer
-      → AreKept core.forgets answer.from answer.made made → IsAnswerTo core (record answer { made = made })
-  answer-to answer made planned kept = record {
+  pub answer-to : (prunes : Bool) (answer : Answer) (made : Option Made) → IsPlannedFrom core.rules core.placed (record { cycle = core.cycle; pending = core.pending }) answer
+      → AreKept prunes answer.from answer.made made → IsAnswerAs prunes core (record answer { made = made })
+  answer-to prunes answer made planned kept = record {
     types = planned.types;
     early = let from = planned.from in omega arith;
     pending = core.pending;
@@ -283,8 +284,47 @@ module _ (core : CoreView) (is : IsCore core) where
         subst (λ (n : ℕ). core.pending ≡ pending_at (plan_from core.rules core.placed n core.pending) (core.cycle - n)) (sym planned.from) state-here;
     verdict =
         subst (λ (n : ℕ). IsVerdict core.rules core.placed core.pending n core.cycle answer.change answer.verdict) (sym planned.from) planned.decided.answer;
-    made = made-to (record answer { made = made }) answer.made made planned.decided.list planned.made kept;
+    made = made-to prunes (record answer { made = made }) answer.made made planned.decided.list planned.made kept;
   }
+
+-- A core without entries that no later answer needs
+
+pruned-learned : (c : ℕ) (placed : List Placed) (learned : Option (List Placed)) → IfSome learned (λ list. list ≡ placed)
+    → IfSome (option_map (pruned c) learned) (λ list. list ≡ pruned c placed)
+pruned-learned c placed None is = tt
+pruned-learned c placed (Some list) is = ap (pruned c) is
+
+pub core-pruned : PrunedLaw → (core : CoreView) (since : ℕ) (ranked : Ranking) → IsCore core → IsRanked core since ranked → (list : List Placed) (learned : Option (List Placed))
+    → list ≡ pruned since core.placed → length list ≤ length core.placed → learned ≡ option_map (pruned since) core.learned
+    → IsCore (record core { placed = list; learned = learned }) × IsRanked (record core { placed = list; learned = learned }) since ranked
+core-pruned law core since ranked is ranks list learned list_is shorter learned_is = (
+  record {
+    safe =
+        subst (λ (l : List Placed). IsSafeWithin core.rules l core.cycle core.pending) (sym list_is)
+        (law core.rules core.placed since core.cycle core.pending ranks.passed is.safe);
+    known = is.known;
+    slots = subst (All (HasSlot core.rules.slots)) (sym list_is) (all-pruned (HasSlot core.rules.slots) since core.placed is.slots);
+    nodes = subst (All (HasNode core.rules.nodes)) (sym list_is) (all-pruned (HasNode core.rules.nodes) since core.placed is.nodes);
+    to_learn = rw (learned_is, list_is) (pruned-learned since core.placed core.learned is.to_learn);
+    few = λ on. let few = is.few on in omega arith;
+  },
+  record {
+    passed = ranks.passed;
+    left =
+        ranks.left
+        ∙ ap (ranking_by core.rules) (sym (ap (not_over since) list_is ∙ not_over-pruned since since core.placed (omega arith)));
+  },
+)
+
+pub pruned-is : (core : CoreView) (since : ℕ) (ranked : Ranking) → IsRanked core since ranked → (list : List Placed) (learned : Option (List Placed))
+    → list ≡ pruned since core.placed → learned ≡ option_map (pruned since) core.learned → IsPruned core (record core { placed = list; learned = learned })
+pruned-is core since ranked ranks list learned list_is learned_is = record {
+  by = since;
+  early = ranks.passed;
+  is =
+      ap (λ (l : List Placed). record core { placed = l; learned = learned }) list_is
+      ∙ ap (λ (o : Option (List Placed)). record core { placed = pruned since core.placed; learned = o }) learned_is;
+}
 
 -- Cores as plain data
 

@@ -1,5 +1,5 @@
 -- What is kept of a history.
-use Rattle.std.proofs.Common.{◌≡◌, ℕ, ◌+◌, ◌-◌, ◌≤◌, Bool, List, [], ◌∷◌, ◌++◌, get_or, length, sym, ap, ◌∙◌, arith}
+use Rattle.std.proofs.Common.{◌≡◌, ℕ, ◌+◌, ◌-◌, ◌≤◌, Bool, List, [], ◌∷◌, get_or, length, sym, ap, ◌∙◌, arith}
 use Rattle.std.proofs.Math.Seq.{get_or-append_right, get_or-append_seam}
 use Rattle.std.proofs.lemmas.List.{length-append}
 use Rattle.master_core.specs.declared.event.Event.{Event}

@@ -1,5 +1,5 @@
 -- A plan from a snapshot leads to the core that it was taken of, and behind each opening to the core after it.
-use Rattle.std.proofs.Common.{◌≡◌, ℕ, ◌+◌, ◌-◌, ◌≤◌, true, false, Bool, if◌then◌else◌, Some, sym, refl, ap, ◌∙◌, subst, arith}
+use Rattle.std.proofs.Common.{◌≡◌, ℕ, ◌+◌, ◌-◌, true, false, Bool, if◌then◌else◌, Some, sym, refl, ap, ◌∙◌, subst, arith}
 use Rattle.change_protocol.specs.declared.operations.Change.{Change}
 use Rattle.change_protocol.specs.Applied.{applied}
 use Rattle.planner_policies.specs.declared.state.PlanState.{PlanState}

@@ -10,6 +10,7 @@ mod Journals
 mod Keeping
 mod KnownSlots
 mod LeadsOn
+mod LeanSteps
 mod Legal
 mod NextPlan
 mod Onward

@@ -1,6 +1,7 @@
 -- What proofs of the crates above may take from here: what is known of legal histories and of those with one event more,
--- that calls have one plainly legal history, and that what answers the first of them begins it.
-use Rattle.std.proofs.Common.{◌≡◌, ℕ, List, [], ◌∷◌, ◌++◌, map, refl, sym, ap, ◌∙◌, subst, append-nil}
+-- that calls have one plainly legal history, that what answers the first of them begins it, and which lists stand for
+-- others.
+use Rattle.std.proofs.Common.{◌≡◌, ℕ, ◌≤◌, List, [], ◌∷◌, ◌++◌, map, refl, sym, ap, ◌∙◌, subst, append-nil, arith}
 use Rattle.requirement_table.specs.declared.entries.Placed.{Placed}
 use Rattle.change_protocol.specs.Applied.{applied}
 use Rattle.change_protocol.specs.declared.operations.Change.{Change}
@@ -11,6 +12,8 @@ use Rattle.admission.specs.declared.verdict.Verdict.{Verdict}
 use Rattle.master_core.specs.declared.event.Event.{Event}
 use Rattle.master_core.specs.declared.event.Event.TheVariants.{Submit, Look, Open}
 use Rattle.master_core.specs.History.{AllAfter, IsPlainlyLegal, IsPlannedNow, IsRight, IsRightAnswer, next_of, placed_of, plan_of}
+use Rattle.requirement_table.specs.Table.{IsWellPlaced}
+use Rattle.master_core.specs.Orders.{StandsFor}
 use Rattle.change_protocol.specs.declared.operations.Act.TheVariants as act
 use Rattle.master_core.specs.Calls.{Call, asked, call_of}
 pub use Rattle.master_core.proofs.Earlier.{opened-of_legal}
@@ -119,3 +122,14 @@ pub one-history : OneVerdict → (rules : Rules) (one other : List Event) → ma
     → IsPlainlyLegal rules one → IsPlainlyLegal rules other → one ≡ other
 one-history verdicts rules one other calls plain plain2 =
     same-events verdicts rules [] one other calls plain.legal plain.now plain2.legal plain2.now
+
+-- a list stands for itself from any cycle on
+pub stands-whole : (cycle : ℕ) (list : List Placed) → IsWellPlaced list → StandsFor cycle list list
+stands-whole cycle list well = record { well_placed = well; instances = λ slot at later. refl }
+
+-- what stands for a list from a cycle on stands for it from each later one on
+pub stands-later : (cycle later : ℕ) (whole list : List Placed) → cycle ≤ later → StandsFor cycle whole list → StandsFor later whole list
+stands-later cycle later whole list after stands = record {
+  well_placed = stands.well_placed;
+  instances = λ slot at behind. stands.instances slot at (omega arith);
+}

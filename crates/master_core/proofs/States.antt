@@ -1,5 +1,5 @@
 -- Cores as the states after histories.
-use Rattle.std.proofs.Common.{◌≡◌, ℕ, ◌+◌, ◌≤◌, Bool, true, false, cond, if◌then◌else◌, List, [], ◌∷◌, ◌++◌, Option, Some, None, All, refl, sym, ap, ◌∙◌, subst, zero-add, add-zero, arith}
+use Rattle.std.proofs.Common.{◌≡◌, ℕ, ◌+◌, ◌-◌, ◌≤◌, Bool, true, false, cond, if◌then◌else◌, List, [], ◌∷◌, ◌++◌, Option, Some, None, All, option_map, refl, sym, ap, ◌∙◌, subst, zero-add, add-zero, arith}
 use Rattle.requirement_table.specs.declared.entries.Order.{Order}
 use Rattle.requirement_table.specs.declared.entries.Placed.{Placed}
 use Rattle.requirement_table.specs.Instance.{Instance, worst_of}
@@ -19,10 +19,10 @@ use Rattle.admission.specs.declared.verdict.Verdict.{Verdict}
 use Rattle.admission.specs.Verdict.{IsVerdict, is_accepted, plan_from, trail_of}
 use Rattle.master_core.specs.declared.event.Event.{Event}
 use Rattle.master_core.specs.declared.event.Event.TheVariants.{Submit, Look, Open}
-use Rattle.master_core.specs.Cores.{CoreView, IsCore, IsCoreOrder, IsCoreUpcoming, IsHeld, IsStateOf, answered_by, kept_by, new_core, onward, opened}
+use Rattle.master_core.specs.Cores.{CoreView, IsCore, IsCoreOrder, IsCoreUpcoming, IsHeld, IsPruned, IsStateAs, answered_as, kept_by, new_core, onward, opened}
 use Rattle.master_core.specs.History.{IsRightAnswer, IsSince, accepted_of, is_changed, learned_of, next_of, placed_of, plan_of}
 use Rattle.master_core.specs.declared.upcoming.Upcoming.{Upcoming}
-use Rattle.master_core.specs.Orders.{IsOrder, IsUpcoming}
+use Rattle.master_core.specs.Orders.{IsOrder, IsOrderWith, IsUpcoming, StandsFor, learned_as}
 use Rattle.master_core.proofs.Earlier.{same-of_legal}
 use Rattle.master_core.proofs.Events.{accepted_of-push, not-counted}
 use Rattle.master_core.proofs.Histories.{is_changed-push, legal-push, next_of-push, placed_of-push}
@@ -31,17 +31,17 @@ use Rattle.master_core.proofs.Onward.{later-pending, later_plan, left-instances,
 use Rattle.master_core.proofs.Settling.{right-by, since-now}
 
 -- what is kept of the placed entries has the same entries that are not over
-left-of : (forgets : Bool) (cycle : ℕ) (whole list : List Placed) → IsHeld forgets cycle whole list → not_over cycle list ≡ not_over cycle whole
+left-of : (prunes : Bool) (cycle : ℕ) (whole list : List Placed) → IsHeld prunes cycle whole list → not_over cycle list ≡ not_over cycle whole
 left-of true cycle whole list held = ap (not_over cycle) held.is ∙ not_over-pruned held.by cycle whole held.early
 left-of false cycle whole list held = ap (not_over cycle) held
 
-held-later : (forgets : Bool) (cycle later : ℕ) (whole list : List Placed) → cycle ≤ later → IsHeld forgets cycle whole list → IsHeld forgets later whole list
+held-later : (prunes : Bool) (cycle later : ℕ) (whole list : List Placed) → cycle ≤ later → IsHeld prunes cycle whole list → IsHeld prunes later whole list
 held-later true cycle later whole list after held = let early = held.early in record { by = held.by; early = omega arith; is = held.is }
 held-later false cycle later whole list after held = held
 
 -- an accepted change is applied to both
-held-applied : (forgets : Bool) (from cycle : ℕ) (whole list : List Placed) (change : Change) → from ≤ cycle → IsHeld forgets from whole list
-    → IsHeld forgets cycle (applied whole change) (kept_by forgets from (applied list change))
+held-applied : (prunes : Bool) (from cycle : ℕ) (whole list : List Placed) (change : Change) → from ≤ cycle → IsHeld prunes from whole list
+    → IsHeld prunes cycle (applied whole change) (kept_by prunes from (applied list change))
 held-applied true from cycle whole list change early held = record {
   by = from;
   early = early;
@@ -61,8 +61,8 @@ TrailLaw = (rules : Rules) (c from pending next : ℕ) (placed : List Placed) (c
     → trail_of (plan_from rules (applied (pruned c placed) change) from pending) verdict ≡ trail_of (plan_from rules (applied placed change) from pending) verdict
 
 pub verdict-held : VerdictLaw → TrailLaw → (rules : Rules) (whole list : List Placed) → IsWellPlaced whole → rules.slots ≤ most_slots → (change : Change)
-    → All HasTypes change.ops → (from pending next : ℕ) (verdict : Verdict) → IsVerdict rules list pending from next change verdict → (forgets : Bool)
-    → IsHeld forgets from whole list
+    → All HasTypes change.ops → (from pending next : ℕ) (verdict : Verdict) → IsVerdict rules list pending from next change verdict → (prunes : Bool)
+    → IsHeld prunes from whole list
     → IsVerdict rules whole pending from next change verdict
     × (trail_of (plan_from rules (applied list change) from pending) verdict ≡ trail_of (plan_from rules (applied whole change) from pending) verdict)
 verdict-held verdicts trails rules whole list well room change types from pending next verdict decided true held =
@@ -77,10 +77,10 @@ verdict-held verdicts trails rules whole list well room change types from pendin
 )
 
 -- a core that was not called yet
-pub state-new : (rules : Rules) (forgets : Bool) → IsStateOf [] (new_core rules forgets)
-state-new rules forgets = record {
+pub state-new : (prunes : Bool) (rules : Rules) (forgets : Bool) → IsStateAs prunes [] (new_core rules forgets)
+state-new prunes rules forgets = record {
   legal = tt;
-  held = nothing-held forgets;
+  held = nothing-held prunes;
   next = refl;
   waiting =
       set_of-has_bit most_slots 0 (omega arith)
@@ -89,11 +89,29 @@ state-new rules forgets = record {
   counted = refl;
 }
   where
-    nothing-held : (forgets : Bool) → IsHeld forgets 0 [] []
+    nothing-held : (prunes : Bool) → IsHeld prunes 0 [] []
     nothing-held true = record { by = 0; early = omega arith; is = refl }
     nothing-held false = refl
 
-module _ (history : List Event) (core : CoreView) (is : IsCore core) (of : IsStateOf history core) where
+-- a core that kept all placed entries, with these pruned
+
+option-if : (f : List Placed → List Placed) (list : List Placed) (b : Bool) → option_map f (if b then Some list else None) ≡ (if b then Some (f list) else None)
+option-if f list true = refl
+option-if f list false = refl
+
+pub state-pruned : (history : List Event) (core new : CoreView) → IsStateAs false history core → IsPruned core new → IsStateAs true history new
+state-pruned history core new of by =
+    subst (IsStateAs true history) (sym by.is)
+    (record {
+      legal = of.legal;
+      held = record { by = by.by; early = by.early; is = ap (pruned by.by) of.held };
+      next = of.next;
+      waiting = of.waiting;
+      to_learn = ap (option_map (pruned by.by)) of.to_learn ∙ option-if (pruned by.by) core.placed (is_changed history);
+      counted = of.counted;
+    })
+
+module _ (prunes : Bool) (history : List Event) (core : CoreView) (is : IsCore core) (of : IsStateAs prunes history core) where
   abbrev whole : List Placed
   whole = placed_of history
 
@@ -104,7 +122,7 @@ module _ (history : List Event) (core : CoreView) (is : IsCore core) (of : IsSta
   whole-well = (sound-of_legal rules history of.legal).well_placed
 
   left : not_over core.cycle core.placed ≡ not_over core.cycle whole
-  left = left-of core.forgets core.cycle whole core.placed of.held
+  left = left-of prunes core.cycle whole core.placed of.held
 
   later-is : later_plan (plan_of rules whole) core.cycle ≡ plan_from rules whole core.cycle core.pending
   later-is =
@@ -129,11 +147,20 @@ module _ (history : List Event) (core : CoreView) (is : IsCore core) (of : IsSta
       ∙ ap (λ (p : Planning). pending_at p 1) later-is
       ∙ sym (left-pending rules core.cycle core.pending whole core.placed whole-well is.safe.safe.well_placed left 1)
 
+  instance-at : (slot at : ℕ) → core.cycle ≤ at → instance_in core.placed slot at ≡ instance_in whole slot at
+  instance-at slot at later =
+      let there : core.cycle + (at - core.cycle) ≡ at = omega arith in
+      subst (λ (c : ℕ). instance_in core.placed slot c ≡ instance_in whole slot c) there
+      (left-instances rules core.cycle core.pending whole core.placed whole-well is.safe.safe.well_placed left (at - core.cycle) slot)
+
   instance-is : (slot : ℕ) → instance_in core.placed slot core.cycle ≡ instance_in whole slot core.cycle
-  instance-is slot =
-      let at : core.cycle + 0 ≡ core.cycle = omega arith in
-      subst (λ (c : ℕ). instance_in core.placed slot c ≡ instance_in whole slot c) at
-      (left-instances rules core.cycle core.pending whole core.placed whole-well is.safe.safe.well_placed left 0 slot)
+  instance-is slot = instance-at slot core.cycle (omega arith)
+
+  -- the list that is kept stands for the whole one
+  pub stands-next : StandsFor (next_of history) whole core.placed
+  stands-next =
+      subst (λ (n : ℕ). StandsFor n whole core.placed) of.next
+      (record { well_placed = is.safe.safe.well_placed; instances = λ slot at later. instance-at slot at later })
 
   width-is : (slots : ℕ → Bool) → width_in core.placed core.cycle slots ≡ width_in whole core.cycle slots
   width-is slots =
@@ -141,19 +168,27 @@ module _ (history : List Event) (core : CoreView) (is : IsCore core) (of : IsSta
       (λ slot known _. ap (λ (o : Option Instance). option_map_or worst_of o 0) (instance-is slot))
 
   -- the order of the core is that of the history, but for what the nodes are to learn
-  pub state-order : (order : Order) → IsCoreOrder core order → IsOrder rules history (record order { learned = learned_of history })
-  state-order order by = record {
+  order-with : (order : Order) → IsCoreOrder core order → (list : List Placed) (learned : Option (List Placed)) → learned ≡ learned_as history list
+      → IsOrderWith rules history list (record order { learned = learned })
+  order-with order by list learned learned_is = record {
     cycle = by.cycle ∙ of.next;
     mask = by.mask ∙ sym mask-is ∙ ap (mask_at (plan_of rules whole)) of.next;
     window =
         by.window ∙ width-is (has_bit order.mask) ∙ ap (λ (n : ℕ). width_in whole n (has_bit order.mask)) of.next;
-    learned = refl;
+    learned = learned_is;
     fits = by.fits;
     slots = by.slots;
     present = λ slot known flagged.
         let found = by.present slot known flagged in
         (found.0, subst (λ (n : ℕ). instance_in whole slot n ≡ Some found.0) of.next (sym (instance-is slot) ∙ found.1));
   }
+
+  pub state-order : (order : Order) → IsCoreOrder core order → IsOrder rules history (record order { learned = learned_of history })
+  state-order order by = order-with order by whole (learned_of history) refl
+
+  -- and it is that of the history for nodes that learn the list that is kept
+  pub state-order-with : (order : Order) → IsCoreOrder core order → IsOrderWith rules history core.placed order
+  state-order-with order by = order-with order by core.placed order.learned (by.learned ∙ of.to_learn)
 
   pub state-upcoming : (upcoming : Upcoming) → IsCoreUpcoming core upcoming → IsUpcoming rules history upcoming
   state-upcoming upcoming by = record {
@@ -187,10 +222,10 @@ module _ (history : List Event) (core : CoreView) (is : IsCore core) (of : IsSta
 
   -- A look
 
-  pub state-looked : (caller : ℕ) → IsStateOf (history ++ Look caller core.cycle ∷ []) core
+  pub state-looked : (caller : ℕ) → IsStateAs prunes (history ++ Look caller core.cycle ∷ []) core
   state-looked caller = record {
     legal = legal-push rules history (Look caller core.cycle) of.legal of.next;
-    held = subst (λ (l : List Placed). IsHeld core.forgets core.cycle l core.placed) (sym (placed_of-push history (Look caller core.cycle))) of.held;
+    held = subst (λ (l : List Placed). IsHeld prunes core.cycle l core.placed) (sym (placed_of-push history (Look caller core.cycle))) of.held;
     next = of.next ∙ sym (next_of-push history (Look caller core.cycle) ∙ add-zero (next_of history));
     waiting = of.waiting ∙ ap (λ (l : List Placed). pending_at (plan_of rules l) core.cycle) (sym (placed_of-push history (Look caller core.cycle)));
     to_learn = of.to_learn ∙ ap (λ (b : Bool). if b then Some core.placed else None) (sym (is_changed-push history (Look caller core.cycle)));
@@ -199,12 +234,12 @@ module _ (history : List Event) (core : CoreView) (is : IsCore core) (of : IsSta
 
   -- An opening
 
-  pub state-opened : (mask : ℕ) → mask ≡ mask_at (onward core) 0 → IsStateOf (history ++ Open core.cycle mask ∷ []) (opened core)
+  pub state-opened : (mask : ℕ) → mask ≡ mask_at (onward core) 0 → IsStateAs prunes (history ++ Open core.cycle mask ∷ []) (opened core)
   state-opened mask by = record {
     legal = legal-push rules history (Open core.cycle mask) of.legal (of.next, by ∙ sym mask-is);
     held =
-        subst (λ (l : List Placed). IsHeld core.forgets (core.cycle + 1) l core.placed) (sym (placed_of-push history (Open core.cycle mask)))
-        (held-later core.forgets core.cycle (core.cycle + 1) whole core.placed (omega arith) of.held);
+        subst (λ (l : List Placed). IsHeld prunes (core.cycle + 1) l core.placed) (sym (placed_of-push history (Open core.cycle mask)))
+        (held-later prunes core.cycle (core.cycle + 1) whole core.placed (omega arith) of.held);
     next = ap (λ (n : ℕ). n + 1) of.next ∙ sym (next_of-push history (Open core.cycle mask));
     waiting = sym pending-is ∙ ap (λ (l : List Placed). pending_at (plan_of rules l) (core.cycle + 1)) (sym (placed_of-push history (Open core.cycle mask)));
     to_learn = ap (λ (b : Bool). if b then Some core.placed else None) (sym (is_changed-push history (Open core.cycle mask)));
@@ -214,7 +249,7 @@ module _ (history : List Event) (core : CoreView) (is : IsCore core) (of : IsSta
   -- An answer
 
   module _ (caller : ℕ) (change : Change) (from : ℕ) (verdict : Verdict) (trail : List ℕ) (early : from ≤ core.cycle)
-      (held : IsHeld core.forgets from (placed_of history) core.placed) (right : IsRightAnswer core.rules history change from verdict trail) where
+      (held : IsHeld prunes from (placed_of history) core.placed) (right : IsRightAnswer core.rules history change from verdict trail) where
     abbrev event : Event
     event = Submit caller change from verdict trail
 
@@ -237,32 +272,32 @@ module _ (history : List Event) (core : CoreView) (is : IsCore core) (of : IsSta
         ap (λ (n : ℕ). n + cond b 1 0) of.counted ∙ sym (accepted_of-push history event ∙ ap (λ (t : Bool). accepted_of history + cond t 1 0) by)
 
     state-by : (b : Bool) → is_accepted verdict ≡ b
-        → IsStateOf (history ++ event ∷ [])
+        → IsStateAs prunes (history ++ event ∷ [])
         (if b then record core {
-          placed = kept_by core.forgets from (applied core.placed change);
-          learned = Some (kept_by core.forgets from (applied core.placed change));
+          placed = kept_by prunes from (applied core.placed change);
+          learned = Some (kept_by prunes from (applied core.placed change));
           accepted = core.accepted + 1;
         } else core)
     state-by true by = record {
       legal = legal-push rules history event of.legal right;
       held =
-          subst (λ (l : List Placed). IsHeld core.forgets core.cycle l (kept_by core.forgets from (applied core.placed change))) (sym (placed-by true by))
-          (held-applied core.forgets from core.cycle whole core.placed change early held);
+          subst (λ (l : List Placed). IsHeld prunes core.cycle l (kept_by prunes from (applied core.placed change))) (sym (placed-by true by))
+          (held-applied prunes from core.cycle whole core.placed change early held);
       next = next-then;
       waiting = waiting-then;
-      to_learn = ap (λ (b : Bool). if b then Some (kept_by core.forgets from (applied core.placed change)) else None) (sym (changed-then true by));
+      to_learn = ap (λ (b : Bool). if b then Some (kept_by prunes from (applied core.placed change)) else None) (sym (changed-then true by));
       counted = counted-then true by;
     }
     state-by false by = record {
       legal = legal-push rules history event of.legal right;
-      held = subst (λ (l : List Placed). IsHeld core.forgets core.cycle l core.placed) (sym (placed-by false by)) of.held;
+      held = subst (λ (l : List Placed). IsHeld prunes core.cycle l core.placed) (sym (placed-by false by)) of.held;
       next = next-then;
       waiting = waiting-then;
       to_learn = of.to_learn ∙ ap (λ (b : Bool). if b then Some core.placed else None) (sym (changed-then false by));
       counted = sym (add-zero core.accepted) ∙ counted-then false by;
     }
 
-    pub state-answered : IsStateOf (history ++ event ∷ []) (answered_by core from change verdict)
+    pub state-answered : IsStateAs prunes (history ++ event ∷ []) (answered_as prunes core from change verdict)
     state-answered = state-by (is_accepted verdict) refl
 
   module _ (verdicts : VerdictLaw) (trails : TrailLaw) (change : Change) (types : All HasTypes change.ops) (verdict : Verdict)
@@ -273,7 +308,7 @@ module _ (history : List Event) (core : CoreView) (is : IsCore core) (of : IsSta
         let next = of.next in
         let on_whole =
         verdict-held verdicts trails rules whole core.placed whole-well is.safe.in_range.few_slots change types core.cycle core.pending core.cycle verdict decided
-        core.forgets of.held in
+        prunes of.held in
         right-by rules history whole is.safe.in_range.few_slots refl change core.cycle verdict trail types
         (subst (λ (n : ℕ). IsSince history n) (sym next) (since-now history)) (omega arith)
         (subst (λ (n : ℕ). IsVerdict rules whole (pending_at (plan_of rules whole) core.cycle) core.cycle n change verdict) next

@@ -14,8 +14,8 @@ use Rattle.master_core.specs.declared.answer.Answer.{Answer}
 use Rattle.master_core.specs.declared.answer.Made.{Made}
 use Rattle.master_core.specs.declared.event.Event.{Event}
 use Rattle.master_core.specs.Apart.{snapshot_of}
-use Rattle.master_core.specs.Answers.{AreMadeTo, IsAnswer, IsAnswerTo, IsMade}
-use Rattle.master_core.specs.Cores.{CoreView, IsCore, IsCoreOrder, IsHeld, IsStateOf, answered_by, kept_by}
+use Rattle.master_core.specs.Answers.{AreMadeAs, IsAnswer, IsAnswerAs, IsMade}
+use Rattle.master_core.specs.Cores.{CoreView, IsCore, IsCoreOrder, IsHeld, IsStateAs, IsStateOf, answered_as}
 use Rattle.admission_rules.specs.declared.Rules.{Rules}
 use Rattle.master_core.specs.History.{IsPlainlyLegal, IsPlannedNow, IsRightAnswer, is_changed, learned_of, placed_of, plan_of}
 use Rattle.master_core.specs.Keeping.{IsMasterKept}
@@ -32,8 +32,8 @@ module _ (history : List Event) (core : CoreView) (is : IsCore core) (of : IsSta
   pub learned-is : core.learned ≡ learned_of history
   learned-is = of.to_learn ∙ ap (λ (l : List Placed). if is_changed history then Some l else None) placed-is
 
-  pub whole-held : (from : ℕ) → IsHeld core.forgets from (placed_of history) core.placed
-  whole-held from = subst (λ (b : Bool). IsHeld b from (placed_of history) core.placed) (sym all) placed-is
+  pub whole-state : IsStateAs false history core
+  whole-state = subst (λ (b : Bool). IsStateAs b history core) all of
 
   pub whole-kept : IsMasterKept core.rules history core.placed core.cycle (ranking_by core.rules (not_over core.cycle core.placed)) core.cycle core.pending core.learned
   whole-kept = record {
@@ -51,7 +51,7 @@ module _ (history : List Event) (core : CoreView) (is : IsCore core) (of : IsSta
   pub whole-order : (order : Order) → IsCoreOrder core order → IsOrder core.rules history order
   whole-order order by =
       subst (λ (o : Option (List Placed)). IsOrder core.rules history (record order { learned = o })) (sym (by.learned ∙ learned-is))
-      (state-order history core is of order by)
+      (state-order core.forgets history core is of order by)
 
   -- the state of each cycle can be planned from
   valid-at : (n : ℕ) → IsValid (placed_of history) n (pending_at (plan_of core.rules (placed_of history)) n)
@@ -71,34 +71,31 @@ module _ (history : List Event) (core : CoreView) (is : IsCore core) (of : IsSta
 
   -- an answer to the core is one after the history, and the other way round
   module _ (answer : Answer) where
-    kept-all : (from : ℕ) (placed : List Placed) → kept_by core.forgets from placed ≡ placed
-    kept-all from placed = ap (λ (b : Bool). kept_by b from placed) all
-
-    whole-made : (made : Option Made) → AreMadeTo core answer made → IsMade core.rules history answer made
+    whole-made : (made : Option Made) → AreMadeAs false core answer made → IsMade core.rules history answer made
     whole-made None refused = refused
     whole-made (Some made) by = record {
       accepted = by.accepted;
-      placed = by.placed ∙ kept-all answer.from (applied core.placed answer.change) ∙ ap (λ (l : List Placed). applied l answer.change) placed-is;
+      placed = by.placed ∙ ap (λ (l : List Placed). applied l answer.change) placed-is;
       since = by.since;
       ranked = by.ranked;
       learned = by.learned;
     }
 
-    core-made : (made : Option Made) → IsMade core.rules history answer made → AreMadeTo core answer made
+    core-made : (made : Option Made) → IsMade core.rules history answer made → AreMadeAs false core answer made
     core-made None refused = refused
     core-made (Some made) by = record {
       accepted = by.accepted;
-      placed = by.placed ∙ ap (λ (l : List Placed). applied l answer.change) (sym placed-is) ∙ sym (kept-all answer.from (applied core.placed answer.change));
+      placed = by.placed ∙ ap (λ (l : List Placed). applied l answer.change) (sym placed-is);
       since = by.since;
       ranked = by.ranked;
       learned = by.learned;
     }
 
-    pub whole-answer : IsRightAnswer core.rules history answer.change answer.from answer.verdict answer.trail → IsAnswerTo core answer
+    pub whole-answer : IsRightAnswer core.rules history answer.change answer.from answer.verdict answer.trail → IsAnswerAs false core answer
         → IsAnswer core.rules history answer
     whole-answer right to = record { right = right; made = whole-made answer.made to.made }
 
-    pub core-answer : IsAnswer core.rules history answer → IsAnswerTo core answer
+    pub core-answer : IsAnswer core.rules history answer → IsAnswerAs false core answer
     core-answer by =
         let right = by.right in
         let opened = right.opened in
@@ -129,13 +126,17 @@ of-either : (b : Bool) (one other : CoreView) → one.rules ≡ other.rules → 
 of-either true one other rules forgets = (rules, forgets)
 of-either false one other rules forgets = (refl, refl)
 
-pub answered-same : (core : CoreView) (from : ℕ) (change : Change) (verdict : Verdict)
-    → ((answered_by core from change verdict).rules ≡ core.rules) × ((answered_by core from change verdict).forgets ≡ core.forgets)
-answered-same core from change verdict = of-either (is_accepted verdict) _ core refl refl
+pub answered-same : (prunes : Bool) (core : CoreView) (from : ℕ) (change : Change) (verdict : Verdict)
+    → ((answered_as prunes core from change verdict).rules ≡ core.rules) × ((answered_as prunes core from change verdict).forgets ≡ core.forgets)
+answered-same prunes core from change verdict = of-either (is_accepted verdict) _ core refl refl
 
-pub plain-more : (history : List Event) (event : Event) (old new : CoreView) → new.rules ≡ old.rules → IsPlannedNow history event
-    → IsStateOf (history ++ event ∷ []) new → IsPlainlyLegal old.rules history → IsPlainlyLegal new.rules (history ++ event ∷ [])
-plain-more history event old new same now of was =
+-- what is the state as the core keeps its list is the state of the core
+pub state-by : (prunes : Bool) (history : List Event) (core : CoreView) → core.forgets ≡ prunes → IsStateAs prunes history core → IsStateOf history core
+state-by prunes history core is of = subst (λ (b : Bool). IsStateAs b history core) (sym is) of
+
+pub plain-more : (prunes : Bool) (history : List Event) (event : Event) (old new : CoreView) → new.rules ≡ old.rules → IsPlannedNow history event
+    → IsStateAs prunes (history ++ event ∷ []) new → IsPlainlyLegal old.rules history → IsPlainlyLegal new.rules (history ++ event ∷ [])
+plain-more prunes history event old new same now of was =
     plain-push new.rules history event now of.legal (subst (λ (r : Rules). IsPlainlyLegal r history) (sym same) was)
 
 -- where both hold of a result, what follows from both holds of it

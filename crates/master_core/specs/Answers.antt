@@ -102,23 +102,23 @@ abbrev pub entries_of : Option Made → ℕ
 entries_of None = 0
 entries_of (Some made) = length made.table.placed.items
 
--- what an accepted change makes of a core: what is kept of the list to which it was applied, and the same list to be
+-- what an accepted change makes of a core: the list to which it was applied, whole or pruned, and the same list to be
 -- learned
-pub record IsMadeTo (core : CoreView) (answer : Answer) (made : Made) : Type 0 where
+pub record IsMadeAs (prunes : Bool) (core : CoreView) (answer : Answer) (made : Made) : Type 0 where
   pub accepted : is_accepted answer.verdict ≡ true
-  pub placed : made.table.placed.items ≡ kept_by core.forgets answer.from (applied core.placed answer.change)
+  pub placed : made.table.placed.items ≡ kept_by prunes answer.from (applied core.placed answer.change)
   pub since : made.table.since ≡ answer.from
   pub ranked : made.table.planner.ranking
       ≡ ranking_by core.rules (not_over made.table.since made.table.placed.items)
   pub learned : made.learned ≡ made.table.placed.items
 
-abbrev pub AreMadeTo : CoreView → Answer → Option Made → Type 0
-AreMadeTo core answer None = is_accepted answer.verdict ≡ false
-AreMadeTo core answer (Some made) = IsMadeTo core answer made
+abbrev pub AreMadeAs : Bool → CoreView → Answer → Option Made → Type 0
+AreMadeAs prunes core answer None = is_accepted answer.verdict ≡ false
+AreMadeAs prunes core answer (Some made) = IsMadeAs prunes core answer made
 
--- the answer is one to this core: the change was planned from a cycle that is not above the next one, and the plan from
--- that cycle on leads to the state of the core
-pub record IsAnswerTo (core : CoreView) (answer : Answer) : Type 0 where
+-- the answer is one to this core, and what it makes is whole or pruned: the change was planned from a cycle that is not
+-- above the next one, and the plan from that cycle on leads to the state of the core
+pub record IsAnswerAs (prunes : Bool) (core : CoreView) (answer : Answer) : Type 0 where
   pub types : All HasTypes answer.change.ops
   pub early : answer.from ≤ core.cycle
   pub pending : ℕ
@@ -126,7 +126,11 @@ pub record IsAnswerTo (core : CoreView) (answer : Answer) : Type 0 where
   pub leads : core.pending
       ≡ pending_at (plan_from core.rules core.placed answer.from pending) (core.cycle - answer.from)
   pub verdict : IsVerdict core.rules core.placed pending answer.from core.cycle answer.change answer.verdict
-  pub made : AreMadeTo core answer answer.made
+  pub made : AreMadeAs prunes core answer answer.made
+
+-- what it makes is what the core keeps: pruned where it forgets
+abbrev pub IsAnswerTo : CoreView → Answer → Type 0
+IsAnswerTo core answer = IsAnswerAs core.forgets core answer
 
 -- the list of a core that forgets would have too many entries where the change is accepted
 pub record IsListFull (core : CoreView) (answer : Answer) : Type 0 where

@@ -1,7 +1,7 @@
 -- *Cores*: what a master keeps whose memory does not grow. A core has no history. Whoever keeps one, or has one in mind,
 -- knows by `IsStateOf` that the core is the state after it. Cycles are elementary cycles, counted from 0.
 use Rattle.std.specs.Prelude.{◌≡◌, ℕ, ◌+◌, ◌^◌, ◌<◌, ◌≤◌, Bool, true, false, List, [], Option, Some, None, IfSome, All, is_some, length}
-use Rattle.std.specs.Prelude.{if◌then◌else◌}
+use Rattle.std.specs.Prelude.{if◌then◌else◌, option_map}
 use Rattle.requirement_table.specs.declared.entries.Order.{Order}
 use Rattle.requirement_table.specs.declared.entries.Placed.{Placed}
 use Rattle.requirement_table.specs.Instance.{Instance}
@@ -67,14 +67,19 @@ pub record IsAnswered (core : CoreView) (change : Change) (answered : Answered) 
   pub trail : answered.trail
       ≡ trail_of (plan_from core.rules (applied core.placed change) core.cycle core.pending) answered.verdict
 
--- the core after an answer to a change that was planned from the cycle `from` on
-abbrev pub answered_by : CoreView → ℕ → Change → Verdict → CoreView
-answered_by core from change verdict =
+-- the core after an answer to a change that was planned from the cycle `from` on, where its list is kept whole, or
+-- pruned
+abbrev pub answered_as : Bool → CoreView → ℕ → Change → Verdict → CoreView
+answered_as prunes core from change verdict =
     if is_accepted verdict then record core {
-      placed = kept_by core.forgets from (applied core.placed change);
-      learned = Some (kept_by core.forgets from (applied core.placed change));
+      placed = kept_by prunes from (applied core.placed change);
+      learned = Some (kept_by prunes from (applied core.placed change));
       accepted = core.accepted + 1;
     } else core
+
+-- where it is pruned by a core that forgets
+abbrev pub answered_by : CoreView → ℕ → Change → Verdict → CoreView
+answered_by core from change verdict = answered_as core.forgets core from change verdict
 
 -- Openings
 
@@ -165,11 +170,22 @@ abbrev pub IsHeld : Bool → ℕ → List Placed → List Placed → Type 0
 IsHeld false cycle whole list = list ≡ whole
 IsHeld true cycle whole list = IsPrunedBefore cycle whole list
 
--- *State of a core*: the core is the state after this history
-pub record IsStateOf (history : List Event) (core : CoreView) : Type 0 where
+-- the core is the state after this history, with all placed entries, or with these pruned
+pub record IsStateAs (prunes : Bool) (history : List Event) (core : CoreView) : Type 0 where
   pub legal : IsLegal core.rules history
-  pub held : IsHeld core.forgets core.cycle (placed_of history) core.placed
+  pub held : IsHeld prunes core.cycle (placed_of history) core.placed
   pub next : core.cycle ≡ next_of history
   pub waiting : core.pending ≡ pending_at (plan_of core.rules (placed_of history)) core.cycle
   pub to_learn : core.learned ≡ (if is_changed history then Some core.placed else None)
   pub counted : core.accepted ≡ accepted_of history
+
+-- *State of a core*: so it is, with all placed entries where the core forgets none
+abbrev pub IsStateOf : List Event → CoreView → Type 0
+IsStateOf history core = IsStateAs core.forgets history core
+
+-- a core without entries that no later answer needs: its list, and that to be learned, are pruned by a cycle that is not
+-- above the next one
+pub record IsPruned (old new : CoreView) : Type 0 where
+  pub by : ℕ
+  pub early : by ≤ old.cycle
+  pub is : new ≡ record old { placed = pruned by old.placed; learned = option_map (pruned by) old.learned }

@@ -1,5 +1,6 @@
 -- What is kept of a history, and what contracts see of it.
 use Rattle.std.specs.Prelude.{◌≡◌, ℕ, ◌+◌, ◌^◌, ◌<◌, ◌≤◌, Bool, true, List, [], ◌∷◌, ◌++◌, length}
+use Rattle.requirement_table.specs.declared.entries.Placed.{Placed}
 use Rattle.admission_rules.specs.declared.Rules.{Rules}
 use Rattle.master_core.specs.declared.event.Event.{Event}
 
@@ -9,11 +10,12 @@ pub record JournalView : Type 0 where
   pub spare : ℕ
   pub keeps : Bool
 
--- what contracts see of a master with a journal: its rules, its whole history, the number of events that it has room
--- for, and whether all events are kept
+-- what contracts see of a master with a journal: its rules, its whole history, the placed entries that it keeps, the
+-- number of events that it has room for, and whether all events are kept
 pub record LeanView : Type 0 where
   pub rules : Rules
   pub history : List Event
+  pub placed : List Placed
   pub spare : ℕ
   pub keeps : Bool
 

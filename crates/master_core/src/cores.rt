@@ -1,6 +1,6 @@
 //! The core of a master: what it keeps besides its history.
 
-ghost use Rattle.std.specs.Prelude.{◌≡◌, ◌+◌, ◌^◌, ◌<◌, ◌≤◌, ◌++◌, ◌∷◌, [], List, ℕ, true, false, Some, None, IfOk, IfSome, OnErr, OnOk, if◌then◌else◌, length};
+ghost use Rattle.std.specs.Prelude.{◌≡◌, ◌+◌, ◌^◌, ◌<◌, ◌≤◌, ◌++◌, ◌∷◌, [], List, ℕ, true, false, Some, None, Bool, All, IfOk, IfSome, OnErr, OnOk, if◌then◌else◌, length, option_map};
 ghost use Rattle.profile.specs.Limits.{cycles_end, openings_end};
 ghost use Rattle.change_protocol.specs.Applied.{applied};
 ghost use Rattle.plan_check.specs.PlanKept.{IsTaken};
@@ -8,12 +8,14 @@ ghost use Rattle.plan_check.specs.PlanText.{IsTextOfPlan, plan_text};
 ghost use Rattle.planner_policies.specs.Plan.{mask_at};
 ghost use Rattle.admission.specs.Certified.{IsCertificateFrom, end_of};
 ghost use Rattle.admission.specs.Verdict.{IsInTime, IsRules, IsTakenWhereDue, is_accepted, plan_from};
-ghost use Rattle.master_core.specs.Answers.{HasNoRoom, IsAnswerTo, entries_of};
+ghost use Rattle.master_core.specs.Answers.{HasNoRoom, IsAnswerAs, IsAnswerTo, entries_of};
 ghost use Rattle.master_core.specs.Apart.{IsPlannable};
 ghost use Rattle.master_core.specs.CorePlans.{CanSettleFrom, IsAnsweredFrom, IsLedTo, IsSettled, snapshot_of_core};
-ghost use Rattle.master_core.specs.Cores.{IsAnswered, IsCore, IsCoreOrder, IsCoreUpcoming, IsHeld, IsStateOf};
+ghost use Rattle.requirement_table.specs.Table.{IsInRange};
+ghost use Rattle.change_protocol.specs.Pruned.{pruned};
+ghost use Rattle.master_core.specs.Cores.{IsAnswered, IsCore, IsCoreOrder, IsCoreUpcoming, IsHeld, IsPruned, IsStateAs, IsStateOf};
 ghost use Rattle.master_core.specs.Cores.{CoreView, core_of, saved_of, state_of};
-ghost use Rattle.master_core.specs.Cores.{answered_by, most_kept, new_core, onward, opened};
+ghost use Rattle.master_core.specs.Cores.{answered_as, answered_by, most_kept, new_core, onward, opened};
 ghost use Rattle.master_core.specs.History.{IsRightAnswer, placed_of};
 ghost use Rattle.master_core.specs.declared.event.Event.{Event};
 ghost use Rattle.master_core.specs.declared.event.Event.TheVariants.{Submit, Look, Open};
@@ -29,7 +31,7 @@ use crate::table::{Table, list_of};
 use crate::upcoming::Upcoming;
 use admission::laws::{certificates_in_range, pruned_lists, safe_states, taken_where_due};
 use admission::{CertifyFault, Rules, Verdict, certify_from, safe_list};
-use change_protocol::Change;
+use change_protocol::{Change, prune};
 use plan_check::Certificate;
 use planner_policies::{PlanState, cycle_mask};
 use requirement_table::{Mask, Order, Placed, PlacedList};
@@ -130,7 +132,7 @@ impl Core {
             → IsStateOf (history
             ++ Submit caller change.now answered.from answered.verdict answered.trail ∷ []) self.new) }
     {
-        let answer = self.plan_change(alloc, change)?;
+        let answer = self.plan_change(alloc, change, self.forgets)?;
         let answered = self.put_where_room(answer)?;
         self.known();
         Ok(answered)
@@ -210,9 +212,15 @@ impl Core {
         leads(alloc, &self.rules, placed, &snapshot.state, &self.state)
     }
 
-    /// Plans a change from the next cycle on, and takes all memory that its answer needs.
-    pub(crate) fn plan_change(&self, alloc: Global, change: &Change) -> Result<Answer, AllocError>
-        ensures answer { IfOk result (IsAnswerTo self.now) }
+    /// Plans a change from the next cycle on, and takes all memory that its answer needs. What it makes is pruned where
+    /// `prunes` says so.
+    pub(crate) fn plan_change(
+        &self,
+        alloc: Global,
+        change: &Change,
+        prunes: bool,
+    ) -> Result<Answer, AllocError>
+        ensures answer { IfOk result (IsAnswerAs prunes self.now) }
         ensures change { IfOk result (λ answer. answer.change ≡ change.now) }
         ensures answered { IfOk result (λ answer. IsAnswered self.now change.now
             (record { from = answer.from; verdict = answer.verdict; trail = answer.trail })) }
@@ -220,13 +228,13 @@ impl Core {
             self.now.cycle self.now.pending in
             IfOk result (λ answer. IsInTime self.now.rules self.now.placed self.now.cycle change.now
             → IsTakenWhereDue self.now.rules plan answer.verdict) }
-        ensures right { IfOk result (λ answer. (history : List Event) → IsStateOf history self.now
+        ensures right { IfOk result (λ answer. (held : Bool) (history : List Event) → IsStateAs held history self.now
             → IsRightAnswer self.now.rules history answer.change answer.from answer.verdict answer.trail) }
     {
         pruned_lists();
         let placed = self.table.placed.as_slice();
         let answer = answer_of(alloc, &self.rules, placed, &self.state, change)?;
-        Ok(answer.kept(self.forgets))
+        Ok(answer.kept(prunes))
     }
 
     /// Takes what an answer made, where there is room for it. It takes no memory.
@@ -266,19 +274,21 @@ impl Core {
         !self.forgets || answer.entries() <= MOST_KEPT
     }
 
-    /// Takes what an answer made, and gives the change back, with what is answered. It takes no memory.
+    /// Takes what an answer made, whole or pruned, and gives the change back, with what is answered. It takes no memory.
     pub(crate) fn put(&mut self, answer: Answer) -> (Change, Answered)
         requires few { is_accepted answer.verdict ≡ true → self.old.accepted + 1 < 2 ^ 64 }
         requires short { self.old.forgets ≡ true → entries_of answer.made ≤ most_kept }
-        requires answer { IsAnswerTo self.old answer }
+        requires answer { (prunes : Bool) × IsAnswerAs prunes self.old answer }
         ensures change { result.0 ≡ answer.change }
         ensures answered { result.1
             ≡ record { from = answer.from; verdict = answer.verdict; trail = answer.trail } }
-        ensures state { self.new ≡ answered_by self.old answer.from answer.change answer.verdict }
-        ensures history { (history : List Event) (caller : ℕ) → IsStateOf history self.old
-            → IsHeld self.old.forgets answer.from (placed_of history) self.old.placed
+        ensures state { (prunes : Bool) → IsAnswerAs prunes self.old answer
+            → self.new ≡ answered_as prunes self.old answer.from answer.change answer.verdict }
+        ensures history { (prunes : Bool) (history : List Event) (caller : ℕ) → IsAnswerAs prunes self.old answer
+            → IsStateAs prunes history self.old
+            → IsHeld prunes answer.from (placed_of history) self.old.placed
             → IsRightAnswer self.old.rules history answer.change answer.from answer.verdict answer.trail
-            → IsStateOf (history
+            → IsStateAs prunes (history
             ++ Submit caller answer.change answer.from answer.verdict answer.trail ∷ []) self.new }
     {
         safe_states();
@@ -297,6 +307,17 @@ impl Core {
             trail,
         };
         (change, answered)
+    }
+
+    /// Drops the entries that no later answer needs, in place and without memory: those that were over by the cycle from
+    /// which the table is planned, where another one of their slot stands behind them.
+    pub(crate) fn prune(&mut self)
+        ensures pruned { IsPruned self.old self.new }
+    {
+        safe_states();
+        let since = self.table.since;
+        prune(&mut self.table.placed, since);
+        self.learned = pruned(self.learned.take(), since);
     }
 
     /// Plans and opens the next cycle, below 2^41. No deadline is missed in it, nor in any later one. It takes no
@@ -519,6 +540,21 @@ impl Core {
         ensures accepted { result ≡ self.now.accepted }
     {
         self.accepted
+    }
+}
+
+/// What the nodes are to learn, without the entries that are over by a cycle and not the last of their slot.
+fn pruned(learned: Option<PlacedList>, cycle: u64) -> Option<PlacedList>
+    requires in_range { IfSome learned (All IsInRange) }
+    ensures pruned { result ≡ option_map (pruned cycle) learned }
+{
+    match learned {
+        None => None,
+        Some(list) => {
+            let mut list = list.into_vec();
+            prune(&mut list, cycle);
+            Some(PlacedList::of(list))
+        }
     }
 }
 

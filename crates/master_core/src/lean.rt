@@ -1,24 +1,24 @@
 //! A master that need not keep its history.
 
-ghost use Rattle.std.specs.Prelude.{◌≡◌, ◌+◌, ◌^◌, ◌<◌, ◌≤◌, ◌++◌, ◌∷◌, [], List, ℕ};
+ghost use Rattle.std.specs.Prelude.{◌≡◌, ◌+◌, ◌^◌, ◌<◌, ◌≤◌, ◌++◌, ◌∷◌, [], List, ℕ, false, true};
 ghost use Rattle.std.specs.Prelude.{IfOk, IfSome, OnErr, OnOk, is_some, length};
 ghost use Rattle.profile.specs.Limits.{openings_end};
 ghost use Rattle.change_protocol.specs.Applied.{applied};
 ghost use Rattle.planner_policies.specs.Plan.{pending_at};
 ghost use Rattle.admission.specs.Verdict.{IsInTime, IsRules, IsTakenWhereDue, plan_from};
 ghost use Rattle.master_core.specs.Accepted.{all_accepted};
-ghost use Rattle.master_core.specs.Answers.{IsAnswer};
 ghost use Rattle.master_core.specs.declared.event.Event.TheVariants.{Submit, Look, Open};
+ghost use Rattle.master_core.specs.Cores.{IsPruned};
 ghost use Rattle.master_core.specs.History.{IsLegal, IsPlainlyLegal, next_of, placed_of, plan_of};
 ghost use Rattle.master_core.specs.Journals.{IsLast};
-ghost use Rattle.master_core.specs.Orders.{IsOrder};
+ghost use Rattle.master_core.specs.Orders.{IsOrderFor, IsOrderWith, StandsFor};
 
-use crate::answer::Answer;
 use crate::answered::Answered;
 use crate::cores::Core;
 use crate::event::Event;
 use crate::journal::Journal;
 use crate::master::Master;
+use admission::laws::taken_where_due;
 use admission::{Rules, Verdict};
 use change_protocol::Change;
 use requirement_table::{Order, Placed};
@@ -26,19 +26,21 @@ use std::alloc::{AllocError, Global};
 use std::marker::Model;
 
 /// A master that keeps of its history the last event alone, or all events. Contracts see its rules, its whole history,
-/// the number of events that it has room for, and whether all events are kept.
+/// the placed entries that it keeps, the number of events that it has room for, and whether all events are kept.
 ///
-/// Where the last event alone is kept, its memory does not grow with its calls.
+/// Where the last event alone is kept, it also drops the placed entries that no answer and no opening needs any more:
+/// each time that a change is accepted, those that are over and not the last of their slot. Then neither its memory nor
+/// the time of its calls grows with the entries that are over, or with the cycles that it opens.
 #[derive(Drop, Debug)]
 pub struct LeanMaster {
-    /// It keeps all placed entries.
+    /// It keeps all placed entries where all events are kept.
     core: Core,
     journal: Journal,
 }
 
 impl Model for LeanMaster {
-    ghost use Rattle.std.specs.Prelude.{◌≡◌, false};
-    ghost use Rattle.master_core.specs.Cores.{IsStateOf};
+    ghost use Rattle.std.specs.Prelude.{◌≡◌, not, false};
+    ghost use Rattle.master_core.specs.Cores.{IsStateAs};
     ghost use Rattle.master_core.specs.Journals.{LeanView};
 
     ghost Value = { LeanView };
@@ -46,11 +48,13 @@ impl Model for LeanMaster {
     ghost view = { λ m. record {
       rules = m.core.rules;
       history = m.journal.history;
+      placed = m.core.placed;
       spare = m.journal.spare;
       keeps = m.journal.keeps;
     } };
 
-    ghost invariant = { λ m. IsStateOf m.journal.history m.core × (m.core.forgets ≡ false) };
+    ghost invariant = { λ m. IsStateAs (not m.journal.keeps) m.journal.history m.core
+        × (m.core.forgets ≡ false) };
 }
 
 impl LeanMaster {
@@ -83,7 +87,7 @@ impl LeanMaster {
     {
         let Master { core, history, .. } = master;
         LeanMaster {
-            core,
+            core: held(core, keeps),
             journal: Journal::of(history, keeps),
         }
     }
@@ -152,63 +156,12 @@ impl LeanMaster {
             → IsPlainlyLegal self.new.rules self.new.history }
         ensures few { length self.new.history + self.new.spare < 2 ^ 61 }
     {
-        let answer = self.plan_change(alloc, change)?;
-        self.make_room()?;
-        Ok(self.put_answer(caller, answer))
-    }
-
-    /// Plans a change from the next cycle on, and takes all memory that its answer needs.
-    fn plan_change(&self, alloc: Global, change: &Change) -> Result<Answer, AllocError>
-        ensures answer { IfOk result (IsAnswer self.now.rules self.now.history) }
-        ensures change { IfOk result (λ answer. answer.change ≡ change.now) }
-        ensures from { IfOk result (λ answer. answer.from ≡ next_of self.now.history) }
-        ensures complete { let next = next_of self.now.history in
-            let pending = pending_at (plan_of self.now.rules (placed_of self.now.history)) next in
-            let plan = plan_from self.now.rules (applied (placed_of self.now.history) change.now) next pending in
-            IfOk result (λ answer. IsInTime self.now.rules (placed_of self.now.history) next change.now
-            → IsTakenWhereDue self.now.rules plan answer.verdict) }
-        ensures legal { IsLegal self.now.rules self.now.history }
-        ensures few { length self.now.history + self.now.spare < 2 ^ 61 }
-    {
+        taken_where_due();
         self.core.known();
         self.journal.known();
-        self.core.plan_change(alloc, change)
-    }
-
-    /// Makes room for one event more. Where memory runs out, nothing is changed.
-    fn make_room(&mut self) -> Result<(), AllocError>
-        ensures rules { self.new.rules ≡ self.old.rules }
-        ensures history { self.new.history ≡ self.old.history }
-        ensures keeps { self.new.keeps ≡ self.old.keeps }
-        ensures room { OnOk result (self.new.spare ≡ self.old.spare + 1) }
-        ensures same { OnErr result (self.new.spare ≡ self.old.spare) }
-        ensures legal { IsLegal self.new.rules self.new.history }
-        ensures few { length self.new.history + self.new.spare < 2 ^ 61 }
-    {
-        self.journal.known();
+        let answer = self.core.plan_change(alloc, change, !self.journal.keeps())?;
         let events = self.journal.spare() + 1;
         self.journal.reserve(events)?;
-        Ok(())
-    }
-
-    /// Puts an answer to operator `caller` behind the history. It takes no memory, and one of the room. The table
-    /// changes only where the verdict is `Accepted`.
-    fn put_answer(&mut self, caller: u8, answer: Answer) -> Verdict
-        requires spare { 1 ≤ self.old.spare }
-        requires answer { IsAnswer self.old.rules self.old.history answer }
-        ensures rules { self.new.rules ≡ self.old.rules }
-        ensures keeps { self.new.keeps ≡ self.old.keeps }
-        ensures verdict { result ≡ answer.verdict }
-        ensures event { self.new.history ≡ self.old.history
-            ++ Submit caller answer.change answer.from answer.verdict answer.trail ∷ [] }
-        ensures spare { self.new.spare + 1 ≡ self.old.spare }
-        ensures legal { IsLegal self.new.rules self.new.history }
-        ensures plain { answer.from ≡ next_of self.old.history → IsPlainlyLegal self.old.rules self.old.history
-            → IsPlainlyLegal self.new.rules self.new.history }
-        ensures few { length self.new.history + self.new.spare < 2 ^ 61 }
-    {
-        self.core.known();
-        self.journal.known();
         let (change, answered) = self.core.put(answer);
         let Answered {
             from,
@@ -222,7 +175,7 @@ impl LeanMaster {
             verdict,
             trail,
         });
-        verdict
+        Ok(verdict)
     }
 
     /// Answers the next cycle to be opened, for operator `caller`, 1 to 8. It takes no memory, and one of the room.
@@ -239,6 +192,7 @@ impl LeanMaster {
             → IsPlainlyLegal self.new.rules self.new.history }
         ensures few { length self.new.history + self.new.spare < 2 ^ 61 }
     {
+        self.core.known();
         let next = self.core.next();
         self.journal.put(Event::Look { caller, next });
         next
@@ -251,7 +205,10 @@ impl LeanMaster {
         requires next { next_of self.old.history < openings_end }
         ensures rules { self.new.rules ≡ self.old.rules }
         ensures keeps { self.new.keeps ≡ self.old.keeps }
-        ensures order { IsOrder self.old.rules self.old.history result }
+        ensures order { IsOrderFor self.old.rules self.old.history result }
+        ensures learns { IsOrderWith self.old.rules self.old.history self.old.placed result }
+        ensures stands { StandsFor (next_of self.old.history) (placed_of self.old.history) self.old.placed }
+        ensures placed { self.new.placed ≡ self.old.placed }
         ensures event { self.new.history ≡ self.old.history ++ Open result.cycle result.mask ∷ [] }
         ensures spare { self.new.spare + 1 ≡ self.old.spare }
         ensures legal { IsLegal self.new.rules self.new.history }
@@ -274,9 +231,11 @@ impl LeanMaster {
         self.core.next()
     }
 
-    /// The placed entries, in the order of their placing.
+    /// The placed entries that it keeps, in the order of their placing: all where all events are kept, and else those that
+    /// stand for all of them from the next cycle on.
     pub fn placed(&self) -> &[Placed]
-        ensures list { result.now ≡ placed_of self.now.history }
+        ensures list { result.now ≡ self.now.placed }
+        ensures stands { StandsFor (next_of self.now.history) (placed_of self.now.history) self.now.placed }
     {
         self.core.known();
         self.core.placed()
@@ -310,4 +269,16 @@ impl LeanMaster {
     {
         self.core.rules()
     }
+}
+
+/// What is kept of a core: all, or what later answers and openings need.
+fn held(mut core: Core, keeps: bool) -> Core
+    ensures whole { keeps ≡ true → result ≡ core }
+    ensures pruned { keeps ≡ false → IsPruned core result }
+{
+    if keeps {
+        return core;
+    }
+    core.prune();
+    core
 }

@@ -241,7 +241,7 @@ impl Master {
         ensures few { length self.now.history + self.now.spare < 2 ^ 61 }
     {
         self.core.known();
-        self.core.plan_change(alloc, change)
+        self.core.plan_change(alloc, change, false)
     }
 
     /// Makes room for one event more. Where memory runs out, nothing is changed.

@@ -4,7 +4,9 @@ ghost use Rattle.std.specs.Prelude.{◌<◌};
 ghost use Rattle.profile.specs.Limits.{cycles_end};
 ghost use Rattle.requirement_table.specs.Table.{IsWellPlaced};
 
+use crate::changes;
 use crate::numbers::{self, first, number, set};
+use change_protocol::{Change, PlacedTable};
 use planner_policies::{Fill, PlanState, Policy, Ranked, plan_cycle, rank, valid};
 use profile::CYCLES_END;
 use requirement_table::{
@@ -109,5 +111,28 @@ fn planned_by(
             format!(in alloc; "{planned:?} {} {left:?}", next.cycle)
         }
         Err(miss) => format!(in alloc; "{miss:?}"),
+    }
+}
+
+/// What a table of the entries has after the change with a number that is felt from a cycle on, or why it is refused:
+/// NUMBER START.
+pub fn changed(alloc: Global, placed: &[Placed], numbers: &str) -> Result<String, AllocError> {
+    let (which, rest) = first(numbers);
+    if !well_placed(placed) {
+        return Ok(String::new(alloc));
+    }
+    let change = changes::change(alloc, which, number(rest))?;
+    let mut table = PlacedTable::of(placed.to_vec(alloc)?);
+    after(alloc, &mut table, &change)
+}
+
+/// The slots and the origins of the entries of a table after a change of it, or why it is refused.
+fn after(alloc: Global, table: &mut PlacedTable, change: &Change) -> Result<String, AllocError> {
+    match table.apply(alloc, 3, 40, change) {
+        Ok(()) => {
+            let list = numbers::places(alloc, table.placed())?;
+            format!(in alloc; "{list:?}")
+        }
+        Err(fault) => format!(in alloc; "{fault}"),
     }
 }

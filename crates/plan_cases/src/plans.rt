@@ -75,7 +75,7 @@ fn is_whole(word: &str, count: usize) -> bool {
         "bits" | "valid" | "planned" | "without" => true,
         "lasso" | "settle" => count == 4,
         "prefix" | "skip" => count == 3,
-        "certify" | "master" | "payload" => count == 2,
+        "certify" | "changed" | "master" | "payload" => count == 2,
         _ => count == 1,
     }
 }
@@ -92,6 +92,7 @@ fn asked_of_entries(
         "due" => table_calls::due_cycles(alloc, placed, numbers),
         "over" => list_calls::over(alloc, placed, numbers),
         "released_in" => list_calls::released(alloc, placed, numbers),
+        "changed" => list_calls::changed(alloc, placed, numbers),
         "ranked" => list_calls::ranked(alloc, placed, numbers),
         "valid" => list_calls::validity(alloc, placed, numbers),
         "planned" => list_calls::planned(alloc, placed, numbers),

@@ -1,3 +1,4 @@
+mod AllRound
 pub mod Shared
 mod BodyReads
 mod Current

@@ -109,6 +109,7 @@ pub fn renew(
 )
     requires well_placed { IsWellPlaced placed.now }
     requires cycle { cycle < cycles_end }
+    requires some { 1 ≤ count }
     requires few { count ≤ 256 }
     requires known { slots ≤ most_slots }
     requires below { AreSlotsBelow slots placed.now }
@@ -122,21 +123,37 @@ pub fn renew(
     } else {
         fill(placed, cycle, count, slots, places, &mut last.block);
         last.cycles = count;
-        last.repeats = all_go_round(placed, cycle, count);
+        last.repeats = all_go_round(placed, cycle, count, slots, places);
     }
 }
 
-/// Whether all entries go round with the cycles from `first` on, `length` at a time.
-fn all_go_round(placed: &[Placed], first: u64, length: u64) -> bool
+/// Whether all entries go round with the cycles from `first` on, `length` at a time. By the places of the current entries
+/// of the slots below `slots`: those before them are over, and behind one that goes round there is none.
+fn all_go_round(placed: &[Placed], first: u64, length: u64, slots: u8, places: &Places) -> bool
     requires well_placed { IsWellPlaced placed.now }
+    requires known { slots ≤ most_slots }
+    requires below { AreSlotsBelow slots placed.now }
+    requires current { AreCurrent placed.now first slots places.now }
     ensures round { result ≡ true → All (λ p. goes_round first length p ≡ true) placed.now }
 {
-    for p in placed {
-        if !goes_round(p, first, length) {
+    for slot in 0..slots {
+        if !place_goes_round(placed, first, length, places[usize::from(slot)]) {
             return false;
         }
     }
     true
+}
+
+/// Whether the entry at a place, where there is one, goes round with the cycles from `first` on, `length` at a time.
+fn place_goes_round(placed: &[Placed], first: u64, length: u64, place: usize) -> bool
+    requires well_placed { IsWellPlaced placed.now }
+    ensures round { result ≡ true
+        → IfSome (slice_get placed.now place) (λ p. goes_round first length p ≡ true) }
+{
+    match placed.get(place) {
+        Some(p) => goes_round(p, first, length),
+        None => true,
+    }
 }
 
 /// For how many cycles from `cycle` on, at most `most`, the current entries of the slots below `slots` stay the current

@@ -20,9 +20,10 @@ use Rattle.master_core.specs.declared.event.Event.{Event}
 use Rattle.master_core.specs.declared.event.Event.TheVariants.{Open}
 use Rattle.master_core.specs.History.{IsLegal, is_open, next_of, placed_of}
 use Rattle.master_core.specs.Openings.{openings_of}
+use Rattle.master_core.specs.Orders.{StandsFor}
 use Rattle.kept_run.specs.Progress.{IsUnderWay}
 use Rattle.kept_run.specs.Setting.{IsSetting, Setting}
-use Rattle.kept_run.proofs.Shared.{next_of-push}
+use Rattle.kept_run.proofs.Shared.{SameIn, follows-same, next_of-push, stands-now}
 use Rattle.bus_trace.specs.EventRows.{BeginsCycle, rows_of_event, width_told_in}
 use Rattle.bus_trace.specs.Log.{events_rows, triggers_in}
 use Rattle.master_core.specs.Accepted.{all_accepted, refuses_nothing}
@@ -40,7 +41,8 @@ use Rattle.poll_run.specs.PolledRun.{polled_setting}
 use Rattle.poll_run.specs.Polling.{CanPoll, IsPolledAt, IsPolledGoing, IsPolledOn, PollsOn, SoFar}
 use Rattle.poll_run.proofs.Bytes.{polled-whole}
 use Rattle.poll_run.proofs.Calls.{closed-by, quiet-opened, quiet-push}
-use Rattle.poll_run.proofs.Openings.{all-front, all-last, openings-closed, openings-push, placed-push, right-last}
+use Rattle.poll_run.proofs.Openings.{all-front, all-last, openings-closed, openings-push, right-last}
+use Rattle.poll_run.proofs.SameInstances.{fates-same, plain-same, rides-same}
 
 -- what laws of the crates below say of *Ride*
 pub record RideLaws : Type 0 where
@@ -113,6 +115,23 @@ pub record Carries (layout : CycleLayout) (streams : List Stream) (cycle : ℕ) 
       → IsPlainCycle layout (record { cycle = cycle; mask = mask; placed = placed }) plain → All (λ sent. sent.start < cycle * layout.cycle) past
       → Follows (offered_in (polled_bytes streams carried) layout [] (record { cycle = cycle; mask = mask; placed = placed })) past
       (cycle * layout.cycle) ((cycle + 1) * layout.cycle) frames
+
+-- they do so by any list with the same instances in the cycle
+carries-same : (layout : CycleLayout) (streams : List Stream) (cycle : ℕ) (list whole : List Placed) (plain frames : List TimedFrame) (old new : Riding)
+    → SameIn cycle list whole → Carries layout streams cycle list plain frames old new → Carries layout streams cycle whole plain frames old new
+carries-same layout streams cycle list whole plain frames old new same carries =
+    let back : SameIn cycle whole list = λ slot. sym (same slot) in
+    record {
+      taken = λ mask lengths carried rides. carries.taken mask lengths carried (rides-same cycle mask layout.cycle streams whole list back lengths carried rides);
+      fates = λ openings mask lengths carried rides rode run are.
+          fates-same cycle mask streams list whole same openings carried new.fates
+          (carries.fates openings mask lengths carried (rides-same cycle mask layout.cycle streams whole list back lengths carried rides) rode
+          (plain-same cycle mask layout whole list back plain run) are);
+      frames_are = λ mask lengths carried past rides rode run before.
+          follows-same (polled_bytes streams carried) layout [] cycle mask list whole same past frames (cycle * layout.cycle) ((cycle + 1) * layout.cycle)
+          (carries.frames_are mask lengths carried past (rides-same cycle mask layout.cycle streams whole list back lengths carried rides) rode
+          (plain-same cycle mask layout whole list back plain run) before);
+    }
 
 -- a cycle is opened after the history of a polled run, and run on the bus without requests
 pub record IsOpened (setting : Setting) (streams : List Stream) (history : List Event) (cycle mask : ℕ) (trace plain_trace plain frames : List TimedFrame)
@@ -216,7 +235,7 @@ module _ (laws : CycleLaws) (setting : Setting) (streams : List Stream) (history
 module _ (laws : CycleLaws) (run : Polled) (between : Bus) (after : Polled) (cycle : ℕ) (placed : List Placed)
     (carries : Carries run.layout run.rides.queued.streams cycle placed after.bus.segment after.frames.items run.rides after.rides)
     (still : GoesStill run.bus between) (on : BringsOn between after.bus after.bus.segment) (ran : RunsNext between after.bus after.bus.segment)
-    (count : cycle ≡ next_of between.master.history) (list : placed ≡ placed_of after.bus.master.history) where
+    (count : cycle ≡ next_of between.master.history) (stands : StandsFor (next_of between.master.history) (placed_of between.master.history) placed) where
   module _ (setting : Setting) (streams : List Stream) (trace : List TimedFrame) (is : IsPolledGoing setting streams trace run) where
     pub going : IsGoing setting is.plain_trace between
     going = still.going setting is.plain_trace is.going
@@ -239,16 +258,18 @@ module _ (laws : CycleLaws) (run : Polled) (between : Bus) (after : Polled) (cyc
     at-next : cycle ≡ next.cycle
     at-next = count ∙ ap next_of still.same ∙ sym (right-last setting.rules history (Open next.cycle next.mask) legal-now).1.0
 
-    same-list : placed ≡ placed_of history
-    same-list = list ∙ ap placed_of now ∙ placed-push history (Open next.cycle next.mask)
+    same-now : SameIn cycle placed (placed_of history)
+    same-now =
+        subst (λ (h : List Event). SameIn cycle placed (placed_of h)) still.same
+        (stands-now cycle (placed_of between.master.history) placed
+        (subst (λ (n : ℕ). StandsFor n (placed_of between.master.history) placed) (sym count) stands))
 
     carries-on : Carries setting.layout streams next.cycle (placed_of history) after.bus.segment after.frames.items run.rides after.rides
     carries-on =
-        subst (λ (l : List Placed). Carries setting.layout streams next.cycle l after.bus.segment after.frames.items run.rides after.rides) same-list
-        (subst (λ (n : ℕ). Carries setting.layout streams n placed after.bus.segment after.frames.items run.rides after.rides) at-next
-        (subst (λ (s : List Stream). Carries setting.layout s cycle placed after.bus.segment after.frames.items run.rides after.rides) is.same_streams
-        (subst (λ (l : CycleLayout). Carries l run.rides.queued.streams cycle placed after.bus.segment after.frames.items run.rides after.rides) is.same_layout
-        carries)))
+        subst (λ (n : ℕ). Carries setting.layout streams n (placed_of history) after.bus.segment after.frames.items run.rides after.rides) at-next
+        (subst (λ (s : List Stream). Carries setting.layout s cycle (placed_of history) after.bus.segment after.frames.items run.rides after.rides) is.same_streams
+        (subst (λ (l : CycleLayout). Carries l run.rides.queued.streams cycle (placed_of history) after.bus.segment after.frames.items run.rides after.rides) is.same_layout
+        (carries-same run.layout run.rides.queued.streams cycle placed (placed_of history) after.bus.segment after.frames.items run.rides after.rides same-now carries)))
 
     opened : IsOpened setting streams history next.cycle next.mask trace is.plain_trace after.bus.segment after.frames.items run.rides after.rides
     opened = record {

@@ -8,5 +8,6 @@ mod OneRun
 mod Openings
 mod Puttings
 mod Rows
+mod SameInstances
 mod Sent
 mod SentOnce

@@ -3,12 +3,11 @@ use Rattle.std.proofs.Common.{◌≡◌, ℕ, ◌<◌, false, List, [], ◌∷�
 use Rattle.std.specs.List.{range_with_len}
 use Rattle.std.proofs.lemmas.List.{append-nil}
 use Rattle.std.proofs.lemmas.List.Elements.{All-cons, All-head, All-nil, All-tail, Contains-get_or}
-use Rattle.std.proofs.lemmas.List.Sums.{fold-append}
 use Rattle.requirement_table.specs.Opening.{Opening}
 use Rattle.admission_rules.specs.declared.Rules.{Rules}
 use Rattle.master_core.specs.declared.event.Event.{Event}
 use Rattle.master_core.specs.declared.event.Event.TheVariants.{Submit, Look, Open}
-use Rattle.master_core.specs.History.{IsLegal, IsRight, is_open, placed_after, placed_of}
+use Rattle.master_core.specs.History.{IsLegal, IsRight, is_open}
 use Rattle.master_core.specs.Openings.{opening_of, openings_of}
 use Rattle.kept_run.proofs.Shared.{AllAfter-parts}
 use Rattle.replay_run.proofs.Shared.{cycle-at, openings_of-append, so-many}
@@ -24,9 +23,6 @@ opens-nothing history (Open cycle mask) none = absurd (cc)
 pub openings-closed : (history : List Event) (event : Event) → is_open event ≡ false → openings_of (history ++ event ∷ []) ≡ openings_of history
 openings-closed history event none =
     openings-push history event ∙ ap (λ l. openings_of history ++ l) (opens-nothing history event none) ∙ append-nil (openings_of history)
-
-pub placed-push : (history : List Event) (event : Event) → placed_of (history ++ event ∷ []) ≡ placed_after (placed_of history) event
-placed-push history event = fold-append placed_after [] history (event ∷ [])
 
 -- the last event of a legal history is right
 pub right-last : (rules : Rules) (history : List Event) (event : Event) → IsLegal rules (history ++ event ∷ []) → IsLegal rules history × IsRight rules history event

@@ -15,7 +15,7 @@ use change_protocol::Act;
 use cycle_engine::laws::numbers_are_whole;
 use cycle_layout::Layout;
 use kept_run::laws::{beginning, calls_between, cycles_run};
-use master_core::laws::{legal_histories, opened_cycles};
+use master_core::laws::opened_cycles;
 use master_core::refuses_nothing;
 use profile::MOST_FRAMES;
 use replay_run::laws::{opened_frames, rows_appended};
@@ -83,7 +83,6 @@ impl Polled {
     {
         cycles_run();
         numbers_are_whole();
-        legal_histories();
         opened_cycles();
         one_ride();
         rides_of_openings();

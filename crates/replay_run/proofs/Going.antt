@@ -1,5 +1,5 @@
 -- What keeps a run going.
-use Rattle.std.proofs.Common.{◌≡◌, ◌≢◌, ℕ, ◌+◌, ◌*◌, ◌/◌, ◌^◌, ◌<◌, ◌≤◌, ◌⊎◌, false, cond, length, List, [], ◌∷◌, ◌++◌, map, All, sym, ap, ◌∙◌, subst, arith, add-zero}
+use Rattle.std.proofs.Common.{◌≡◌, ◌≢◌, ℕ, ◌+◌, ◌*◌, ◌/◌, ◌^◌, ◌<◌, ◌≤◌, ◌⊎◌, false, cond, length, List, [], ◌∷◌, ◌++◌, map, All, refl, sym, ap, ◌∙◌, subst, arith, add-zero}
 use Rattle.std.specs.Prelude.{is_some}
 use Rattle.std.specs.List.{range_with_len}
 use Rattle.std.proofs.lemmas.List.{append-nil, map-append}
@@ -21,12 +21,12 @@ use Rattle.cycle_engine.specs.Nodes.{HaveSpare, NodesView, opening_of, states_of
 use Rattle.cycle_engine.specs.Offered.{AreAsynchronous, IsCanTrace, offered_in}
 use Rattle.master_core.specs.declared.event.Event.{Event}
 use Rattle.master_core.specs.declared.event.Event.TheVariants.{Open}
-use Rattle.master_core.specs.History.{IsLegal, IsPlainlyLegal, is_open, next_of, placed_of}
+use Rattle.master_core.specs.History.{IsLegal, IsPlainlyLegal, is_open, learned_of, next_of, placed_of}
 use Rattle.master_core.specs.Openings.{openings_of}
-use Rattle.master_core.specs.Orders.{IsOrder}
+use Rattle.master_core.specs.Orders.{IsOrderFor}
 use Rattle.kept_run.specs.Progress.{AreNodesReady, IsOnTheWay, IsUnderWay}
 use Rattle.kept_run.specs.Setting.{IsSetting, Setting}
-use Rattle.kept_run.proofs.Shared.{CallsBetween, CyclesRun, RanOrder, next_of-push, number-below, second_identifiers, way-called, way-run, way-same}
+use Rattle.kept_run.proofs.Shared.{CallsBetween, CyclesRun, RanOrder, next_of-push, number-below, ran-follows, second_identifiers, way-called, way-run, way-same}
 use Rattle.node_model.specs.Node.{NodeView}
 use Rattle.node_model.specs.Offered.{trigger_frames}
 use Rattle.bus_trace.specs.EventRows.{BeginsCycle, rows_of_event, width_told_in}
@@ -72,7 +72,7 @@ answered laws setting trace run after call closed same_rules history keeps same_
 -- a cycle that is run by the master's order keeps a run on the way, and its frames are what the opening says
 pub record CyclesSent : Type 0 where
   pub run : CyclesRun
-  pub fits : (setting : Setting) (history : List Event) (order : Order) → IsSetting setting → IsOrder setting.rules history order
+  pub fits : (setting : Setting) (history : List Event) (order : Order) → IsSetting setting → IsOrderFor setting.rules history order
       → FitsWindow setting.layout (opening_of order (placed_of history))
   pub cycles : (rules : Rules) (history : List Event) → IsLegal rules history → map (λ o. o.cycle) (openings_of history) ≡ range_with_len 0 (next_of history)
   pub sends : (layout : CycleLayout) (requests : List Request) (openings : List Opening) (opening : Opening) (trace frames : List TimedFrame)
@@ -92,17 +92,16 @@ pub record Sends (placed : List Placed) (order : Order) (frames : List TimedFram
 
 -- a cycle that was run by the master's order runs as its opening says
 runs : CyclesSent → (setting : Setting) (history : List Event) (trace frames : List TimedFrame) (nodes new : NodesView) (order : Order)
-    → IsOrder setting.rules history order → RanOrder order nodes new frames → IsOnTheWay setting history trace nodes → RunsCycle bytes_of setting.layout (opening_of order (placed_of history)) frames
+    → IsOrderFor setting.rules history order → RanOrder order nodes new frames → IsOnTheWay setting history trace nodes → RunsCycle bytes_of setting.layout (opening_of order (placed_of history)) frames
 runs laws setting history trace frames nodes new order ordered did way =
     let layout = setting.layout in
     let so_far = way.under_way in
     let known = way.known in
     let openings : List Opening = openings_of history in
     let opening : Opening = opening_of order (placed_of history) in
-    let before = laws.run.before setting history trace nodes order so_far way.ready ordered in
-    let follows = did.runs setting.owners setting.requests (placed_of history) trace before in
+    let follows = ran-follows laws.run setting history trace frames nodes new order ordered did way in
     let fits = laws.fits setting history order known ordered in
-    let now : order.cycle ≡ next_of history = ordered.cycle in
+    let now : order.cycle ≡ next_of history = ordered.is.cycle in
     let behind : FollowsTrace bytes_of layout setting.requests openings opening trace frames = record {
       below = subst (λ n. All (λ o. o.cycle < n) openings) (sym now) (number-below (λ (o : Opening). o.cycle) openings (next_of history) (laws.cycles setting.rules history so_far.legal));
       can_trace = subst (λ n. IsCanTrace bytes_of layout setting.requests openings n trace) (sym now)
@@ -113,7 +112,7 @@ runs laws setting history trace frames nodes new order ordered did way =
     laws.sends layout setting.requests openings opening trace frames known.known behind known.asynchronous fits
 
 sends : CyclesSent → (setting : Setting) (history : List Event) (trace frames : List TimedFrame) (nodes new : NodesView) (order : Order)
-    → IsOrder setting.rules history order → RanOrder order nodes new frames → IsOnTheWay setting history trace nodes → Sends (placed_of history) order frames
+    → IsOrderFor setting.rules history order → RanOrder order nodes new frames → IsOnTheWay setting history trace nodes → Sends (placed_of history) order frames
 sends laws setting history trace frames nodes new order ordered did way =
     let layout = setting.layout in
     let known = way.known in
@@ -145,33 +144,41 @@ begins placed order frames is = record {
 }
 
 pub its-frames : CyclesSent → (run : Bus) (new : NodesView) (order : Order) (frames : List TimedFrame) (history : List Event)
-    → CanGo run → IsOrder run.master.rules run.master.history order → RanOrder order run.nodes new frames
+    → CanGo run → IsOrderFor run.master.rules run.master.history order → RanOrder order run.nodes new frames
     → history ≡ run.master.history ++ Open order.cycle order.mask ∷ [] → CanTellLast history frames
 its-frames laws run new order frames history can ordered did is =
     let setting = can.0 in
     let going = can.2 in
     let its = begins (placed_of run.master.history) order frames
-    (sends laws setting run.master.history can.1 frames run.nodes new order (subst (λ r. IsOrder r run.master.history order) going.same_rules ordered) did going.way) in
+    (sends laws setting run.master.history can.1 frames run.nodes new order (subst (λ r. IsOrderFor r run.master.history order) going.same_rules ordered) did going.way) in
     record { event = Open order.cycle order.mask; ends = record { before = run.master.history; is = is }; near = tt; its = its }
 
 -- they begin with the trigger frames that are due
 pub begin-with-triggers : CyclesSent → (run : Bus) (new : NodesView) (order : Order) (frames : List TimedFrame) → CanGo run
-    → IsOrder run.master.rules run.master.history order → RanOrder order run.nodes new frames → BeginWithTriggers run.master.rules run.master.history frames
+    → IsOrderFor run.master.rules run.master.history order → RanOrder order run.nodes new frames → BeginWithTriggers run.master.rules run.master.history frames
 begin-with-triggers laws run new order frames can ordered did =
     let setting = can.0 in
     let way = can.2.way in
     let rules = can.2.same_rules in
     let opening : Opening = opening_of order (placed_of run.master.history) in
-    let is = runs laws setting run.master.history can.1 frames run.nodes new order (subst (λ r. IsOrder r run.master.history order) rules ordered) did way in
+    let is = runs laws setting run.master.history can.1 frames run.nodes new order (subst (λ r. IsOrderFor r run.master.history order) rules ordered) did way in
     let slots : run.master.rules.slots ≡ setting.layout.slots = ap (λ r. r.slots) rules ∙ way.known.same_slots in
     let width : order.l ≡ width_of opening =
-    ordered.window ∙ ap (λ n. width_in (placed_of run.master.history) n (has_bit order.mask)) (sym ordered.cycle) in
+    ordered.is.window ∙ ap (λ n. width_in (placed_of run.master.history) n (has_bit order.mask)) (sym ordered.is.cycle) in
     let all : map (λ (sent : TimedFrame). sent.frame) frames ≡ trigger_frames setting.layout opening ++ map (λ (sent : TimedFrame). sent.frame) is.later =
     ap (map (λ (sent : TimedFrame). sent.frame)) is.all_frames ∙ map-append (λ (sent : TimedFrame). sent.frame) (is.trigger ∷ is.second) is.later
     ∙ ap (λ l. l ++ map (λ (sent : TimedFrame). sent.frame) is.later) is.are_triggers in
     record {
-      order = order;
-      due = ordered;
+      order = record order { learned = learned_of run.master.history };
+      due = record {
+        cycle = ordered.is.cycle;
+        mask = ordered.is.mask;
+        window = ordered.is.window;
+        learned = refl;
+        fits = ordered.is.fits;
+        slots = ordered.is.slots;
+        present = ordered.is.present;
+      };
       later = map (λ (sent : TimedFrame). sent.frame) is.later;
       begin = all ∙ ap (λ s. triggers_with s order.cycle (width_of opening) order.mask ++ map (λ (sent : TimedFrame). sent.frame) is.later) (sym slots)
           ∙ ap (λ l. triggers_with run.master.rules.slots order.cycle l order.mask ++ map (λ (sent : TimedFrame). sent.frame) is.later) (sym width);
@@ -194,14 +201,14 @@ ran-triggers trace frames placed order is =
 
 -- a run whose next cycle was opened and run goes on, and its rows are those of the event behind those before it
 pub ran : CyclesSent → (setting : Setting) (trace : List TimedFrame) (run after : Bus) (order : Order) (frames : List TimedFrame)
-    → IsOrder run.master.rules run.master.history order → RanOrder order run.nodes after.nodes frames
+    → IsOrderFor run.master.rules run.master.history order → RanOrder order run.nodes after.nodes frames
     → after.master.rules ≡ run.master.rules → after.master.history ≡ run.master.history ++ Open order.cycle order.mask ∷ []
     → (IsPlainlyLegal run.master.rules run.master.history → IsPlainlyLegal after.master.rules after.master.history) → (KeepsFrames run.trace trace → KeepsFrames after.trace (trace ++ frames)) → (HaveSpare run.spare run.nodes.nodes → HaveSpare after.spare after.nodes.nodes)
     → after.master.keeps ≡ run.master.keeps → is_some after.trace ≡ is_some run.trace
     → IsGoing setting trace run → IsBroughtOn setting trace run after frames
 ran laws setting trace run after order frames right did same_rules history keeps kept spared same_events same_kept going =
     let rules : after.master.rules ≡ setting.rules = same_rules ∙ going.same_rules in
-    let ordered : IsOrder setting.rules run.master.history order = subst (λ r. IsOrder r run.master.history order) going.same_rules right in
+    let ordered : IsOrderFor setting.rules run.master.history order = subst (λ r. IsOrderFor r run.master.history order) going.same_rules right in
     let way = way-run laws.run setting run.master.history trace frames run.nodes after.nodes order ordered did going.way in
     let sent = sends laws setting run.master.history trace frames run.nodes after.nodes order ordered did going.way in
     let next : next_of after.master.history ≡ next_of run.master.history + 1 = ap next_of history ∙ next_of-push run.master.history (Open order.cycle order.mask) in
@@ -220,7 +227,7 @@ ran laws setting trace run after order frames right did same_rules history keeps
         spare = spared going.spare;
       };
       rows = λ before legal placed cycle.
-          ran-rows setting.rules trace frames before order legal (going.triggers ∙ sym cycle) (ordered.cycle ∙ sym cycle)
+          ran-rows setting.rules trace frames before order legal (going.triggers ∙ sym cycle) (ordered.is.cycle ∙ sym cycle)
           (subst (λ list. Sends list order frames) (sym placed) sent);
     }
 

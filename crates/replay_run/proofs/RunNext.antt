@@ -9,21 +9,20 @@ use Rattle.cycle_engine.specs.Nodes.{opening_of}
 use Rattle.cycle_engine.specs.Offered.{offered_in}
 use Rattle.master_core.specs.declared.event.Event.TheVariants.{Open}
 use Rattle.master_core.specs.History.{placed_of}
-use Rattle.master_core.specs.Orders.{IsOrder}
-use Rattle.kept_run.proofs.Shared.{CyclesRun, RanOrder}
+use Rattle.master_core.specs.Orders.{IsOrderFor}
+use Rattle.kept_run.proofs.Shared.{CyclesRun, RanOrder, ran-follows}
 use Rattle.kept_run.specs.Setting.{Setting}
 use Rattle.replay_run.specs.declared.bus.Bus.{Bus}
 use Rattle.replay_run.specs.Progress.{IsGoing, IsRunNext}
 
 pub run-next : CyclesRun → (setting : Setting) (trace : List TimedFrame) (run after : Bus) (order : Order) (frames : List TimedFrame)
-    → IsOrder run.master.rules run.master.history order → RanOrder order run.nodes after.nodes frames
+    → IsOrderFor run.master.rules run.master.history order → RanOrder order run.nodes after.nodes frames
     → after.master.history ≡ run.master.history ++ Open order.cycle order.mask ∷ []
     → IsGoing setting trace run → IsRunNext setting trace run after frames
 run-next laws setting trace run after order frames right did history going =
     let way = going.way in
-    let ordered : IsOrder setting.rules run.master.history order = subst (λ r. IsOrder r run.master.history order) going.same_rules right in
-    let before = laws.before setting run.master.history trace run.nodes order way.under_way way.ready ordered in
-    let follows = did.runs setting.owners setting.requests (placed_of run.master.history) trace before in
+    let ordered : IsOrderFor setting.rules run.master.history order = subst (λ r. IsOrderFor r run.master.history order) going.same_rules right in
+    let follows = ran-follows laws setting run.master.history trace frames run.nodes after.nodes order ordered did way in
     record {
       cycle = order.cycle;
       mask = order.mask;

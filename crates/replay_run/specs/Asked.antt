@@ -15,12 +15,12 @@ bounds_in asked = record { nodes = asked.nodes; slots = asked.slots }
 
 -- a change can be applied to it
 pub record CanApply (asked : AskedEntries) : Type 0 where
-  pub well_placed : IsWellPlaced asked.placed.items
+  pub well_placed : IsWellPlaced asked.table
   pub slots : asked.slots ≤ most_slots
 
 -- the table of these fields
 abbrev pub table_in : AskedEntries → AskedTable
-table_in asked = record { placed = asked.placed.items; next = asked.next }
+table_in asked = record { placed = asked.table; next = asked.next }
 
 -- it is the table after these calls, and still a change can be applied to it
 pub record IsAskedAfter (old : AskedEntries) (calls : List Call) (new : AskedEntries) : Type 0 where

@@ -59,7 +59,7 @@ HasTraceRoom (Some kept) = vec_len kept + 2128 ≤ vec_capacity kept
 -- for them where frames are kept
 pub record IsBusReady (bus : Bus) : Type 0 where
   pub event : 1 ≤ bus.master.spare
-  pub entries : length (placed_of bus.master.history) ≤ bus.spare
+  pub entries : length bus.master.placed ≤ bus.spare
   pub room : bus.nodes.layout.cycle / shortest_frame + 1 ≤ vec_capacity bus.room
   pub frames : HasTraceRoom bus.trace
 

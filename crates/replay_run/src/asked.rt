@@ -9,7 +9,7 @@ ghost use Rattle.replay_run.specs.AskedTable.{after_change, table_of};
 
 use crate::driver::{Driven, drive};
 use admission_rules::Rules;
-use change_protocol::{Act, ApplyFault, Change, apply};
+use change_protocol::{Act, ApplyFault, Change, PlacedTable};
 use requirement_table::Placed;
 use std::alloc::{AllocError, Global};
 use steps_file::Step;
@@ -19,7 +19,7 @@ use steps_file::Step;
 struct AskedEntries {
     nodes: u8,
     slots: u8,
-    placed: Vec<Placed>,
+    table: PlacedTable,
     next: u64,
 }
 
@@ -29,23 +29,14 @@ fn ask(asked: &mut AskedEntries, alloc: Global, change: &Change) -> Result<(), A
     ensures can_apply { OnOk result (CanApply asked.new) }
     ensures bounds { OnOk result (bounds_in asked.new ≡ bounds_in asked.old) }
     ensures next { OnOk result (asked.new.next ≡ asked.old.next) }
-    ensures applied { OnOk result (asked.new.placed.items
-        ≡ after_change (bounds_in asked.old) asked.old.placed.items asked.old.next change.now) }
+    ensures applied { OnOk result (asked.new.table
+        ≡ after_change (bounds_in asked.old) asked.old.table asked.old.next change.now) }
 {
     if change.start < asked.next {
         return Ok(());
     }
-    match apply(
-        alloc,
-        asked.placed.as_slice(),
-        asked.nodes,
-        asked.slots,
-        change,
-    ) {
-        Ok(list) => {
-            asked.placed = list;
-            Ok(())
-        }
+    match asked.table.apply(alloc, asked.nodes, asked.slots, change) {
+        Ok(()) => Ok(()),
         Err(ApplyFault::Malformed { .. }) => Ok(()),
         Err(ApplyFault::Memory) => Err(AllocError),
     }
@@ -106,9 +97,9 @@ pub fn asked_table(alloc: Global, rules: &Rules, steps: &[Step]) -> Result<Vec<P
     let mut asked = AskedEntries {
         nodes: rules.nodes,
         slots: rules.slots,
-        placed: Vec::new(alloc),
+        table: PlacedTable::new(alloc),
         next: 0,
     };
     drive(&mut asked, alloc, steps)?;
-    Ok(asked.placed)
+    Ok(asked.table.into_vec())
 }

@@ -9,7 +9,8 @@ ghost use Rattle.change_protocol.specs.declared.operations.Act.TheVariants as ac
 ghost use Rattle.system_file.specs.SystemFile.{IsSystem};
 ghost use Rattle.requests_file.specs.RequestsFile.{AreLegal};
 ghost use Rattle.master_core.specs.Calls.{asked, call_of, opens};
-ghost use Rattle.master_core.specs.History.{next_of};
+ghost use Rattle.master_core.specs.History.{next_of, placed_of};
+ghost use Rattle.master_core.specs.Orders.{StandsFor};
 ghost use Rattle.kept_run.specs.Progress.{AreNodesReady};
 ghost use Rattle.kept_run.specs.Setting.{IsSetting};
 ghost use Rattle.cycle_engine.specs.Nodes.{HaveSpare, states_of};
@@ -217,6 +218,8 @@ impl Bus {
         ensures triggers { BeginWithTriggers self.old.master.rules self.old.master.history self.new.segment }
         ensures calls { map call_of self.new.master.history ≡ map call_of self.old.master.history ++ opens ∷ [] }
         ensures next { next_of self.new.master.history ≡ next_of self.old.master.history + 1 }
+        ensures stands { StandsFor (next_of self.old.master.history) (placed_of self.old.master.history)
+            self.new.master.placed }
         ensures kept { is_some self.new.trace ≡ is_some self.old.trace }
     {
         orders();

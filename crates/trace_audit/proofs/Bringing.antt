@@ -16,7 +16,7 @@ use Rattle.master_core.specs.History.{IsLegal, is_open, placed_of}
 use Rattle.master_core.specs.Orders.{IsOrder}
 use Rattle.kept_run.specs.Progress.{IsOnTheWay}
 use Rattle.kept_run.specs.Setting.{Setting}
-use Rattle.kept_run.proofs.Shared.{CallsBetween, CyclesRun, RanOrder, way-called, way-run}
+use Rattle.kept_run.proofs.Shared.{CallsBetween, CyclesRun, RanOrder, order-whole, way-called, way-run}
 use Rattle.steps_file.specs.declared.steps.Step.{Step}
 use Rattle.system_file.specs.declared.system.System.{System}
 use Rattle.replay_run.specs.Run.{setting_of}
@@ -84,7 +84,8 @@ module _ (system : System) (requests : List Request) (trace : List TimedFrame) (
       → IsRerunOpened system requests trace old new
   opened-with laws runs order ordered did same rules history states =
       let setting : Setting = setting_of system requests in
-      let way = way-run runs setting old.master.history trace new.sent old.nodes new.nodes order ordered did again.way in
+      let way = way-run runs setting old.master.history trace new.sent old.nodes new.nodes order
+      (order-whole system.rules old.master.history order again.way.under_way.legal ordered) did again.way in
       let width : width_of (record { cycle = order.cycle; mask = order.mask; placed = placed_of old.master.history }) ≡ new.width =
       ap (λ c. width_in (placed_of old.master.history) c (has_bit order.mask)) ordered.cycle ∙ sym ordered.window ∙ sym same in
       let told = opened-told laws setting again.way.known old.master.history trace again.way.under_way order.cycle order.mask new.sent

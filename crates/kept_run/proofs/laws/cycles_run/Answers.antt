@@ -7,6 +7,7 @@ use Rattle.cycle_engine.specs.Nodes.{opening_of}
 use Rattle.cycle_engine.proofs.Shared.{bytes_of-whole}
 use Rattle.kept_run.proofs.Histories.{legal-push}
 use Rattle.kept_run.proofs.Ready.{order-right, ready-run}
+use Rattle.kept_run.proofs.Standing.{same-offers}
 use Rattle.kept_run.proofs.Steps.{opened, opened-fits, opened-runs}
 use Rattle.kept_run.proofs.laws.cycles_run.Goals as goal
 
@@ -24,6 +25,7 @@ returns c = record {
       (subst (λ l. Follows (offered_in setting.sends l setting.requests (opening_of order (placed_of history))) trace (order.cycle * l.cycle) ((order.cycle + 1) * l.cycle) frames)
       ready.same_layout (subst (λ s. Follows (offered_in s nodes.layout setting.requests (opening_of order (placed_of history)))
       trace (order.cycle * nodes.layout.cycle) ((order.cycle + 1) * nodes.layout.cycle) frames) (sym ready.same_bytes) follows));
-  ready = λ setting history trace frames nodes new order way ready is same heard bus.
-      ready-run setting history trace nodes order ready is new frames same heard bus;
+  same_offers = same-offers;
+  ready = λ setting history trace frames nodes new order known stands way ready is same heard bus.
+      ready-run setting history trace nodes order ready is new frames known stands same heard bus;
 }

@@ -7,6 +7,6 @@ use Rattle.master_core.proofs.laws.cores_after_histories.Goals as goal
 pub returns : goal.returns
 returns c = record {
   masks = λ history core n is of.
-      sym (masks-are history core is of n) ∙ ap (λ (k : ℕ). mask_at (plan_of core.rules (placed_of history)) (k + n)) of.next;
-  order = λ history core order is of by. state-order history core is of order by;
+      sym (masks-are core.forgets history core is of n) ∙ ap (λ (k : ℕ). mask_at (plan_of core.rules (placed_of history)) (k + n)) of.next;
+  order = λ history core order is of by. state-order core.forgets history core is of order by;
 }

@@ -24,3 +24,9 @@ returns-else-last-clause-last c = λ round.
       filled-again c.args.placed.now c.args.cycle c.args.count c.fill.new.block c.requires.well_placed rounds c.fill.ensures.filled,
       rounds-later c.args.placed.now c.args.cycle (c.args.cycle + c.args.count) c.args.count (omega arith) rounds,
     )
+
+pub all_go_round-last-requires-clause-current : goal.all_go_round-last-requires-clause-current
+all_go_round-last-requires-clause-current c =
+    let some = c.requires.some in
+    let here : c.args.cycle + 0 ≡ c.args.cycle = omega arith in
+    rw here at (c.requires.current 0 (omega arith))

@@ -10,4 +10,4 @@ invariant_of-result c =
 
 pub returns-clause-history : goal.returns-clause-history
 returns-clause-history c =
-    rw (c.in_ok-table.ensures.placed, c.new.ensures.items, c.empty.ensures.number) (state-new c.args.rules c.args.forgets)
+    rw (c.in_ok-table.ensures.placed, c.new.ensures.items, c.empty.ensures.number) (state-new c.args.forgets c.args.rules c.args.forgets)

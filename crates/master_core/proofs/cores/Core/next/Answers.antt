@@ -10,4 +10,4 @@ returns-clause-looked c =
     subst
     (λ (v : CoreView). (history : List Event) (caller : ℕ) → IsStateOf history v → IsStateOf (history ++ Look caller c.self.inside.state.cycle ∷ []) v)
     c.self.view_is
-    (λ history caller of. state-looked history _ c.self.invariant.0 of caller)
+    (λ history caller of. state-looked _ history _ c.self.invariant.0 of caller)

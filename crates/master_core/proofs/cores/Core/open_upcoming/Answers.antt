@@ -42,4 +42,4 @@ returns-clause-history c =
     (sym
     (behind-is _ _ _ c.self.invariant.0 c.self.invariant.1 c.safe_states.ensures.later near c.args.upcoming is c.pass.new.self.placed.items c.pass.new.self.since
     c.pass.new.self.planner.ranking c.pass.ensures.placed c.pass.ensures.since c.pass.ensures.ranking))
-    (state-opened history _ c.self.invariant.0 of c.args.upcoming.mask is.order.mask)))
+    (state-opened _ history _ c.self.invariant.0 of c.args.upcoming.mask is.order.mask)))

@@ -1,9 +1,9 @@
-use Rattle.std.proofs.Common.{List, subst, sym, ℕ}
+use Rattle.std.proofs.Common.{Bool, List, subst, sym, ℕ}
 use Rattle.change_protocol.specs.Applied.{applied}
 use Rattle.admission.specs.Verdict.{IsInTime, IsTakenWhereDue, plan_from}
 use Rattle.master_core.specs.declared.event.Event.{Event}
-use Rattle.master_core.specs.Answers.{IsAnswerTo}
-use Rattle.master_core.specs.Cores.{CoreView, IsAnswered, IsStateOf}
+use Rattle.master_core.specs.Answers.{IsAnswerAs}
+use Rattle.master_core.specs.Cores.{CoreView, IsAnswered, IsStateAs}
 use Rattle.master_core.specs.History.{IsRightAnswer}
 use Rattle.master_core.proofs.CoreSteps.{answer-to}
 use Rattle.master_core.proofs.States.{state-right}
@@ -12,8 +12,8 @@ use Rattle.master_core.proofs.cores.Core.plan_change.Goals as goal
 pub returns-clause-answer : goal.returns-clause-answer
 returns-clause-answer c =
     let planned = rw c.as_slice-placed.ensures.value at c.in_ok-answer.ensures.planned in
-    subst (λ (v : CoreView). IsAnswerTo v c.kept.result) c.self.view_is
-    (subst (IsAnswerTo _) (sym c.kept.ensures.same) (answer-to _ c.self.invariant.0 c.in_ok-answer.answer c.kept.result.made planned c.kept.ensures.made))
+    subst (λ (v : CoreView). IsAnswerAs c.args.prunes v c.kept.result) c.self.view_is
+    (subst (IsAnswerAs c.args.prunes _) (sym c.kept.ensures.same) (answer-to _ c.self.invariant.0 c.args.prunes c.in_ok-answer.answer c.kept.result.made planned c.kept.ensures.made))
 
 pub returns-clause-answered : goal.returns-clause-answered
 returns-clause-answered c =
@@ -45,11 +45,11 @@ returns-clause-right c =
     let planned = rw c.as_slice-placed.ensures.value at c.in_ok-answer.ensures.planned in
     rw c.kept.ensures.same
     (subst
-    (λ (v : CoreView). (history : List Event) → IsStateOf history v
+    (λ (v : CoreView). (held : Bool) (history : List Event) → IsStateAs held history v
     → IsRightAnswer v.rules history c.in_ok-answer.answer.change c.in_ok-answer.answer.from c.in_ok-answer.answer.verdict c.in_ok-answer.answer.trail)
     c.self.view_is
-    (λ history of.
+    (λ held history of.
     subst (λ (n : ℕ). IsRightAnswer c.self.inside.rules history c.in_ok-answer.answer.change n c.in_ok-answer.answer.verdict c.in_ok-answer.answer.trail)
     (sym planned.from)
-    (state-right history _ c.self.invariant.0 of c.pruned_lists.ensures.verdict c.pruned_lists.ensures.trail c.in_ok-answer.answer.change planned.types
+    (state-right held history _ c.self.invariant.0 of c.pruned_lists.ensures.verdict c.pruned_lists.ensures.trail c.in_ok-answer.answer.change planned.types
     c.in_ok-answer.answer.verdict planned.decided.answer c.in_ok-answer.answer.trail planned.decided.plan)))

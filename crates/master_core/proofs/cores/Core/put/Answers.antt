@@ -1,7 +1,7 @@
-use Rattle.std.proofs.Common.{◌≡◌, ◌+◌, ◌≤◌, ℕ, true, List, [], ◌∷◌, ◌++◌, ap, ◌∙◌, refl, subst, sym}
+use Rattle.std.proofs.Common.{◌≡◌, ◌+◌, ◌≤◌, ℕ, Bool, true, List, [], ◌∷◌, ◌++◌, ap, ◌∙◌, refl, subst, sym}
 use mir.Val.{bool_byte}
-use Rattle.master_core.specs.Answers.{IsAnswerTo, entries_of}
-use Rattle.master_core.specs.Cores.{CoreView, IsHeld, IsStateOf, most_kept}
+use Rattle.master_core.specs.Answers.{IsAnswerAs, entries_of}
+use Rattle.master_core.specs.Cores.{CoreView, IsHeld, IsStateAs, answered_as, most_kept}
 use Rattle.master_core.specs.History.{IsRightAnswer, placed_of}
 use Rattle.master_core.specs.declared.event.Event.{Event}
 use Rattle.master_core.specs.declared.event.Event.TheVariants.{Submit}
@@ -11,18 +11,38 @@ use Rattle.master_core.proofs.cores.Core.put.Goals as goal
 
 pub invariant_of-self : goal.invariant_of-self
 invariant_of-self c =
-    let to = subst (λ (v : CoreView). IsAnswerTo v c.args.answer) (sym c.self.view_is) c.requires.answer in
+    let to = subst (λ (v : CoreView). (prunes : Bool) × IsAnswerAs prunes v c.args.answer) (sym c.self.view_is) c.requires.answer in
     let short = subst (λ (v : CoreView). v.forgets ≡ true → entries_of c.args.answer.made ≤ most_kept) (sym c.self.view_is) c.requires.short in
-    core-after _ _ _ c.self.invariant.0 c.self.invariant.1 c.safe_states.ensures.found c.safe_states.ensures.later c.safe_states.ensures.pruned c.args.answer to _ _ _ _ _ c.take_over.ensures
-    refl refl (c.from.ensures ∙ ap bool_byte c.is_accepted.ensures.test) short refl refl
+    core-after _ _ _ c.self.invariant.0 c.self.invariant.1 c.safe_states.ensures.found c.safe_states.ensures.later c.safe_states.ensures.pruned to.0 c.args.answer to.1 _ _ _ _ _
+    c.take_over.ensures refl refl (c.from.ensures ∙ ap bool_byte c.is_accepted.ensures.test) short refl refl
+
+pub returns-clause-state : goal.returns-clause-state
+returns-clause-state c =
+    let after : CoreView = record {
+      rules = c.self.inside.rules;
+      placed = c.take_over.new.table.placed.items;
+      cycle = c.self.inside.state.cycle;
+      pending = c.self.inside.state.pending;
+      learned = c.take_over.new.learned;
+      accepted = c.self.inside.accepted + c.from.result;
+      forgets = c.self.inside.forgets;
+    } in
+    subst
+    (λ (v : CoreView). (prunes : Bool) → IsAnswerAs prunes v c.args.answer → after
+    ≡ answered_as prunes v c.args.answer.from c.args.answer.change c.args.answer.verdict)
+    c.self.view_is
+    (λ prunes to.
+    put-then _ _ _ c.self.invariant.0 c.self.invariant.1 c.safe_states.ensures.found c.safe_states.ensures.later c.safe_states.ensures.pruned prunes c.args.answer to
+    c.self.inside.table c.take_over.new.table c.self.inside.learned c.take_over.new.learned c.from.result c.take_over.ensures refl refl
+    (c.from.ensures ∙ ap bool_byte c.is_accepted.ensures.test))
 
 pub returns-clause-history : goal.returns-clause-history
 returns-clause-history c =
-    let to = subst (λ (v : CoreView). IsAnswerTo v c.args.answer) (sym c.self.view_is) c.requires.answer in
     subst
-    (λ (v : CoreView). (history : List Event) (caller : ℕ) → IsStateOf history v → IsHeld v.forgets c.args.answer.from (placed_of history) v.placed
+    (λ (v : CoreView). (prunes : Bool) (history : List Event) (caller : ℕ) → IsAnswerAs prunes v c.args.answer → IsStateAs prunes history v
+    → IsHeld prunes c.args.answer.from (placed_of history) v.placed
     → IsRightAnswer v.rules history c.args.answer.change c.args.answer.from c.args.answer.verdict c.args.answer.trail
-    → IsStateOf (history ++ Submit caller c.args.answer.change c.args.answer.from c.args.answer.verdict c.args.answer.trail ∷ []) (record {
+    → IsStateAs prunes (history ++ Submit caller c.args.answer.change c.args.answer.from c.args.answer.verdict c.args.answer.trail ∷ []) (record {
       rules = c.self.inside.rules;
       placed = c.take_over.new.table.placed.items;
       cycle = c.self.inside.state.cycle;
@@ -32,10 +52,10 @@ returns-clause-history c =
       forgets = c.self.inside.forgets;
     }))
     c.self.view_is
-    (λ history caller of held right.
-    subst (IsStateOf (history ++ Submit caller c.args.answer.change c.args.answer.from c.args.answer.verdict c.args.answer.trail ∷ []))
+    (λ prunes history caller to of held right.
+    subst (IsStateAs prunes (history ++ Submit caller c.args.answer.change c.args.answer.from c.args.answer.verdict c.args.answer.trail ∷ []))
     (sym
-    (put-then _ _ _ c.self.invariant.0 c.self.invariant.1 c.safe_states.ensures.found c.safe_states.ensures.later c.safe_states.ensures.pruned c.args.answer to c.self.inside.table
-    c.take_over.new.table c.self.inside.learned c.take_over.new.learned c.from.result c.take_over.ensures refl refl
+    (put-then _ _ _ c.self.invariant.0 c.self.invariant.1 c.safe_states.ensures.found c.safe_states.ensures.later c.safe_states.ensures.pruned prunes c.args.answer to
+    c.self.inside.table c.take_over.new.table c.self.inside.learned c.take_over.new.learned c.from.result c.take_over.ensures refl refl
     (c.from.ensures ∙ ap bool_byte c.is_accepted.ensures.test)))
-    (state-answered history _ c.self.invariant.0 of caller c.args.answer.change c.args.answer.from c.args.answer.verdict c.args.answer.trail to.early held right))
+    (state-answered prunes history _ c.self.invariant.0 of caller c.args.answer.change c.args.answer.from c.args.answer.verdict c.args.answer.trail to.early held right))

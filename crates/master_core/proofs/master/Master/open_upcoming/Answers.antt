@@ -10,7 +10,7 @@ use Rattle.master_core.proofs.master.Master.open_upcoming.Goals as goal
 
 pub open_upcoming-order-requires-clause-upcoming : goal.open_upcoming-order-requires-clause-upcoming
 open_upcoming-order-requires-clause-upcoming c =
-    core-upcoming _ _ c.known.ensures.core c.self.invariant.0 c.args.upcoming
+    core-upcoming _ _ _ c.known.ensures.core c.self.invariant.0 c.args.upcoming
     (subst (λ (v : MasterView). IsUpcoming v.rules v.history c.args.upcoming) (sym c.self.view_is) c.requires.upcoming)
 
 pub invariant_of-self : goal.invariant_of-self
@@ -35,4 +35,4 @@ pub returns-clause-plain : goal.returns-clause-plain
 returns-clause-plain c plain =
     let was = subst (λ (v : MasterView). IsPlainlyLegal v.rules v.history) (sym c.self.view_is) plain in
     rw c.put.ensures.events
-    (plain-more _ _ c.self.inside.core _ (ap (λ (v : CoreView). v.rules) c.open_upcoming-order.ensures.state) tt (c.open_upcoming-order.ensures.history _ c.self.invariant.0) was)
+    (plain-more _ _ _ c.self.inside.core _ (ap (λ (v : CoreView). v.rules) c.open_upcoming-order.ensures.state) tt (c.open_upcoming-order.ensures.history _ c.self.invariant.0) was)

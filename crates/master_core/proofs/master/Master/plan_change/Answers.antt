@@ -1,10 +1,10 @@
-use Rattle.std.proofs.Common.{◌≡◌, ◌∙◌, List, subst, IfOk}
+use Rattle.std.proofs.Common.{◌≡◌, ◌∙◌, Bool, false, List, subst, IfOk}
 use Rattle.std.proofs.lemmas.Result.{IfOk-weaker}
 use Rattle.change_protocol.specs.Applied.{applied}
 use Rattle.admission.specs.Verdict.{IsInTime, IsTakenWhereDue, plan_from}
 use Rattle.master_core.specs.declared.event.Event.{Event}
-use Rattle.master_core.specs.Answers.{IsAnswer, IsAnswerTo}
-use Rattle.master_core.specs.Cores.{IsAnswered, IsStateOf}
+use Rattle.master_core.specs.Answers.{IsAnswer, IsAnswerAs}
+use Rattle.master_core.specs.Cores.{IsAnswered, IsStateAs}
 use Rattle.master_core.specs.History.{IsRightAnswer, next_of}
 use Rattle.master_core.specs.Keeping.{MasterView}
 use Rattle.master_core.proofs.Certificates.{IsDue, kept-due}
@@ -14,12 +14,12 @@ use Rattle.master_core.proofs.master.Master.plan_change.Goals as goal
 pub returns-clause-answer : goal.returns-clause-answer
 returns-clause-answer c =
     subst (λ (v : MasterView). IfOk c.plan_change.result (IsAnswer v.rules v.history)) c.self.view_is
-    (both-ok c.plan_change.result (IsAnswerTo c.self.inside.core)
-    (λ answer. (history : List Event) → IsStateOf history c.self.inside.core
+    (both-ok c.plan_change.result (IsAnswerAs false c.self.inside.core)
+    (λ answer. (held : Bool) (history : List Event) → IsStateAs held history c.self.inside.core
     → IsRightAnswer c.self.inside.core.rules history answer.change answer.from answer.verdict answer.trail)
     (IsAnswer c.self.inside.core.rules c.self.inside.history.items)
     (λ answer to right.
-    whole-answer _ _ c.known.ensures.core c.self.invariant.0 c.self.invariant.1 answer (right c.self.inside.history.items c.self.invariant.0) to)
+    whole-answer _ _ c.known.ensures.core c.self.invariant.0 c.self.invariant.1 answer (right _ c.self.inside.history.items c.self.invariant.0) to)
     c.plan_change.ensures.answer c.plan_change.ensures.right)
 
 pub returns-clause-from : goal.returns-clause-from

@@ -9,7 +9,7 @@ pub returns : goal.returns
 returns c = record {
   mask =
       c.planned.ensures.mask
-      ∙ sym (mask-is _ _ c.known.ensures.core c.self.invariant.0)
+      ∙ sym (mask-is _ _ _ c.known.ensures.core c.self.invariant.0)
       ∙ ap (mask_at (plan_of c.self.inside.core.rules (placed_of c.self.inside.history.items))) c.self.invariant.0.next
       ∙ ap (λ (v : MasterView). mask_at (plan_of v.rules (placed_of v.history)) (next_of v.history)) c.self.view_is;
 }

@@ -8,5 +8,5 @@ pub returns : goal.returns
 returns c = record {
   upcoming =
       subst (λ (v : MasterView). IsUpcoming v.rules v.history c.upcoming.result) c.self.view_is
-      (state-upcoming _ _ c.known.ensures.core c.self.invariant.0 c.upcoming.result c.upcoming.ensures.upcoming);
+      (state-upcoming _ _ _ c.known.ensures.core c.self.invariant.0 c.upcoming.result c.upcoming.ensures.upcoming);
 }

@@ -1,6 +1,8 @@
 use Rattle.std.proofs.Common.{List, refl, subst, sym}
 use Rattle.can_frame.specs.declared.data_frame.TimedFrame.{TimedFrame}
 use Rattle.requirement_table.specs.Table.{IsWellPlaced}
+use Rattle.master_core.specs.History.{next_of, placed_of}
+use Rattle.master_core.specs.Orders.{StandsFor}
 use Rattle.poll_run.proofs.Carrying.{Carries, can-tell, ran-on}
 use Rattle.poll_run.proofs.polled.Polled.run_next.Goals as goal
 
@@ -11,10 +13,7 @@ run_next-requires-clause-going c =
 
 pub carry-requires-clause-well_placed : goal.carry-requires-clause-well_placed
 carry-requires-clause-well_placed c =
-    let can = c.requires.can in
-    let on = c.run_next.ensures.on can.0 can.3.plain_trace (c.make_ready.ensures.still.going can.0 can.3.plain_trace can.3.going) in
-    subst IsWellPlaced (sym c.placed.ensures.list)
-    (c.legal_histories.ensures.well_placed can.0.rules c.run_next.new.self.master.history on.going.plain.legal)
+    subst IsWellPlaced (sym c.placed.ensures.list) c.placed.ensures.stands.well_placed
 
 pub returns-clause-on : goal.returns-clause-on
 returns-clause-on c = λ setting streams trace is.
@@ -37,7 +36,8 @@ returns-clause-on c = λ setting streams trace is.
     run c.make_ready.new.self after cycle placed
     (subst (λ (plain : List TimedFrame). Carries run.layout run.rides.queued.streams cycle placed plain after.frames.items run.rides after.rides) c.frames.ensures.list
     (record { taken = c.carry.ensures.taken; fates = c.carry.ensures.fates; frames_are = c.carry.ensures.frames }))
-    c.make_ready.ensures.still c.run_next.ensures.on c.run_next.ensures.follows c.next-cycle.ensures.next c.placed.ensures.list
+    c.make_ready.ensures.still c.run_next.ensures.on c.run_next.ensures.follows c.next-cycle.ensures.next
+    (subst (StandsFor (next_of c.make_ready.new.self.master.history) (placed_of c.make_ready.new.self.master.history)) (sym c.placed.ensures.list) c.run_next.ensures.stands)
     setting streams trace is refl c.carry.ensures.streams c.carry.ensures.slots c.carry.ensures.capacity refl c.run_next.ensures.calls
 
 pub returns-clause-last : goal.returns-clause-last
@@ -61,5 +61,6 @@ returns-clause-last c =
     run c.make_ready.new.self after cycle placed
     (subst (λ (plain : List TimedFrame). Carries run.layout run.rides.queued.streams cycle placed plain after.frames.items run.rides after.rides) c.frames.ensures.list
     (record { taken = c.carry.ensures.taken; fates = c.carry.ensures.fates; frames_are = c.carry.ensures.frames }))
-    c.make_ready.ensures.still c.run_next.ensures.on c.run_next.ensures.follows c.next-cycle.ensures.next c.placed.ensures.list
+    c.make_ready.ensures.still c.run_next.ensures.on c.run_next.ensures.follows c.next-cycle.ensures.next
+    (subst (StandsFor (next_of c.make_ready.new.self.master.history) (placed_of c.make_ready.new.self.master.history)) (sym c.placed.ensures.list) c.run_next.ensures.stands)
     c.requires.can

@@ -15,7 +15,7 @@ returns-clause-on c = λ setting trace going.
     subst (λ frames. IsBroughtOn setting trace c.args.self.now
     (record c.args.self.now { master = c.open-order.new.self; nodes = c.run_cycle_into.new.nodes; segment = c.exchange.new.self; room = c.exchange.new.list; trace = c.keep.new.trace }) frames) (sym c.exchange.ensures.taken)
     (ran (record {
-      run = record { before = c.orders.ensures.before; under_way = c.cycles_run.ensures.under_way; ready = c.cycles_run.ensures.ready };
+      run = record { before = c.orders.ensures.before; same_offers = c.cycles_run.ensures.same_offers; under_way = c.cycles_run.ensures.under_way; ready = c.cycles_run.ensures.ready };
       fits = c.orders.ensures.fits;
       cycles = c.opened_cycles.ensures.cycles;
       sends = λ layout requests openings opening trace frames known behind.
@@ -39,7 +39,7 @@ pub returns-clause-last : goal.returns-clause-last
 returns-clause-last c =
     subst (λ frames. CanTellLast c.open-order.new.self.history frames) (sym c.exchange.ensures.taken)
     (its-frames (record {
-      run = record { before = c.orders.ensures.before; under_way = c.cycles_run.ensures.under_way; ready = c.cycles_run.ensures.ready };
+      run = record { before = c.orders.ensures.before; same_offers = c.cycles_run.ensures.same_offers; under_way = c.cycles_run.ensures.under_way; ready = c.cycles_run.ensures.ready };
       fits = c.orders.ensures.fits;
       cycles = c.opened_cycles.ensures.cycles;
       sends = λ layout requests openings opening trace frames known behind.
@@ -58,7 +58,7 @@ pub returns-clause-triggers : goal.returns-clause-triggers
 returns-clause-triggers c =
     subst (λ frames. BeginWithTriggers c.args.self.now.master.rules c.args.self.now.master.history frames) (sym c.exchange.ensures.taken)
     (begin-with-triggers (record {
-      run = record { before = c.orders.ensures.before; under_way = c.cycles_run.ensures.under_way; ready = c.cycles_run.ensures.ready };
+      run = record { before = c.orders.ensures.before; same_offers = c.cycles_run.ensures.same_offers; under_way = c.cycles_run.ensures.under_way; ready = c.cycles_run.ensures.ready };
       fits = c.orders.ensures.fits;
       cycles = c.opened_cycles.ensures.cycles;
       sends = λ layout requests openings opening trace frames known behind.
@@ -76,7 +76,7 @@ pub returns-clause-follows : goal.returns-clause-follows
 returns-clause-follows c = λ setting trace going.
     subst (λ frames. IsRunNext setting trace c.args.self.now
     (record c.args.self.now { master = c.open-order.new.self; nodes = c.run_cycle_into.new.nodes; segment = c.exchange.new.self; room = c.exchange.new.list; trace = c.keep.new.trace }) frames) (sym c.exchange.ensures.taken)
-    (run-next (record { before = c.orders.ensures.before; under_way = c.cycles_run.ensures.under_way; ready = c.cycles_run.ensures.ready })
+    (run-next (record { before = c.orders.ensures.before; same_offers = c.cycles_run.ensures.same_offers; under_way = c.cycles_run.ensures.under_way; ready = c.cycles_run.ensures.ready })
     setting trace c.args.self.now
     (record c.args.self.now { master = c.open-order.new.self; nodes = c.run_cycle_into.new.nodes; segment = c.exchange.new.self; room = c.exchange.new.list; trace = c.keep.new.trace })
     c.open-order.result c.run_cycle_into.new.frames.items c.open-order.ensures.order

@@ -44,7 +44,7 @@ returns-clause-opened c = λ system requests trace again.
       sent = c.run_cycle_in.new.segment;
     }) again
     laws
-    (record { before = c.orders.ensures.before; under_way = c.cycles_run.ensures.under_way; ready = c.cycles_run.ensures.ready })
+    (record { before = c.orders.ensures.before; same_offers = c.cycles_run.ensures.same_offers; under_way = c.cycles_run.ensures.under_way; ready = c.cycles_run.ensures.ready })
     order ordered
     (ran-by order c.run_cycle_in.new.nodes c.run_cycle_in.new.segment c.reserve_for.new.self old.nodes
     c.reserve_for.ensures.layout c.reserve_for.ensures.same
