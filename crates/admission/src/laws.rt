@@ -4,7 +4,7 @@ ghost use Rattle.std.specs.Prelude.{◌≡◌, ℕ, ◌+◌, ◌^◌, ◌<◌, �
 ghost use Rattle.profile.specs.Limits.{cycles_end, openings_end};
 ghost use Rattle.requirement_table.specs.declared.entries.Placed.{Placed};
 ghost use Rattle.bit_sets.specs.Sets.{has_bit, most_slots};
-ghost use Rattle.requirement_table.specs.Table.{IsWellPlaced};
+ghost use Rattle.requirement_table.specs.Table.{IsWellPlaced, not_over};
 ghost use Rattle.change_protocol.specs.declared.operations.Change.{Change};
 ghost use Rattle.change_protocol.specs.Applied.{applied};
 ghost use Rattle.change_protocol.specs.Operations.{HasTypes};
@@ -115,8 +115,8 @@ pub fn pruned_lists()
 {}
 
 /// What an accepted change makes is safe within the horizon, and stays so: at each later cycle that is opened, with the
-/// slots that the plan leaves pending, and where the list is pruned by that cycle or an earlier one. A pruned list has
-/// the plan of the whole one.
+/// slots that the plan leaves pending, and where the list is pruned by that cycle or an earlier one. So is each well placed
+/// list that has the same entries that are not over by the first cycle. A pruned list has the plan of the whole one.
 pub fn safe_states()
     ensures found { (horizon : ℕ) (plan : Planning) (first length : ℕ)
         → IsVerdictOnPlan horizon plan (Accepted first length) → HasRepeat plan horizon }
@@ -125,6 +125,9 @@ pub fn safe_states()
         → IsSafeWithin rules placed (from + n) (pending_at (plan_from rules placed from pending) n) }
     ensures pruned { (rules : Rules) (placed : List Placed) (c from pending : ℕ) → c ≤ from
         → IsSafeWithin rules placed from pending → IsSafeWithin rules (pruned c placed) from pending }
+    ensures whole { (rules : Rules) (placed list : List Placed) (from pending : ℕ) → IsWellPlaced placed
+        → not_over from list ≡ not_over from placed
+        → IsSafeWithin rules list from pending → IsSafeWithin rules placed from pending }
     ensures pending { (rules : Rules) (placed : List Placed) (c from pending n : ℕ) → c ≤ from → IsWellPlaced placed
         → pending_at (plan_from rules (pruned c placed) from pending) n
         ≡ pending_at (plan_from rules placed from pending) n }

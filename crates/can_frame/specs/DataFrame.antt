@@ -7,6 +7,10 @@ pub record DataFrame : Type 0 where
   pub identifier : ℕ
   pub bytes : List ℕ
 
+-- the frame of an identifier and its bytes
+abbrev pub frame_with : ℕ → List ℕ → DataFrame
+frame_with identifier bytes = record { identifier = identifier; bytes = bytes }
+
 -- the seven most significant of the 11 identifier bits are not all recessive, and there are at most eight bytes
 pub record IsFrame (frame : DataFrame) : Type 0 where
   pub identifier : frame.identifier ≤ greatest_identifier

@@ -182,7 +182,8 @@ pub(crate) fn change_list(
 /// the same instances as the old one.
 ///
 /// `nodes` is the number of nodes. `slots` is that of slots, 40 or 96, of which the contract needs only that a set of
-/// slots has room for so many. A change costs time linear in the placed entries.
+/// slots has room for so many. A change costs time linear in the placed entries. Where many are applied one after the
+/// other, a [`PlacedTable`](crate::PlacedTable) takes each in the time of its operations.
 ///
 /// # Errors
 ///

@@ -5,15 +5,11 @@ use Rattle.std.specs.Str.{bytes_eq}
 use Rattle.csv.specs.Records.{field_at}
 use Rattle.requirement_table.specs.declared.entries.Entry.{Entry}
 use Rattle.text_fields.specs.CsvRows.{number_at}
+use Rattle.text_fields.specs.Optional.{◌>>=◌}
 use Rattle.elastic.specs.declared.wish.WishOp.{WishOp}
 use Rattle.elastic.specs.declared.wish.WishOp.TheVariants as wished
 use Rattle.elastic.specs.declared.wish_rows.WishVerb.{WishVerb}
 use Rattle.elastic.specs.declared.wish_rows.WishVerb.TheVariants.{Add, Remove}
-
-infixl 10 ◌>>=◌
--- what the second gives for the value of the first, where both are there
-abbrev pub ◌>>=◌ : {A B : Type 0} → Option A → (A → Option B) → Option B
-value >>= next = option_and_then next value
 
 -- whether the first field is `start`
 abbrev pub begins : List (List ℕ) → Bool

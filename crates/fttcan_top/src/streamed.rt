@@ -36,7 +36,7 @@ pub(crate) fn report_of(
     let Written { master, trace } = run;
     match trace {
         None => Ok(Vec::new(alloc)),
-        Some(trace) => match master.into_master() {
+        Some(trace) => match master.into_master(alloc)? {
             Some(master) => plan_report::report(alloc, &master, trace.as_slice(), owners, requests),
             None => unreachable!(),
         },

@@ -115,8 +115,8 @@ pub fn orders()
 /// A cycle that is opened right after the history, with whatever slots the plan gives, and whose frames follow the
 /// trace by what is offered in it, keeps a run under way, whatever bytes an instance sends, if they are as many as its
 /// entry's length. Its frames are what the opening says, and its flagged slots have instances and fit into the window.
-/// The run of an order on the bus keeps a run under way and leaves its nodes ready. In a cycle the same is offered by a
-/// list of entries and by one that stands for it.
+/// The run of an order on the bus keeps a run under way and leaves its nodes ready. Frames that follow by what a list
+/// offers in a cycle follow by what the whole list offers for which it stands.
 pub fn cycles_run()
     ensures opened { (setting : Setting) (history : List Event) (cycle mask : ℕ) (trace frames : List TimedFrame)
         → IsSetting setting → SendsWhole setting.sends

@@ -12,7 +12,8 @@ use Rattle.bit_sets.specs.Sets.{most_slots}
 use Rattle.text_fields.specs.Hexadecimal.{hex_digits}
 use Rattle.text_fields.specs.MaskText.{mask_digits}
 use Rattle.log_reader.specs.Row.{IsLogRow, IsLogVerdict, fields_of_row, fields_of_verdict}
-use Rattle.log_reader.specs.RowFields.{accepted_of, end_of, frame_at, frame_of, frame_with, hex_at, horizon_of, look_of, malformed_of, miss_of, number_at, open_of, passed_of, plan_of, row_by, row_of, slots_at, submit_of, two_numbers, until_of, verdict_by, verdict_of}
+use Rattle.can_frame.specs.DataFrame.{frame_with}
+use Rattle.log_reader.specs.RowFields.{accepted_of, end_of, frame_at, frame_of, hex_at, horizon_of, look_of, malformed_of, miss_of, decimal_at, open_of, passed_of, plan_of, row_by, row_of, slots_at, submit_of, two_numbers, until_of, verdict_by, verdict_of}
 use Rattle.log_reader.specs.declared.row.LogRow.{LogRow}
 use Rattle.log_reader.specs.declared.row.LogRow.TheVariants as row
 use Rattle.log_reader.specs.declared.row.LogVerdict.{LogVerdict}
@@ -60,7 +61,7 @@ up_to-is most v n read = let parts = within-is 0 most v n read in (parts.0, part
 up_to-found : (most n : ℕ) → n ≤ most → within 0 most n ≡ Some n
 up_to-found most n fits = within-found 0 most n (omega arith) fits
 
-number-read : (fields : List (List ℕ)) (place most n : ℕ) → most < 2 ^ 64 → number_at fields place most ≡ Some n
+number-read : (fields : List (List ℕ)) (place most n : ℕ) → most < 2 ^ 64 → decimal_at fields place most ≡ Some n
     → (slice_get fields place ≡ Some (decimal n)) × (n ≤ most)
 number-read fields place most n wide read =
     option_and_then_some (within 0 most) (option_and_then decimal_of (slice_get fields place)) n read (λ v found fits.
@@ -69,7 +70,7 @@ number-read fields place most n wide read =
     (there ∙ ap (λ f. Some f) (decimal-read field v writes (omega arith) ∙ ap decimal same), below)))
 
 number-found : (fields : List (List ℕ)) (place most n : ℕ) → most < 2 ^ 64 → n ≤ most → slice_get fields place ≡ Some (decimal n)
-    → number_at fields place most ≡ Some n
+    → decimal_at fields place most ≡ Some n
 number-found fields place most n wide below there =
     ap (λ f. option_and_then (within 0 most) (option_and_then decimal_of f)) there
     ∙ ap (option_and_then (within 0 most)) (decimal_of-decimal n (omega arith))
@@ -147,8 +148,8 @@ module _ (fields : List (List ℕ)) (a b c : List ℕ)
   two-read say word said at_word writes ranges read =
       option_and_then_some _ (two_numbers fields) said read (λ both two made.
       let (count, rest) = if-some (length fields == 6) _ both two in
-      option_and_then_some _ (number_at fields 4 (2 ^ 64 - 1)) both rest (λ x one more.
-      option_and_then_some _ (number_at fields 5 (2 ^ 64 - 1)) both more (λ y other pair.
+      option_and_then_some _ (decimal_at fields 4 (2 ^ 64 - 1)) both rest (λ x one more.
+      option_and_then_some _ (decimal_at fields 5 (2 ^ 64 - 1)) both more (λ y other pair.
       let first = number-read fields 4 (2 ^ 64 - 1) x (omega arith) one in
       let second = number-read fields 5 (2 ^ 64 - 1) y (omega arith) other in
       let is = same-places fields (a ∷ b ∷ c ∷ word ∷ decimal x ∷ decimal y ∷ []) (size-is 6 count) (at_a, (at_b, (at_c, (at_word, (first.0, (second.0, tt)))))) in
@@ -160,9 +161,9 @@ module _ (fields : List (List ℕ)) (a b c : List ℕ)
   miss-read : (said : LogVerdict) → slice_get fields 3 ≡ Some (codes "miss") → miss_of fields ≡ Some said → IsSaid fields a b c said
   miss-read said word read =
       let (count, rest) = if-some (length fields == 7) _ said read in
-      option_and_then_some _ (number_at fields 4 255) said rest (λ slot one more.
-      option_and_then_some _ (number_at fields 5 (2 ^ 64 - 1)) said more (λ release two others.
-      option_and_then_some _ (number_at fields 6 (2 ^ 64 - 1)) said others (λ cycle three made.
+      option_and_then_some _ (decimal_at fields 4 255) said rest (λ slot one more.
+      option_and_then_some _ (decimal_at fields 5 (2 ^ 64 - 1)) said more (λ release two others.
+      option_and_then_some _ (decimal_at fields 6 (2 ^ 64 - 1)) said others (λ cycle three made.
       let x = number-read fields 4 255 slot (omega arith) one in
       let y = number-read fields 5 (2 ^ 64 - 1) release (omega arith) two in
       let z = number-read fields 6 (2 ^ 64 - 1) cycle (omega arith) three in
@@ -173,12 +174,12 @@ module _ (fields : List (List ℕ)) (a b c : List ℕ)
 
   until-read : (P : Type 0) (why : ℕ) (until : Option ℕ) → until_of fields why ≡ Some until
       → (length fields ≡ 6 → None ≡ until → P)
-      → ((n : ℕ) → length fields ≡ 7 → why ≡ 10 → Some n ≡ until → number_at fields 6 (2 ^ 64 - 1) ≡ Some n → P) → P
+      → ((n : ℕ) → length fields ≡ 7 → why ≡ 10 → Some n ≡ until → decimal_at fields 6 (2 ^ 64 - 1) ≡ Some n → P) → P
   until-read P why until read none some =
-      by (length fields == 6) (length fields == 7) (why == 10) (number_at fields 6 (2 ^ 64 - 1)) refl refl refl refl read
+      by (length fields == 6) (length fields == 7) (why == 10) (decimal_at fields 6 (2 ^ 64 - 1)) refl refl refl refl read
     where
       by : (six seven ten : Bool) (o : Option ℕ) → (length fields == 6) ≡ six → (length fields == 7) ≡ seven → (why == 10) ≡ ten
-          → number_at fields 6 (2 ^ 64 - 1) ≡ o
+          → decimal_at fields 6 (2 ^ 64 - 1) ≡ o
           → cond six (Some None) (cond (seven && ten) (option_map (λ n. Some n) o) None) ≡ Some until → P
       by true seven ten o s e t r is = none (eqb-true (length fields) 6 s) (same_Some None until is)
       by false true true (Some n) s e t r is = some n (eqb-true (length fields) 7 e) (eqb-true why 10 t) (same_Some (Some n) until is) r
@@ -188,8 +189,8 @@ module _ (fields : List (List ℕ)) (a b c : List ℕ)
 
   malformed-read : (said : LogVerdict) → slice_get fields 3 ≡ Some (codes "malformed") → malformed_of fields ≡ Some said → IsSaid fields a b c said
   malformed-read said word read =
-      option_and_then_some _ (number_at fields 4 255) said read (λ op one more.
-      option_and_then_some _ (number_at fields 5 255) said more (λ why two others.
+      option_and_then_some _ (decimal_at fields 4 255) said read (λ op one more.
+      option_and_then_some _ (decimal_at fields 5 255) said more (λ why two others.
       option_and_then_some _ (until_of fields why) said others (λ until three made.
       let x = number-read fields 4 255 op (omega arith) one in
       let y = number-read fields 5 255 why (omega arith) two in
@@ -230,8 +231,8 @@ pub record HasForm (fields : List (List ℕ)) (read : LogRow) : Type 0 where
 module _ (fields : List (List ℕ)) where
   submit-read : (read : LogRow) → slice_get fields 0 ≡ Some (codes "submit") → submit_of fields ≡ Some read → HasForm fields read
   submit-read read word found =
-      option_and_then_some _ (number_at fields 1 255) read found (λ caller one more.
-      option_and_then_some _ (number_at fields 2 (2 ^ 64 - 1)) read more (λ from two others.
+      option_and_then_some _ (decimal_at fields 1 255) read found (λ caller one more.
+      option_and_then_some _ (decimal_at fields 2 (2 ^ 64 - 1)) read more (λ from two others.
       option_and_then_some _ (verdict_of fields) read others (λ said three made.
       let x = number-read fields 1 255 caller (omega arith) one in
       let y = number-read fields 2 (2 ^ 64 - 1) from (omega arith) two in
@@ -244,7 +245,7 @@ module _ (fields : List (List ℕ)) where
   plan-read : (read : LogRow) → slice_get fields 0 ≡ Some (codes "plan") → plan_of fields ≡ Some read → HasForm fields read
   plan-read read word found =
       let (count, rest) = if-some (length fields == 3) _ read found in
-      option_and_then_some _ (number_at fields 1 (2 ^ 64 - 1)) read rest (λ cycle one more.
+      option_and_then_some _ (decimal_at fields 1 (2 ^ 64 - 1)) read rest (λ cycle one more.
       option_and_then_some _ (slots_at fields 2) read more (λ mask two made.
       let x = number-read fields 1 (2 ^ 64 - 1) cycle (omega arith) one in
       let y = slots-read fields 2 mask two in
@@ -256,8 +257,8 @@ module _ (fields : List (List ℕ)) where
   look-read : (read : LogRow) → slice_get fields 0 ≡ Some (codes "look") → look_of fields ≡ Some read → HasForm fields read
   look-read read word found =
       let (count, rest) = if-some (length fields == 3) _ read found in
-      option_and_then_some _ (number_at fields 1 255) read rest (λ caller one more.
-      option_and_then_some _ (number_at fields 2 (2 ^ 64 - 1)) read more (λ next two made.
+      option_and_then_some _ (decimal_at fields 1 255) read rest (λ caller one more.
+      option_and_then_some _ (decimal_at fields 2 (2 ^ 64 - 1)) read more (λ next two made.
       let x = number-read fields 1 255 caller (omega arith) one in
       let y = number-read fields 2 (2 ^ 64 - 1) next (omega arith) two in
       subst (HasForm fields) (same_Some (row.Look caller next) read made) (record {
@@ -268,9 +269,9 @@ module _ (fields : List (List ℕ)) where
   open-read : (read : LogRow) → slice_get fields 0 ≡ Some (codes "open") → open_of fields ≡ Some read → HasForm fields read
   open-read read word found =
       let (count, rest) = if-some (length fields == 4) _ read found in
-      option_and_then_some _ (number_at fields 1 (2 ^ 64 - 1)) read rest (λ cycle one more.
+      option_and_then_some _ (decimal_at fields 1 (2 ^ 64 - 1)) read rest (λ cycle one more.
       option_and_then_some _ (slots_at fields 2) read more (λ mask two others.
-      option_and_then_some _ (number_at fields 3 (2 ^ 32 - 1)) read others (λ width three made.
+      option_and_then_some _ (decimal_at fields 3 (2 ^ 32 - 1)) read others (λ width three made.
       let x = number-read fields 1 (2 ^ 64 - 1) cycle (omega arith) one in
       let y = slots-read fields 2 mask two in
       let z = number-read fields 3 (2 ^ 32 - 1) width (omega arith) three in
@@ -282,8 +283,8 @@ module _ (fields : List (List ℕ)) where
   frame_row-read : (read : LogRow) → slice_get fields 0 ≡ Some (codes "frame") → frame_of fields ≡ Some read → HasForm fields read
   frame_row-read read word found =
       let (count, rest) = if-some (length fields == 5) _ read found in
-      option_and_then_some _ (number_at fields 1 (2 ^ 64 - 1)) read rest (λ start one more.
-      option_and_then_some _ (number_at fields 2 (2 ^ 32 - 1)) read more (λ len two others.
+      option_and_then_some _ (decimal_at fields 1 (2 ^ 64 - 1)) read rest (λ start one more.
+      option_and_then_some _ (decimal_at fields 2 (2 ^ 32 - 1)) read more (λ len two others.
       option_and_then_some _ (frame_at fields) read others (λ frame three made.
       let x = number-read fields 1 (2 ^ 64 - 1) start (omega arith) one in
       let y = number-read fields 2 (2 ^ 32 - 1) len (omega arith) two in
@@ -296,7 +297,7 @@ module _ (fields : List (List ℕ)) where
   end-read : (read : LogRow) → slice_get fields 0 ≡ Some (codes "end") → end_of fields ≡ Some read → HasForm fields read
   end-read read word found =
       let (count, rest) = if-some (length fields == 2) _ read found in
-      option_and_then_some _ (number_at fields 1 (2 ^ 64 - 1)) read rest (λ next one made.
+      option_and_then_some _ (decimal_at fields 1 (2 ^ 64 - 1)) read rest (λ next one made.
       let x = number-read fields 1 (2 ^ 64 - 1) next (omega arith) one in
       subst (HasForm fields) (same_Some (row.End next) read made) (record {
         legal = omega (arith, x.1);
@@ -323,62 +324,62 @@ module _ (fields : List (List ℕ)) where
 
 module _ (fields : List (List ℕ)) where
   accepted-said : (first len : ℕ) → slice_get fields 3 ≡ Some (codes "accepted") → (length fields == 6) ≡ true
-      → number_at fields 4 (2 ^ 64 - 1) ≡ Some first → number_at fields 5 (2 ^ 64 - 1) ≡ Some len → verdict_of fields ≡ Some (verdict.Accepted first len)
+      → decimal_at fields 4 (2 ^ 64 - 1) ≡ Some first → decimal_at fields 5 (2 ^ 64 - 1) ≡ Some len → verdict_of fields ≡ Some (verdict.Accepted first len)
   unfolding verdict_of
   accepted-said first len word count one two = rw (word, count, one, two)
 
   passed-said : (start next : ℕ) → slice_get fields 3 ≡ Some (codes "passed") → (length fields == 6) ≡ true
-      → number_at fields 4 (2 ^ 64 - 1) ≡ Some start → number_at fields 5 (2 ^ 64 - 1) ≡ Some next → verdict_of fields ≡ Some (verdict.Passed start next)
+      → decimal_at fields 4 (2 ^ 64 - 1) ≡ Some start → decimal_at fields 5 (2 ^ 64 - 1) ≡ Some next → verdict_of fields ≡ Some (verdict.Passed start next)
   unfolding verdict_of
   passed-said start next word count one two = rw (word, count, one, two)
 
   horizon-said : (from walked : ℕ) → slice_get fields 3 ≡ Some (codes "horizon") → (length fields == 6) ≡ true
-      → number_at fields 4 (2 ^ 64 - 1) ≡ Some from → number_at fields 5 (2 ^ 64 - 1) ≡ Some walked → verdict_of fields ≡ Some (verdict.Horizon from walked)
+      → decimal_at fields 4 (2 ^ 64 - 1) ≡ Some from → decimal_at fields 5 (2 ^ 64 - 1) ≡ Some walked → verdict_of fields ≡ Some (verdict.Horizon from walked)
   unfolding verdict_of
   horizon-said from walked word count one two = rw (word, count, one, two)
 
   miss-said : (slot release cycle : ℕ) → slice_get fields 3 ≡ Some (codes "miss") → (length fields == 7) ≡ true
-      → number_at fields 4 255 ≡ Some slot → number_at fields 5 (2 ^ 64 - 1) ≡ Some release → number_at fields 6 (2 ^ 64 - 1) ≡ Some cycle
+      → decimal_at fields 4 255 ≡ Some slot → decimal_at fields 5 (2 ^ 64 - 1) ≡ Some release → decimal_at fields 6 (2 ^ 64 - 1) ≡ Some cycle
       → verdict_of fields ≡ Some (verdict.Miss slot release cycle)
   unfolding verdict_of
   miss-said slot release cycle word count one two three = rw (word, count, one, two, three)
 
   malformed-said : (op why : ℕ) (until : Option ℕ) → slice_get fields 3 ≡ Some (codes "malformed")
-      → number_at fields 4 255 ≡ Some op → number_at fields 5 255 ≡ Some why → until_of fields why ≡ Some until
+      → decimal_at fields 4 255 ≡ Some op → decimal_at fields 5 255 ≡ Some why → until_of fields why ≡ Some until
       → verdict_of fields ≡ Some (verdict.Malformed op why until)
   unfolding verdict_of
   malformed-said op why until word one two three = rw (word, one, two, three)
 
   submit-said : (caller from : ℕ) (said : LogVerdict) → slice_get fields 0 ≡ Some (codes "submit")
-      → number_at fields 1 255 ≡ Some caller → number_at fields 2 (2 ^ 64 - 1) ≡ Some from → verdict_of fields ≡ Some said
+      → decimal_at fields 1 255 ≡ Some caller → decimal_at fields 2 (2 ^ 64 - 1) ≡ Some from → verdict_of fields ≡ Some said
       → row_of fields ≡ Some (row.Submit caller from said)
   unfolding row_of
   submit-said caller from said word one two three = rw (word, one, two, three)
 
   plan-said : (cycle mask : ℕ) → slice_get fields 0 ≡ Some (codes "plan") → (length fields == 3) ≡ true
-      → number_at fields 1 (2 ^ 64 - 1) ≡ Some cycle → slots_at fields 2 ≡ Some mask → row_of fields ≡ Some (row.Plan cycle mask)
+      → decimal_at fields 1 (2 ^ 64 - 1) ≡ Some cycle → slots_at fields 2 ≡ Some mask → row_of fields ≡ Some (row.Plan cycle mask)
   unfolding row_of
   plan-said cycle mask word count one two = rw (word, count, one, two)
 
   look-said : (caller next : ℕ) → slice_get fields 0 ≡ Some (codes "look") → (length fields == 3) ≡ true
-      → number_at fields 1 255 ≡ Some caller → number_at fields 2 (2 ^ 64 - 1) ≡ Some next → row_of fields ≡ Some (row.Look caller next)
+      → decimal_at fields 1 255 ≡ Some caller → decimal_at fields 2 (2 ^ 64 - 1) ≡ Some next → row_of fields ≡ Some (row.Look caller next)
   unfolding row_of
   look-said caller next word count one two = rw (word, count, one, two)
 
   open-said : (cycle mask l : ℕ) → slice_get fields 0 ≡ Some (codes "open") → (length fields == 4) ≡ true
-      → number_at fields 1 (2 ^ 64 - 1) ≡ Some cycle → slots_at fields 2 ≡ Some mask
-      → number_at fields 3 (2 ^ 32 - 1) ≡ Some l → row_of fields ≡ Some (row.Open cycle mask l)
+      → decimal_at fields 1 (2 ^ 64 - 1) ≡ Some cycle → slots_at fields 2 ≡ Some mask
+      → decimal_at fields 3 (2 ^ 32 - 1) ≡ Some l → row_of fields ≡ Some (row.Open cycle mask l)
   unfolding row_of
   open-said cycle mask l word count one two three = rw (word, count, one, two, three)
 
   frame-said : (timed : TimedFrame) → slice_get fields 0 ≡ Some (codes "frame") → (length fields == 5) ≡ true
-      → number_at fields 1 (2 ^ 64 - 1) ≡ Some timed.start → number_at fields 2 (2 ^ 32 - 1) ≡ Some timed.len → frame_at fields ≡ Some timed.frame
+      → decimal_at fields 1 (2 ^ 64 - 1) ≡ Some timed.start → decimal_at fields 2 (2 ^ 32 - 1) ≡ Some timed.len → frame_at fields ≡ Some timed.frame
       → row_of fields ≡ Some (row.Frame timed)
   unfolding row_of
   frame-said timed word count one two three = rw (word, count, one, two, three)
 
   end-said : (next : ℕ) → slice_get fields 0 ≡ Some (codes "end") → (length fields == 2) ≡ true
-      → number_at fields 1 (2 ^ 64 - 1) ≡ Some next → row_of fields ≡ Some (row.End next)
+      → decimal_at fields 1 (2 ^ 64 - 1) ≡ Some next → row_of fields ≡ Some (row.End next)
   unfolding row_of
   end-said next word count one = rw (word, count, one)
 
@@ -415,11 +416,11 @@ verdict-found a b c (verdict.Malformed op why (Some until)) legal =
     let ten : why ≡ 10 = legal.2.1 in
     let is : (why == 10) ≡ true = rw ten refl in
     let fields = a ∷ b ∷ c ∷ fields_of_verdict (verdict.Malformed op why (Some until)) in
-    let number : number_at fields 6 (2 ^ 64 - 1) ≡ Some until = number-found fields 6 (2 ^ 64 - 1) until (omega arith) (omega (arith, legal.2.0)) refl in
+    let number : decimal_at fields 6 (2 ^ 64 - 1) ≡ Some until = number-found fields 6 (2 ^ 64 - 1) until (omega arith) (omega (arith, legal.2.0)) refl in
     malformed-said fields op why (Some until) refl
     (number-found fields 4 255 op (omega arith) (omega (arith, legal.0)) refl)
     (number-found fields 5 255 why (omega arith) (omega (arith, legal.1)) refl)
-    (ap (λ ten. cond ten (option_map (λ n. Some n) (number_at fields 6 (2 ^ 64 - 1))) None) is ∙ ap (option_map (λ n. Some n)) number)
+    (ap (λ ten. cond ten (option_map (λ n. Some n) (decimal_at fields 6 (2 ^ 64 - 1))) None) is ∙ ap (option_map (λ n. Some n)) number)
 
 -- the reader finds the row that the fields are written of
 pub row-found : (read : LogRow) → IsLogRow read → row_of (fields_of_row read) ≡ Some read

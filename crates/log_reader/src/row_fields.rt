@@ -7,7 +7,7 @@ ghost use Rattle.std.specs.Prelude.{◌≡◌, ◌≤◌, IfSome, option_and_the
 ghost use Rattle.profile.specs.Limits.{greatest_identifier};
 ghost use Rattle.csv.specs.Records.{fields_of};
 ghost use Rattle.text_fields.specs.Decimal.{within};
-ghost use Rattle.log_reader.specs.RowFields.{frame_at, hex_at, number_at, slots_at};
+ghost use Rattle.log_reader.specs.RowFields.{frame_at, hex_at, decimal_at, slots_at};
 
 use can_frame::Frame;
 use csv::ByteRecord;
@@ -20,7 +20,7 @@ const IDENTIFIER_DIGITS: usize = 3;
 
 /// The number in the field at a place, where it is not above `most`.
 pub fn number(row: &ByteRecord, place: usize, most: u64) -> Option<u64>
-    ensures value { result ≡ number_at (fields_of row.now) place most }
+    ensures value { result ≡ decimal_at (fields_of row.now) place most }
     ensures most { IfSome result (λ number. number ≤ most) }
 {
     let field = field_in(row, place)?;

@@ -3,7 +3,7 @@
 ghost use Rattle.std.specs.Prelude.{◌≡◌, ◌<◌};
 ghost use Rattle.csv.specs.Records.{fields_of};
 ghost use Rattle.log_reader.specs.RowFields.{accepted_of, end_of, frame_of, horizon_of, look_of};
-ghost use Rattle.log_reader.specs.RowFields.{malformed_of, miss_of, number_at, open_of, passed_of};
+ghost use Rattle.log_reader.specs.RowFields.{malformed_of, miss_of, decimal_at, open_of, passed_of};
 ghost use Rattle.log_reader.specs.RowFields.{plan_of, row_of, submit_of, two_numbers, until_of, verdict_of};
 
 use crate::row::{LogRow, LogVerdict};

@@ -5,7 +5,7 @@ use mir.Val.{bool_byte}
 use Rattle.profile.specs.Limits.{openings_end}
 use Rattle.requirement_table.specs.declared.entries.Placed.{Placed}
 use Rattle.bit_sets.specs.Sets.{has_bit, most_slots}
-use Rattle.requirement_table.specs.Table.{not_over}
+use Rattle.requirement_table.specs.Table.{IsWellPlaced, not_over}
 use Rattle.bit_sets.proofs.Shared.{has_bit-none, set_of-below, set_of-has_bit, set_of-same}
 use Rattle.change_protocol.specs.Applied.{applied}
 use Rattle.change_protocol.specs.Pruned.{pruned}
@@ -23,13 +23,14 @@ use Rattle.master_core.specs.declared.saved.Saved.{Saved}
 use Rattle.master_core.specs.declared.table.Table.{Table}
 use Rattle.master_core.specs.declared.upcoming.Upcoming.{Upcoming}
 use Rattle.master_core.specs.Answers.{AreKept, AreMadeAs, AreTablesOf, IsAnswerAs, IsPlannedFrom, IsTakenOver, entries_of}
-use Rattle.master_core.specs.Cores.{CoreView, IsCore, IsCoreUpcoming, IsPruned, IsRanked, answered_as, kept_by, core_of, most_kept, new_core, onward, opened, saved_of}
+use Rattle.master_core.specs.Cores.{CoreView, IsCore, IsCoreUpcoming, IsPruned, IsPrunedBefore, IsRanked, answered_as, kept_by, core_of, most_kept, new_core, onward, opened, saved_of, with_all}
 use Rattle.master_core.proofs.KnownSlots.{HasNode, HasSlot, both-none, nodes-applied, slots-applied}
 use Rattle.master_core.proofs.Legal.{nothing-missed}
-use Rattle.master_core.proofs.Onward.{FoundLaw, LaterLaw, PrunedLaw, all-pruned, safe-accepted, well_placed-made}
+use Rattle.master_core.proofs.Onward.{FoundLaw, LaterLaw, PrunedLaw, WholeLaw, all-pruned, safe-accepted, well_placed-made}
 use Rattle.master_core.proofs.Repeating.{empty-recurs}
 use Rattle.master_core.proofs.NextPlan.{ranked-valid}
 use Rattle.master_core.proofs.Settling.{refused-is, taken-is}
+use Rattle.master_core.proofs.States.{left-of}
 
 -- A new core
 
@@ -352,4 +353,17 @@ core-tested saved safe known slots nodes few = record {
   nodes = nodes;
   to_learn = learned-or saved.placed saved.learns;
   few = few;
+}
+
+-- A core with all placed entries in place of those that it keeps
+
+pub core-all : WholeLaw → (core : CoreView) → IsCore core → (whole : List Placed) → IsPrunedBefore core.cycle whole core.placed → IsWellPlaced whole
+    → All (HasSlot core.rules.slots) whole → All (HasNode core.rules.nodes) whole → IsCore (with_all core whole)
+core-all law core is whole held well slots nodes = record {
+  safe = law core.rules whole core.placed core.cycle core.pending well (left-of true core.cycle whole core.placed held) is.safe;
+  known = is.known;
+  slots = slots;
+  nodes = nodes;
+  to_learn = learned-or whole (is_some core.learned);
+  few = λ on. absurd (cc);
 }

@@ -1,17 +1,16 @@
 -- What each call keeps of a master that need not keep its history.
-use Rattle.std.proofs.Common.{◌≡◌, ◌∙◌, ℕ, Bool, true, false, not, List, refl, ap, sym, subst, arith}
+use Rattle.std.proofs.Common.{◌≡◌, ℕ, Bool, List, subst, arith}
 use Rattle.requirement_table.specs.declared.entries.Placed.{Placed}
 use Rattle.change_protocol.specs.declared.operations.Change.{Change}
 use Rattle.planner_policies.specs.Plan.{pending_at}
 use Rattle.admission.specs.declared.verdict.Verdict.{Verdict}
 use Rattle.admission.specs.Verdict.{IsVerdict}
 use Rattle.master_core.specs.declared.event.Event.{Event}
-use Rattle.master_core.specs.Cores.{CoreView, IsCore, IsPruned, IsStateAs}
+use Rattle.master_core.specs.Cores.{CoreView, IsCore, IsStateAs}
 use Rattle.master_core.specs.History.{IsRightAnswer, next_of, placed_of, plan_of}
 use Rattle.master_core.proofs.Certificates.{IsDue}
 use Rattle.master_core.proofs.CorePlans.{DueLaw}
 use Rattle.master_core.proofs.Legal.{sound-of_legal, valid-of_legal}
-use Rattle.master_core.proofs.States.{state-pruned}
 
 -- a change that is in time is taken where that is due
 pub lean-due : DueLaw → (prunes : Bool) (history : List Event) (core : CoreView) → IsCore core → IsStateAs prunes history core
@@ -23,18 +22,3 @@ lean-due taken prunes history core is of change from verdict trail here right ah
     taken core.rules whole (pending_at (plan_of core.rules whole) next) next next change verdict is.safe.in_range
     (sound-of_legal core.rules history of.legal).well_placed right.types (valid-of_legal core.rules history of.legal) (omega arith) ahead
     (subst (λ (n : ℕ). IsVerdict core.rules whole (pending_at (plan_of core.rules whole) n) n next change verdict) here right.answer)
-
--- what is kept of the core of a master that kept all
-pub lean-of : (keeps : Bool) (history : List Event) (core new : CoreView) → IsStateAs false history core → (keeps ≡ true → new ≡ core)
-    → (keeps ≡ false → IsPruned core new) → IsStateAs (not keeps) history new
-lean-of true history core new of whole by = subst (IsStateAs false history) (sym (whole refl)) of
-lean-of false history core new of whole by = state-pruned history core new of (by refl)
-
-pub lean-forgets : (keeps : Bool) (core new : CoreView) → (keeps ≡ true → new ≡ core) → (keeps ≡ false → IsPruned core new) → core.forgets ≡ false
-    → new.forgets ≡ false
-lean-forgets true core new whole by all = ap (λ (c : CoreView). c.forgets) (whole refl) ∙ all
-lean-forgets false core new whole by all = ap (λ (c : CoreView). c.forgets) (by refl).is ∙ all
-
-pub lean-rules : (keeps : Bool) (core new : CoreView) → (keeps ≡ true → new ≡ core) → (keeps ≡ false → IsPruned core new) → new.rules ≡ core.rules
-lean-rules true core new whole by = ap (λ (c : CoreView). c.rules) (whole refl)
-lean-rules false core new whole by = ap (λ (c : CoreView). c.rules) (by refl).is

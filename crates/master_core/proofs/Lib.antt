@@ -5,6 +5,7 @@ mod CorePlans
 mod CoreSteps
 mod Earlier
 mod Events
+mod Growing
 mod Histories
 mod Journals
 mod Keeping

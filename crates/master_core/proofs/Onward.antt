@@ -127,6 +127,10 @@ abbrev pub PrunedLaw : Type 0
 PrunedLaw = (rules : Rules) (placed : List Placed) (c from pending : ℕ) → c ≤ from → IsSafeWithin rules placed from pending
     → IsSafeWithin rules (pruned c placed) from pending
 
+abbrev pub WholeLaw : Type 0
+WholeLaw = (rules : Rules) (placed list : List Placed) (from pending : ℕ) → IsWellPlaced placed → not_over from list ≡ not_over from placed
+    → IsSafeWithin rules list from pending → IsSafeWithin rules placed from pending
+
 -- the new list, where it is planned from a cycle whose plan leads to the state
 module _ (found : FoundLaw) (later : LaterLaw) (rules : Rules) (old new : List Placed) (start from cycle pending set : ℕ) (changed : IsChangedAt start old new)
     (ranges : IsRules rules) (near : cycle ≤ openings_end) (well : IsWellPlaced new) (held : IsValid old from pending) (early : from ≤ cycle) (ahead : cycle ≤ start)

@@ -1,5 +1,5 @@
 -- Cores as the states after histories.
-use Rattle.std.proofs.Common.{◌≡◌, ℕ, ◌+◌, ◌-◌, ◌≤◌, Bool, true, false, cond, if◌then◌else◌, List, [], ◌∷◌, ◌++◌, Option, Some, None, All, option_map, refl, sym, ap, ◌∙◌, subst, zero-add, add-zero, arith}
+use Rattle.std.proofs.Common.{◌≡◌, ℕ, ◌+◌, ◌-◌, ◌≤◌, Bool, true, false, cond, if◌then◌else◌, List, [], ◌∷◌, ◌++◌, Option, Some, None, All, is_some, option_map, refl, sym, ap, ◌∙◌, subst, zero-add, add-zero, arith}
 use Rattle.requirement_table.specs.declared.entries.Order.{Order}
 use Rattle.requirement_table.specs.declared.entries.Placed.{Placed}
 use Rattle.requirement_table.specs.Instance.{Instance, worst_of}
@@ -19,7 +19,7 @@ use Rattle.admission.specs.declared.verdict.Verdict.{Verdict}
 use Rattle.admission.specs.Verdict.{IsVerdict, is_accepted, plan_from, trail_of}
 use Rattle.master_core.specs.declared.event.Event.{Event}
 use Rattle.master_core.specs.declared.event.Event.TheVariants.{Submit, Look, Open}
-use Rattle.master_core.specs.Cores.{CoreView, IsCore, IsCoreOrder, IsCoreUpcoming, IsHeld, IsPruned, IsStateAs, answered_as, kept_by, new_core, onward, opened}
+use Rattle.master_core.specs.Cores.{CoreView, IsCore, IsCoreOrder, IsCoreUpcoming, IsHeld, IsPruned, IsStateAs, answered_as, kept_by, new_core, onward, opened, with_all}
 use Rattle.master_core.specs.History.{IsRightAnswer, IsSince, accepted_of, is_changed, learned_of, next_of, placed_of, plan_of}
 use Rattle.master_core.specs.declared.upcoming.Upcoming.{Upcoming}
 use Rattle.master_core.specs.Orders.{IsOrder, IsOrderWith, IsUpcoming, StandsFor, learned_as}
@@ -31,7 +31,7 @@ use Rattle.master_core.proofs.Onward.{later-pending, later_plan, left-instances,
 use Rattle.master_core.proofs.Settling.{right-by, since-now}
 
 -- what is kept of the placed entries has the same entries that are not over
-left-of : (prunes : Bool) (cycle : ℕ) (whole list : List Placed) → IsHeld prunes cycle whole list → not_over cycle list ≡ not_over cycle whole
+pub left-of : (prunes : Bool) (cycle : ℕ) (whole list : List Placed) → IsHeld prunes cycle whole list → not_over cycle list ≡ not_over cycle whole
 left-of true cycle whole list held = ap (not_over cycle) held.is ∙ not_over-pruned held.by cycle whole held.early
 left-of false cycle whole list held = ap (not_over cycle) held
 
@@ -110,6 +110,23 @@ state-pruned history core new of by =
       to_learn = ap (option_map (pruned by.by)) of.to_learn ∙ option-if (pruned by.by) core.placed (is_changed history);
       counted = of.counted;
     })
+
+-- a core with all placed entries in place of those that it kept
+
+some-if : (list : List Placed) (b : Bool) → is_some (if b then Some list else None) ≡ b
+some-if list true = refl
+some-if list false = refl
+
+pub state-all : (history : List Event) (core : CoreView) → IsStateAs true history core → IsStateAs false history (with_all core (placed_of history))
+state-all history core of = record {
+  legal = of.legal;
+  held = refl;
+  next = of.next;
+  waiting = of.waiting;
+  to_learn =
+      ap (λ (b : Bool). if b then Some (placed_of history) else None) (ap is_some of.to_learn ∙ some-if core.placed (is_changed history));
+  counted = of.counted;
+}
 
 module _ (prunes : Bool) (history : List Event) (core : CoreView) (is : IsCore core) (of : IsStateAs prunes history core) where
   abbrev whole : List Placed

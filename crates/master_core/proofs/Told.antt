@@ -12,7 +12,7 @@ use Rattle.admission.specs.declared.verdict.Verdict.TheVariants.{Malformed, Pass
 use Rattle.admission.specs.Verdict.{IsVerdictOnPlan, plan_from}
 use Rattle.master_core.specs.declared.event.Event.{Event}
 use Rattle.master_core.specs.declared.event.Event.TheVariants.{Submit, Look, Open}
-use Rattle.master_core.specs.Certificates.{IsTold, onward_of, told_after, told_by, told_of}
+use Rattle.master_core.specs.Certificates.{IsRepeatTold, onward_of, told_after, told_by, told_of}
 use Rattle.master_core.specs.History.{IsLegal, IsRight, IsRightAnswer, is_open, next_of, placed_after, placed_of, plan_of}
 use Rattle.master_core.proofs.Earlier.{same-of_legal}
 use Rattle.master_core.proofs.Histories.{kept-along, next_of-push, placed_of-push}
@@ -23,8 +23,8 @@ onward_at rules placed next = plan_from rules placed next (pending_at (plan_of r
 
 -- what was told stays, where the event changes no entry and opens no cycle
 stays-told : (rules : Rules) (before : List Event) (event : Event) (next : ℕ) (told : Option (ℕ × ℕ))
-    → placed_after (placed_of before) event ≡ placed_of before → is_open event ≡ false → IsTold rules before next told
-    → IsTold rules (before ++ event ∷ []) next told
+    → placed_after (placed_of before) event ≡ placed_of before → is_open event ≡ false → IsRepeatTold rules before next told
+    → IsRepeatTold rules (before ++ event ∷ []) next told
 stays-told rules before event next told same closed was at =
     let more = next_of-push before event in
     let none : cond {A = ℕ} (is_open event) 1 0 ≡ 0 = ap (λ (b : Bool). cond {A = ℕ} b 1 0) closed in
@@ -55,13 +55,13 @@ module _ (rules : Rules) (before : List Event) (caller : ℕ) (change : Change) 
       list right.answer.1))
 
   told-if : (next : ℕ) (same : Bool) → (same ≡ true → from ≡ next)
-      → IsTold rules after next (if same then Some (first, length) else None)
+      → IsRepeatTold rules after next (if same then Some (first, length) else None)
   told-if next true is at = answered (at ∙ sym (is refl))
   told-if next false is at = tt
 
 told-answer : (rules : Rules) (before : List Event) (caller : ℕ) (change : Change) (from : ℕ) (verdict : Verdict) (trail : List ℕ) (next : ℕ) (told : Option (ℕ × ℕ))
-    → IsLegal rules before → IsRightAnswer rules before change from verdict trail → IsTold rules before next told
-    → IsTold rules (before ++ Submit caller change from verdict trail ∷ []) next (told_by next told from verdict)
+    → IsLegal rules before → IsRightAnswer rules before change from verdict trail → IsRepeatTold rules before next told
+    → IsRepeatTold rules (before ++ Submit caller change from verdict trail ∷ []) next (told_by next told from verdict)
 told-answer rules before caller change from (Malformed op why) trail next told legal right was =
     stays-told rules before (Submit caller change from (Malformed op why) trail) next told refl refl was
 told-answer rules before caller change from (Passed start opened) trail next told legal right was =
@@ -74,18 +74,18 @@ told-answer rules before caller change from (Accepted first length) trail next t
     told-if rules before caller change from first length trail legal right next (nat_eq from next) (λ same. eqb-true from next same)
 
 told-event : (rules : Rules) (before : List Event) (event : Event) (next : ℕ) (told : Option (ℕ × ℕ))
-    → IsLegal rules before → IsRight rules before event → IsTold rules before next told
-    → IsTold rules (before ++ event ∷ []) next (told_after next told event)
+    → IsLegal rules before → IsRight rules before event → IsRepeatTold rules before next told
+    → IsRepeatTold rules (before ++ event ∷ []) next (told_after next told event)
 told-event rules before (Submit caller change from verdict trail) next told legal right was =
     told-answer rules before caller change from verdict trail next told legal right was
 told-event rules before (Look caller opened) next told legal right was = stays-told rules before (Look caller opened) next told refl refl was
 told-event rules before (Open cycle mask) next told legal right was = λ at. tt
 
 -- what is told of a legal history is so
-pub told-of_legal : (rules : Rules) (history : List Event) (next : ℕ) → IsLegal rules history → IsTold rules history next (told_of next history)
+pub told-of_legal : (rules : Rules) (history : List Event) (next : ℕ) → IsLegal rules history → IsRepeatTold rules history next (told_of next history)
 told-of_legal rules history next legal =
-    kept-along (IsRight rules) (λ (h : List Event). IsTold rules h next (told_of next h))
+    kept-along (IsRight rules) (λ (h : List Event). IsRepeatTold rules h next (told_of next h))
     (λ before event was kept right.
-    subst (IsTold rules (before ++ event ∷ []) next) (sym (fold-append (told_after next) None before (event ∷ [])))
+    subst (IsRepeatTold rules (before ++ event ∷ []) next) (sym (fold-append (told_after next) None before (event ∷ [])))
     (told-event rules before event next (told_of next before) was right kept))
     [] history tt (λ at. tt) legal

@@ -102,7 +102,7 @@ abbrev pub entries_of : Option Made → ℕ
 entries_of None = 0
 entries_of (Some made) = length made.table.placed.items
 
--- what an accepted change makes of a core: the list to which it was applied, whole or pruned, and the same list to be
+-- what an accepted change makes of a core: the list with the change applied, whole or pruned, and the same list to be
 -- learned
 pub record IsMadeAs (prunes : Bool) (core : CoreView) (answer : Answer) (made : Made) : Type 0 where
   pub accepted : is_accepted answer.verdict ≡ true

@@ -45,6 +45,6 @@ abbrev pub told_of : ℕ → List Event → Option (ℕ × ℕ)
 told_of next history = fold (told_after next) None history
 
 -- it is so where that is the next cycle after the history
-abbrev pub IsTold : Rules → List Event → ℕ → Option (ℕ × ℕ) → Type 0
-IsTold rules history next told = next_of history ≡ next
+abbrev pub IsRepeatTold : Rules → List Event → ℕ → Option (ℕ × ℕ) → Type 0
+IsRepeatTold rules history next told = next_of history ≡ next
     → IfSome told (λ again. IsVerdictOnPlan rules.horizon (onward_of rules history) (Accepted again.0 again.1))

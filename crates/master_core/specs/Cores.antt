@@ -23,8 +23,8 @@ use Rattle.master_core.specs.declared.upcoming.Upcoming.{Upcoming}
 use Rattle.master_core.specs.History.{IsLegal, accepted_of, is_changed, next_of, placed_of, plan_of}
 
 -- what contracts see of a core: its rules, the placed entries that it keeps, the next cycle and the set of the slots that
--- are pending before it, the list that the nodes are to learn, the number of changes that were accepted, and whether it
--- forgets the entries that no answer needs any more
+-- are pending before it, the list that the nodes are to learn, the number of changes that were accepted, and whether its
+-- `submit` forgets the entries that no answer needs any more
 pub record CoreView : Type 0 where
   pub rules : Rules
   pub placed : List Placed
@@ -77,7 +77,7 @@ answered_as prunes core from change verdict =
       accepted = core.accepted + 1;
     } else core
 
--- where it is pruned by a core that forgets
+-- the same, pruned exactly where the core forgets
 abbrev pub answered_by : CoreView → ℕ → Change → Verdict → CoreView
 answered_by core from change verdict = answered_as core.forgets core from change verdict
 
@@ -155,6 +155,14 @@ core_of saved = record {
   learned = if saved.learns then Some saved.placed else None;
   accepted = saved.accepted;
   forgets = saved.forgets;
+}
+
+-- the core with all placed entries in place of those that it keeps
+abbrev pub with_all : CoreView → List Placed → CoreView
+with_all core placed = record core {
+  placed = placed;
+  learned = if is_some core.learned then Some placed else None;
+  forgets = false;
 }
 
 -- Histories

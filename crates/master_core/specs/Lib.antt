@@ -5,6 +5,7 @@ pub mod Calls
 pub mod Certificates
 pub mod CorePlans
 pub mod Cores
+pub mod Grown
 pub mod History
 pub mod Journals
 pub mod Keeping

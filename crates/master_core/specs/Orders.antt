@@ -17,8 +17,8 @@ pub record StandsFor (cycle : ℕ) (whole list : List Placed) : Type 0 where
   pub well_placed : IsWellPlaced list
   pub instances : (slot at : ℕ) → cycle ≤ at → instance_in list slot at ≡ instance_in whole slot at
 
--- the list that nodes are to learn after a history, where it stands for the placed entries: it is learnt where a change
--- was accepted since the last opening
+-- what the nodes are to learn after a history, of this list: all of it where a change was accepted since the last
+-- opening, and else nothing
 abbrev pub learned_as : List Event → List Placed → Option (List Placed)
 learned_as history list = if is_changed history then Some list else None
 

@@ -11,11 +11,11 @@ ghost use Rattle.admission.specs.Verdict.{IsInTime, IsRules, IsTakenWhereDue, is
 ghost use Rattle.master_core.specs.Answers.{HasNoRoom, IsAnswerAs, IsAnswerTo, entries_of};
 ghost use Rattle.master_core.specs.Apart.{IsPlannable};
 ghost use Rattle.master_core.specs.CorePlans.{CanSettleFrom, IsAnsweredFrom, IsLedTo, IsSettled, snapshot_of_core};
-ghost use Rattle.requirement_table.specs.Table.{IsInRange};
+ghost use Rattle.requirement_table.specs.Table.{IsInRange, IsWellPlaced};
 ghost use Rattle.change_protocol.specs.Pruned.{pruned};
-ghost use Rattle.master_core.specs.Cores.{IsAnswered, IsCore, IsCoreOrder, IsCoreUpcoming, IsHeld, IsPruned, IsStateAs, IsStateOf};
+ghost use Rattle.master_core.specs.Cores.{IsAnswered, IsCore, IsCoreOrder, IsCoreUpcoming, IsHeld, IsPruned, IsPrunedBefore, IsStateAs, IsStateOf};
 ghost use Rattle.master_core.specs.Cores.{CoreView, core_of, saved_of, state_of};
-ghost use Rattle.master_core.specs.Cores.{answered_as, answered_by, most_kept, new_core, onward, opened};
+ghost use Rattle.master_core.specs.Cores.{answered_as, answered_by, most_kept, new_core, onward, opened, with_all};
 ghost use Rattle.master_core.specs.History.{IsRightAnswer, placed_of};
 ghost use Rattle.master_core.specs.declared.event.Event.{Event};
 ghost use Rattle.master_core.specs.declared.event.Event.TheVariants.{Submit, Look, Open};
@@ -53,7 +53,7 @@ pub struct Core {
     learned: Option<PlacedList>,
     /// The number of changes that were accepted.
     accepted: u64,
-    /// Whether the entries that no answer needs any more are dropped where a change is accepted.
+    /// Whether `submit` drops the entries that no answer needs any more, and keeps at most 4,096.
     forgets: bool,
 }
 
@@ -318,6 +318,32 @@ impl Core {
         let since = self.table.since;
         prune(&mut self.table.placed, since);
         self.learned = pruned(self.learned.take(), since);
+    }
+
+    /// The core with this list in place of the one that it keeps, which is this list without some entries that no later
+    /// answer needs. It forgets none.
+    ///
+    /// # Errors
+    ///
+    /// Only where memory runs out.
+    pub(crate) fn with_all(&self, alloc: Global, placed: Vec<Placed>) -> Result<Core, AllocError>
+        requires pruned { IsPrunedBefore self.now.cycle placed.items self.now.placed }
+        requires well_placed { IsWellPlaced placed.items }
+        requires slots { All (λ p. p.entry.slot < self.now.rules.slots) placed.items }
+        requires nodes { All (λ p. p.entry.node < self.now.rules.nodes) placed.items }
+        ensures core { IfOk result (λ core. core ≡ with_all self.now placed.items) }
+    {
+        safe_states();
+        let learned = learned_list(alloc, placed.as_slice(), self.learned.is_some())?;
+        let table = Table::of(alloc, placed, self.state.cycle, &self.rules)?;
+        Ok(Core {
+            rules: self.rules,
+            table,
+            state: self.state,
+            learned,
+            accepted: self.accepted,
+            forgets: false,
+        })
     }
 
     /// Plans and opens the next cycle, below 2^41. No deadline is missed in it, nor in any later one. It takes no

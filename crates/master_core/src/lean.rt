@@ -8,11 +8,12 @@ ghost use Rattle.planner_policies.specs.Plan.{pending_at};
 ghost use Rattle.admission.specs.Verdict.{IsInTime, IsRules, IsTakenWhereDue, plan_from};
 ghost use Rattle.master_core.specs.Accepted.{all_accepted};
 ghost use Rattle.master_core.specs.declared.event.Event.TheVariants.{Submit, Look, Open};
-ghost use Rattle.master_core.specs.Cores.{IsPruned};
+ghost use Rattle.master_core.specs.Cores.{IsPruned, IsStateAs};
 ghost use Rattle.master_core.specs.History.{IsLegal, IsPlainlyLegal, next_of, placed_of, plan_of};
 ghost use Rattle.master_core.specs.Journals.{IsLast};
 ghost use Rattle.master_core.specs.Orders.{IsOrderFor, IsOrderWith, StandsFor};
 
+use crate::all_placed::all_placed;
 use crate::answered::Answered;
 use crate::cores::Core;
 use crate::event::Event;
@@ -28,18 +29,19 @@ use std::marker::Model;
 /// A master that keeps of its history the last event alone, or all events. Contracts see its rules, its whole history,
 /// the placed entries that it keeps, the number of events that it has room for, and whether all events are kept.
 ///
-/// Where the last event alone is kept, it also drops the placed entries that no answer and no opening needs any more:
-/// each time that a change is accepted, those that are over and not the last of their slot. Then neither its memory nor
-/// the time of its calls grows with the entries that are over, or with the cycles that it opens.
+/// It drops the placed entries that no answer and no opening needs any more: each time that a change is accepted, those
+/// that are over and not the last of their slot. So the time of a change, a look or an opening does not grow with the
+/// entries that are over, or with the cycles that it opens. Where the last event alone is kept, its memory does not
+/// either. Where all events are kept, a master with all placed entries is made of them.
 #[derive(Drop, Debug)]
 pub struct LeanMaster {
-    /// It keeps all placed entries where all events are kept.
+    /// It keeps the placed entries that are still needed.
     core: Core,
     journal: Journal,
 }
 
 impl Model for LeanMaster {
-    ghost use Rattle.std.specs.Prelude.{◌≡◌, not, false};
+    ghost use Rattle.std.specs.Prelude.{◌≡◌, true, false};
     ghost use Rattle.master_core.specs.Cores.{IsStateAs};
     ghost use Rattle.master_core.specs.Journals.{LeanView};
 
@@ -53,7 +55,7 @@ impl Model for LeanMaster {
       keeps = m.journal.keeps;
     } };
 
-    ghost invariant = { λ m. IsStateAs (not m.journal.keeps) m.journal.history m.core
+    ghost invariant = { λ m. IsStateAs true m.journal.history m.core
         × (m.core.forgets ≡ false) };
 }
 
@@ -87,25 +89,33 @@ impl LeanMaster {
     {
         let Master { core, history, .. } = master;
         LeanMaster {
-            core: held(core, keeps),
+            core: pruned(core),
             journal: Journal::of(history, keeps),
         }
     }
 
-    /// The master with the same history, where all events are kept.
-    pub fn into_master(self) -> Option<Master>
-        ensures rules { IfSome result (λ master. master.rules ≡ self.rules) }
-        ensures history { IfSome result (λ master. master.history ≡ self.history) }
-        ensures kept { is_some result ≡ self.keeps }
+    /// The master with the same history, where all events are kept. Its placed entries are made of the events, in time
+    /// linear in these and in the operations of the accepted changes.
+    ///
+    /// # Errors
+    ///
+    /// Only where memory runs out.
+    pub fn into_master(self, alloc: Global) -> Result<Option<Master>, AllocError>
+        ensures rules { IfOk result (λ found. IfSome found (λ master. master.rules ≡ self.rules)) }
+        ensures history { IfOk result (λ found. IfSome found (λ master. master.history ≡ self.history)) }
+        ensures kept { IfOk result (λ found. is_some found ≡ self.keeps) }
     {
         let LeanMaster { core, journal } = self;
         match journal.into_events() {
-            Some(history) => Some(Master {
-                core,
-                history,
-                spare: 0,
-            }),
-            None => None,
+            Some(history) => {
+                let core = whole(alloc, &core, history.as_slice())?;
+                Ok(Some(Master {
+                    core,
+                    history,
+                    spare: 0,
+                }))
+            }
+            None => Ok(None),
         }
     }
 
@@ -118,6 +128,7 @@ impl LeanMaster {
         ensures rules { self.new.rules ≡ self.old.rules }
         ensures history { self.new.history ≡ self.old.history }
         ensures keeps { self.new.keeps ≡ self.old.keeps }
+        ensures placed { self.new.placed ≡ self.old.placed }
         ensures room { OnOk result (events ≤ self.new.spare) }
         ensures kept { self.old.spare ≤ self.new.spare }
         ensures same { OnErr result (self.new.spare ≡ self.old.spare) }
@@ -159,7 +170,7 @@ impl LeanMaster {
         taken_where_due();
         self.core.known();
         self.journal.known();
-        let answer = self.core.plan_change(alloc, change, !self.journal.keeps())?;
+        let answer = self.core.plan_change(alloc, change, true)?;
         let events = self.journal.spare() + 1;
         self.journal.reserve(events)?;
         let (change, answered) = self.core.put(answer);
@@ -231,8 +242,8 @@ impl LeanMaster {
         self.core.next()
     }
 
-    /// The placed entries that it keeps, in the order of their placing: all where all events are kept, and else those that
-    /// stand for all of them from the next cycle on.
+    /// The placed entries that it keeps, in the order of their placing. They stand for all of them from the next cycle
+    /// on.
     pub fn placed(&self) -> &[Placed]
         ensures list { result.now ≡ self.now.placed }
         ensures stands { StandsFor (next_of self.now.history) (placed_of self.now.history) self.now.placed }
@@ -271,14 +282,21 @@ impl LeanMaster {
     }
 }
 
-/// What is kept of a core: all, or what later answers and openings need.
-fn held(mut core: Core, keeps: bool) -> Core
-    ensures whole { keeps ≡ true → result ≡ core }
-    ensures pruned { keeps ≡ false → IsPruned core result }
+/// What later answers and openings need of a core.
+fn pruned(mut core: Core) -> Core
+    ensures pruned { IsPruned core result }
 {
-    if keeps {
-        return core;
-    }
     core.prune();
     core
+}
+
+/// The core with all placed entries of these events, after which it is the state.
+fn whole(alloc: Global, core: &Core, events: &[Event]) -> Result<Core, AllocError>
+    requires state { IsStateAs true events.now core.now }
+    ensures rules { IfOk result (λ whole. whole.rules ≡ core.now.rules) }
+    ensures state { IfOk result (IsStateAs false events.now) }
+    ensures forgets { IfOk result (λ whole. whole.forgets ≡ false) }
+{
+    let placed = all_placed(alloc, &core.rules(), events)?;
+    core.with_all(alloc, placed)
 }

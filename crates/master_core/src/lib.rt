@@ -4,6 +4,7 @@
 //! Cycles are elementary cycles, counted from 0.
 #![tactic(auto)]
 
+mod all_placed;
 mod answer;
 mod answered;
 mod apart;

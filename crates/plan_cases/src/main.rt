@@ -11,6 +11,7 @@ mod admission_calls;
 mod asking;
 mod changes;
 mod fault_calls;
+mod lean_calls;
 mod list_calls;
 mod master_calls;
 mod numbers;

@@ -1,7 +1,8 @@
 //! Calls about a table of entries.
 
 use crate::{
-    admission_calls, fault_calls, list_calls, master_calls, numbers, table_calls, walk_calls,
+    admission_calls, fault_calls, lean_calls, list_calls, master_calls, numbers, table_calls,
+    walk_calls,
 };
 use cases::{CaseTable, Fault, cut};
 use planner_policies::Fill;
@@ -57,6 +58,7 @@ fn asked(
         "fault" => fault_calls::answer(alloc, numbers),
         "certify" => admission_calls::answer(alloc, placed, numbers),
         "master" => master_calls::shown(alloc, placed, numbers),
+        "lean" => lean_calls::answer(alloc, placed, numbers),
         "settle" => master_calls::settled(alloc, placed, numbers),
         "prefix" => master_calls::added(alloc, Fill::Prefix, placed, numbers),
         "skip" => master_calls::added(alloc, Fill::Skip, placed, numbers),
@@ -75,7 +77,7 @@ fn is_whole(word: &str, count: usize) -> bool {
         "bits" | "valid" | "planned" | "without" => true,
         "lasso" | "settle" => count == 4,
         "prefix" | "skip" => count == 3,
-        "certify" | "changed" | "master" | "payload" => count == 2,
+        "certify" | "changed" | "master" | "lean" | "payload" => count == 2,
         _ => count == 1,
     }
 }

@@ -10,11 +10,11 @@ ghost use Rattle.replay_run.specs.Run.{AnswersSteps};
 use crate::driver::{Driven, drive};
 use admission_rules::Rules;
 use change_protocol::Act;
-use master_core::Master;
+use master_core::{LeanMaster, Master};
 use std::alloc::{AllocError, Global};
 use steps_file::Step;
 
-impl Driven for Master {
+impl Driven for LeanMaster {
     ghost use Rattle.std.specs.Prelude.{⊤};
     ghost use Rattle.master_core.specs.History.{next_of};
     ghost use Rattle.replay_run.specs.Answered.{HasAnsweredCalls, StoppedIn, answered-nothing, answered-more, stopped-later};
@@ -76,7 +76,10 @@ pub fn answer(alloc: Global, rules: &Rules, steps: &[Step]) -> Result<Master, Al
     ensures plain { IfOk result (λ master. IsPlainlyLegal master.rules master.history) }
     ensures answers { IfOk result (λ master. AnswersSteps master.history steps.now) }
 {
-    let mut master = Master::new(alloc, *rules)?;
+    let mut master = LeanMaster::new(alloc, *rules, true)?;
     drive(&mut master, alloc, steps)?;
-    Ok(master)
+    match master.into_master(alloc)? {
+        Some(master) => Ok(master),
+        None => unreachable!(),
+    }
 }

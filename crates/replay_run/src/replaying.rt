@@ -69,7 +69,7 @@ pub fn replay(
 {
     match log_steps(alloc, system, steps, requests, true, &mut Silence) {
         Ok(Bus { master, trace, .. }) => match trace {
-            Some(trace) => match master.into_master() {
+            Some(trace) => match master.into_master(alloc)? {
                 Some(master) => Ok(ReplayedRun { master, trace }),
                 None => unreachable!(),
             },
@@ -81,8 +81,8 @@ pub fn replay(
 
 /// Answers the steps of a file, in their order, on the bus of a system with these requests, and puts the log meanwhile:
 /// the rows of each event when it was answered and its cycle was run, those of a cycle together, and then the last
-/// row. The frames and all events are kept where `keeps` says so. Else it takes memory for the placed entries, the
-/// nodes, the last event and one cycle alone.
+/// row. The frames and all events are kept where `keeps` says so. Else it takes memory for the placed entries
+/// that are still needed, the nodes, the last event and one cycle alone.
 ///
 /// # Errors
 ///
@@ -120,7 +120,7 @@ pub fn replay_to<O: Sink>(
 
 /// Answers the steps of a file, in their order, on the bus of a system with these requests, and keeps so many of the
 /// last rows of the log. The frames and all events are kept where `keeps` says so. Else it takes memory for the placed
-/// entries, the nodes, one event with its rows, one cycle, and the last rows alone.
+/// entries that are still needed, the nodes, one event with its rows, one cycle, and the last rows alone.
 ///
 /// # Errors
 ///

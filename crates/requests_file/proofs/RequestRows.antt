@@ -5,11 +5,12 @@ use Rattle.std.proofs.lemmas.List.{length-map}
 use Rattle.std.proofs.lemmas.Option.{same_Some}
 use Rattle.std.proofs.lemmas.Bool.Decides.{nat_tests}
 use Rattle.std.specs.List.{list_any}
-use Rattle.can_frame.specs.DataFrame.{DataFrame, IsFrame}
+use Rattle.can_frame.specs.DataFrame.{DataFrame, IsFrame, frame_with}
 use Rattle.async_window.specs.declared.request.Request.{Request}
 use Rattle.async_window.specs.declared.request.Owner.{Owner}
 use Rattle.text_fields.specs.CsvRows.{trimmed}
-use Rattle.requests_file.specs.RequestRow.{IsRequest, arrival_above, arrival_in, bytes_in, frame_with, identifier_in, is_owned, meaning}
+use Rattle.text_fields.specs.CsvRows.{arrival_in}
+use Rattle.requests_file.specs.RequestRow.{IsRequest, arrival_above, bytes_in, identifier_in, is_owned, meaning}
 use Rattle.requests_file.specs.declared.request_fault.RequestWhy.TheVariants.{Fields, Number, Identifier, Data, Order, Many}
 
 -- trimming keeps the number of fields

@@ -8,11 +8,11 @@ use Rattle.std.specs.Str.{bytes_eq}
 use Rattle.std.specs.Str.Parse.{digits_value}
 use Rattle.profile.specs.Limits.{arrivals_end, greatest_identifier, least_asynchronous}
 use Rattle.csv.specs.Records.{field_at}
-use Rattle.can_frame.specs.DataFrame.{DataFrame, IsFrame}
+use Rattle.can_frame.specs.DataFrame.{DataFrame, IsFrame, frame_with}
 use Rattle.async_window.specs.declared.request.Request.{Request}
 use Rattle.async_window.specs.declared.request.Owner.{Owner}
 use Rattle.text_fields.specs.ByteText.{bytes_of}
-use Rattle.text_fields.specs.CsvRows.{number_at}
+use Rattle.text_fields.specs.CsvRows.{arrival_in}
 use Rattle.text_fields.specs.Decimal.{number_of, within}
 use Rattle.text_fields.specs.Whys.{◌>>=◌, where_holds}
 use Rattle.requests_file.specs.declared.request_fault.RequestWhy.{RequestWhy}
@@ -31,10 +31,6 @@ identifier_of field =
     if bytes_eq (take 2 field) (codes "0x") then hexadecimal_of (drop 2 field)
     else option_and_then (within 0 65535) (number_of field)
 
--- AT: a number below 2 ^ 40
-abbrev pub arrival_in : List (List ℕ) → Option ℕ
-arrival_in row = number_at row 0 0 (arrivals_end - 1)
-
 -- ID
 abbrev pub identifier_in : List (List ℕ) → Option ℕ
 identifier_in row = option_and_then identifier_of (field_at row 1)
@@ -52,10 +48,6 @@ is_owned owners identifier =
 -- AT of the row above, and 0 where there is none
 abbrev pub arrival_above : List Request → ℕ
 arrival_above above = unwrap_or (option_map (λ request. request.at) (slice_get above (length above - 1))) 0
-
--- the frame of an identifier and its bytes
-abbrev pub frame_with : ℕ → List ℕ → DataFrame
-frame_with identifier bytes = record { identifier = identifier; bytes = bytes }
 
 -- the request of a row below the requests of the rows above it, or the first why, in this order, for which it asks for
 -- none

@@ -8,12 +8,12 @@ ghost use Rattle.std.specs.Prelude.{◌≡◌, ◌⊎◌, ℕ, ◌<◌, ◌≤�
 ghost use Rattle.std.specs.Prelude.{Err, Ok, Some, None, map, length, get_or, false, true};
 ghost use Rattle.std.specs.Prelude.{List, option_and_then, option_map, MatchResult};
 ghost use Rattle.profile.specs.Limits.{greatest_identifier};
-ghost use Rattle.can_frame.specs.DataFrame.{IsFrame};
+ghost use Rattle.can_frame.specs.DataFrame.{IsFrame, frame_with};
 ghost use Rattle.text_fields.specs.CsvRows.{rows_of, trimmed};
 ghost use Rattle.text_fields.specs.Decimal.{number_of, within};
 ghost use Rattle.text_fields.specs.RecordReading.{fields_in};
 ghost use Rattle.requests_file.specs.RequestRow.{hexadecimal_of, identifier_of, identifier_in};
-ghost use Rattle.requests_file.specs.RequestRow.{bytes_in, is_owned, arrival_above, meaning, IsRequest, frame_with};
+ghost use Rattle.requests_file.specs.RequestRow.{bytes_in, is_owned, arrival_above, meaning, IsRequest};
 ghost use Rattle.requests_file.specs.RequestOwners.{IsOwnedTable};
 ghost use Rattle.async_window.specs.declared.request.Owner.{Owner};
 ghost use Rattle.requests_file.specs.declared.request_fault.RequestFault.TheVariants.{Memory};

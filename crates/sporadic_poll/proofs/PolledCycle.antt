@@ -17,7 +17,8 @@ use Rattle.cycle_engine.specs.Cycle.{FitsWindow}
 use Rattle.cycle_engine.specs.Nodes.{IsBefore, IsBus, IsSlotKnown, heard_by, learnt_by, opening_of, states_of}
 use Rattle.cycle_engine.specs.Offered.{offered_in}
 use Rattle.sporadic_poll.specs.Polled.{polled_bytes}
-use Rattle.sporadic_poll.specs.PolledNodes.{AreBefore, HaveHeard, PolledView, opened_by, placed_by}
+use Rattle.sporadic_poll.specs.PolledNodes.{AreBefore, HaveHeard, PolledView, opened_by}
+use Rattle.cycle_engine.specs.Joint.{known_by}
 use Rattle.sporadic_poll.specs.Rides.{AreFates, AreRidesAt, HaveRidden, IsPlainCycle, Riding}
 
 some-of : (o : Option Instance) → is_some o ≡ true → (i : Instance) × (o ≡ Some i)
@@ -59,21 +60,21 @@ pub record Ran (order : Order) (layout : CycleLayout) (before after : List NodeS
 
 -- the nodes heard the cycle
 pub have-heard : (order : Order) (old new : PolledView) (plain : List TimedFrame)
-    → Ran order old.nodes.layout (states_of old.nodes.nodes) (states_of new.nodes.nodes) plain → new.placed ≡ placed_by order.learned old.placed
+    → Ran order old.nodes.layout (states_of old.nodes.nodes) (states_of new.nodes.nodes) plain → new.placed ≡ known_by order.learned old.placed
     → HaveHeard order old new
 have-heard order old new plain ran placed = record {
   plain = plain;
   heard = ran.heard;
-  follows = λ past before. ran.runs (placed_by order.learned old.placed) past before;
+  follows = λ past before. ran.runs (known_by order.learned old.placed) past before;
   stand = λ past before.
       subst (λ p. IsBus old.nodes.layout [] [] p (past ++ plain) (order.cycle + 1) (states_of new.nodes.nodes)) (sym placed)
-      (ran.stand (placed_by order.learned old.placed) past before);
+      (ran.stand (known_by order.learned old.placed) past before);
   soon = λ past before.
       let E = old.nodes.layout.cycle in
       All-append (λ (sent : TimedFrame). sent.start < (order.cycle + 1) * E) past plain
       (λ k d within. let it = before.before k d within in omega (arith, it, add-mul order.cycle 1 E))
       (all-before (offered_in bytes_of old.nodes.layout [] (opened_by order old.placed)) ((order.cycle + 1) * E) past (order.cycle * E) plain
-      (ran.runs (placed_by order.learned old.placed) past before));
+      (ran.runs (known_by order.learned old.placed) past before));
 }
 
 -- what a cycle's frames and the requests are by, where the cycle was run without requests
@@ -102,6 +103,6 @@ pub plain-cycle : (order : Order) (old : PolledView) (after : List NodeState) (p
 plain-cycle order old after plain past narrow ran before = record {
   past = past;
   before = before.before;
-  fits = fits-window old.nodes.layout (placed_by order.learned old.placed) past order (learnt_by order.learned (states_of old.nodes.nodes)) narrow before;
-  follows = ran.runs (placed_by order.learned old.placed) past before;
+  fits = fits-window old.nodes.layout (known_by order.learned old.placed) past order (learnt_by order.learned (states_of old.nodes.nodes)) narrow before;
+  follows = ran.runs (known_by order.learned old.placed) past before;
 }

@@ -3,7 +3,8 @@ use Rattle.std.proofs.Common.{◌≡◌, ◌≢◌, map, ℕ, ◌<◌, ◌≤◌
 use Rattle.std.proofs.lemmas.List.{length-map}
 use Rattle.std.proofs.lemmas.Bool.Decides.{nat_tests}
 use Rattle.text_fields.specs.CsvRows.{trimmed}
-use Rattle.sporadic_poll.specs.StreamRow.{arrival_above, arrival_in, meaning, payload_in, seven_at_most, slot_in}
+use Rattle.text_fields.specs.CsvRows.{arrival_in}
+use Rattle.sporadic_poll.specs.StreamRow.{arrival_above, meaning, payload_in, seven_at_most, slot_in}
 use Rattle.sporadic_poll.specs.declared.stream.Stream.{Stream}
 use Rattle.sporadic_poll.specs.declared.stream_fault.StreamWhy.TheVariants.{Fields, Number, Slot, Data, Order, Many}
 

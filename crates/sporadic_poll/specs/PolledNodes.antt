@@ -6,6 +6,7 @@ use Rattle.requirement_table.specs.declared.entries.Placed.{Placed}
 use Rattle.requirement_table.specs.Opening.{Opening}
 use Rattle.requirement_table.specs.Instance.{bytes_of}
 use Rattle.bus_line.specs.Trace.{Follows}
+use Rattle.cycle_engine.specs.Joint.{known_by}
 use Rattle.cycle_engine.specs.Nodes.{IsBefore, IsBus, NodesView, heard_by, learnt_by, opening_of, states_of}
 use Rattle.cycle_engine.specs.Offered.{offered_in}
 use Rattle.sporadic_poll.specs.Rides.{Riding}
@@ -20,18 +21,13 @@ pub record PolledView : Type 0 where
 abbrev pub AreNext : ℕ → PolledView → Type 0
 AreNext cycle view = All (λ node. node.next ≡ cycle) (states_of view.nodes.nodes)
 
--- the placed entries after an order that has a list where they changed
-abbrev pub placed_by : Option (List Placed) → List Placed → List Placed
-placed_by None placed = placed
-placed_by (Some learned) placed = learned
-
 -- the cycle that an order opens
 abbrev pub opened_by : Order → List Placed → Opening
-opened_by order placed = opening_of order (placed_by order.learned placed)
+opened_by order placed = opening_of order (known_by order.learned placed)
 
 -- before the cycle of an order the nodes stand for a bus without requests, on which frames were sent
 abbrev pub AreBefore : Order → List TimedFrame → PolledView → Type 0
-AreBefore order past view = IsBefore view.nodes.layout [] [] (placed_by order.learned view.placed) past order
+AreBefore order past view = IsBefore view.nodes.layout [] [] (known_by order.learned view.placed) past order
     (learnt_by order.learned (states_of view.nodes.nodes))
 
 -- the nodes learnt what the order says and heard the frames of its cycle where each instance sends its number: those

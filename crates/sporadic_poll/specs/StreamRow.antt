@@ -5,15 +5,11 @@ use Rattle.std.specs.List.{slice_get}
 use Rattle.profile.specs.Limits.{arrivals_end}
 use Rattle.csv.specs.Records.{field_at}
 use Rattle.text_fields.specs.ByteText.{bytes_of}
-use Rattle.text_fields.specs.CsvRows.{number_at}
+use Rattle.text_fields.specs.CsvRows.{arrival_in, number_at}
 use Rattle.text_fields.specs.Whys.{◌>>=◌, where_holds}
 use Rattle.sporadic_poll.specs.declared.stream.Stream.{Stream}
 use Rattle.sporadic_poll.specs.declared.stream_fault.StreamWhy.{StreamWhy}
 use Rattle.sporadic_poll.specs.declared.stream_fault.StreamWhy.TheVariants.{Fields, Number, Slot, Data, Order, Many}
-
--- AT: a number below 2 ^ 40
-abbrev pub arrival_in : List (List ℕ) → Option ℕ
-arrival_in row = number_at row 0 0 (arrivals_end - 1)
 
 -- SLOT: a number of 0 to 255
 abbrev pub slot_in : List (List ℕ) → Option ℕ

@@ -13,7 +13,8 @@ ghost use Rattle.node_model.specs.Node.{fresh_node};
 ghost use Rattle.cycle_engine.specs.Nodes.{CanLearn, IsBus, states_of};
 ghost use Rattle.cycle_engine.specs.Offered.{offered_in};
 ghost use Rattle.sporadic_poll.specs.Polled.{polled_bytes};
-ghost use Rattle.sporadic_poll.specs.PolledNodes.{AreBefore, AreNext, HaveHeard, opened_by, placed_by};
+ghost use Rattle.sporadic_poll.specs.PolledNodes.{AreBefore, AreNext, HaveHeard, opened_by};
+ghost use Rattle.cycle_engine.specs.Joint.{known_by};
 ghost use Rattle.sporadic_poll.specs.Rides.{AreFates, AreRidesAt, HaveRidden};
 
 use crate::rides::Rides;
@@ -136,7 +137,7 @@ impl PolledNodes {
     /// Keeps the list that the nodes learn, where there is one.
     fn know(&mut self, learned: Option<Vec<Placed>>)
         requires well_placed { IfSome learned (λ list. IsWellPlaced list.items) }
-        ensures placed { self.new.placed ≡ placed_by (option_map (λ list. list.items) learned) self.old.placed }
+        ensures placed { self.new.placed ≡ known_by (option_map (λ list. list.items) learned) self.old.placed }
         ensures nodes { self.new.nodes ≡ self.old.nodes }
         ensures riding { self.new.riding ≡ self.old.riding }
     {
@@ -169,7 +170,7 @@ pub fn run_polled(
     ensures layout { nodes.new.nodes.layout ≡ nodes.old.nodes.layout }
     ensures streams { nodes.new.riding.queued.streams ≡ nodes.old.riding.queued.streams }
     ensures number { length nodes.new.riding.queued.next ≡ length nodes.old.riding.queued.next }
-    ensures placed { OnOk result (nodes.new.placed ≡ placed_by order.now.learned nodes.old.placed) }
+    ensures placed { OnOk result (nodes.new.placed ≡ known_by order.now.learned nodes.old.placed) }
     ensures next { OnOk result (AreNext (order.now.cycle + 1) nodes.new) }
     // The nodes have learnt the list and heard the cycle as by `run_cycle`.
     ensures heard { OnOk result (HaveHeard order.now nodes.old nodes.new) }

@@ -1,21 +1,17 @@
 -- What the fields of a row of a steps file say, where each is a number in its range.
-use Rattle.std.specs.Prelude.{ℕ, ◌+◌, ◌-◌, ◌^◌, List, Option, Some, None, option_map, option_and_then}
+use Rattle.std.specs.Prelude.{ℕ, ◌+◌, ◌-◌, ◌^◌, List, Option, Some, None, option_map}
 use Rattle.profile.specs.Limits.{most_cycles}
 use Rattle.requirement_table.specs.declared.entries.Entry.{Entry}
 use Rattle.change_protocol.specs.declared.operations.Op.{Op}
 use Rattle.change_protocol.specs.declared.operations.Op.TheVariants as operation
 use Rattle.text_fields.specs.CsvRows.{number_at}
+use Rattle.text_fields.specs.Optional.{◌>>=◌}
 use Rattle.steps_file.specs.declared.step_rows.StepVerb.{StepVerb}
 use Rattle.steps_file.specs.declared.step_rows.StepVerb.TheVariants.{Add, Remove, Change}
 use Rattle.steps_file.specs.declared.step_rows.Form.{Form}
 use Rattle.steps_file.specs.declared.step_rows.Form.TheVariants as form
 use Rattle.steps_file.specs.declared.step_rows.StepLine.{StepLine}
 use Rattle.steps_file.specs.declared.step_rows.StepLine.TheVariants as line
-
-infixl 10 ◌>>=◌
--- what the second gives for the value of the first, where both are there
-abbrev pub ◌>>=◌ : {A B : Type 0} → Option A → (A → Option B) → Option B
-value >>= next = option_and_then next value
 
 -- the entry that the fields from this place on describe: SLOT, NODE, LENGTH, PHASE, PERIOD, DEADLINE and PRIORITY
 abbrev pub entry_at : List (List ℕ) → ℕ → Option Entry

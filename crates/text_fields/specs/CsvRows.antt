@@ -1,6 +1,7 @@
 -- The records of a text of comma-separated fields, and its rows with trimmed fields and the numbers in them.
-use Rattle.std.specs.Prelude.{ℕ, ◌==◌, if◌then◌else◌, List, [], ◌∷◌}
+use Rattle.std.specs.Prelude.{ℕ, ◌-◌, ◌==◌, if◌then◌else◌, List, [], ◌∷◌}
 use Rattle.std.specs.Prelude.{map, reverse, Option, option_and_then}
+use Rattle.profile.specs.Limits.{arrivals_end}
 use Rattle.csv.specs.Reading.{default_config, records, strip_bom}
 use Rattle.csv.specs.Records.{field_at}
 use Rattle.text_fields.specs.Decimal.{number_of, within}
@@ -26,3 +27,7 @@ rows_of bytes = map (map trimmed) (records_of bytes)
 -- the number in the field at this place of a row, where it is from low to high
 abbrev pub number_at : List (List ℕ) → ℕ → ℕ → ℕ → Option ℕ
 number_at row place low high = option_and_then (within low high) (option_and_then number_of (field_at row place))
+
+-- AT, the first field of a row of requests or of a streams file, in bit times: a number below 2 ^ 40
+abbrev pub arrival_in : List (List ℕ) → Option ℕ
+arrival_in row = number_at row 0 0 (arrivals_end - 1)

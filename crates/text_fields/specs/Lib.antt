@@ -10,6 +10,7 @@ pub mod KeptDigits
 pub mod Lanes
 pub mod Lines
 pub mod MaskText
+pub mod Optional
 pub mod PlainRows
 pub mod RecordReading
 pub mod RowByRow

@@ -9,6 +9,8 @@ returns c = record {
   later = within-later;
   pruned = λ rules placed c from pending before is.
       within-same rules from pending placed (pruned c placed) (same-pruned c from placed before is.safe.well_placed) is;
+  whole = λ rules placed list from pending well left is.
+      within-same rules from pending list placed (record { first = is.safe.well_placed; second = well; left = left }) is;
   pending = λ rules placed c from pending n before well. pending-kept rules from pending n placed (pruned c placed) (same-pruned c from placed before well);
   planned = λ rules placed c from pending n before well. masks-kept rules from pending n placed (pruned c placed) (same-pruned c from placed before well);
 }

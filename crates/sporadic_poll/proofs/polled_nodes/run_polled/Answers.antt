@@ -4,19 +4,20 @@ use Rattle.cycle_layout.specs.Layout.{CycleLayout}
 use Rattle.requirement_table.specs.declared.entries.Placed.{Placed}
 use Rattle.node_model.specs.Node.{NodeState}
 use Rattle.cycle_engine.specs.Nodes.{NodesView, states_of}
-use Rattle.sporadic_poll.specs.PolledNodes.{PolledView, placed_by}
+use Rattle.sporadic_poll.specs.PolledNodes.{PolledView}
+use Rattle.cycle_engine.specs.Joint.{known_by}
 use Rattle.sporadic_poll.specs.Rides.{Riding}
 use Rattle.sporadic_poll.proofs.PolledCycle.{CarriesBy, Ran, have-heard, plain-cycle}
 use Rattle.sporadic_poll.proofs.polled_nodes.run_polled.Goals as goal
 use Rattle.sporadic_poll.proofs.polled_nodes.run_polled.Goals.{After-drop-plain-inside-2}
 
 -- what the nodes know after the cycle
-placed : (c : After-drop-plain-inside-2) → c.nodes-3.inside.placed.items ≡ placed_by c.args.order.now.learned c.args.nodes.now.placed
+placed : (c : After-drop-plain-inside-2) → c.nodes-3.inside.placed.items ≡ known_by c.args.order.now.learned c.args.nodes.now.placed
 placed c =
     let order = c.args.order.now in
     ap (λ (v : PolledView). v.placed) c.nodes-3.view_is ∙ c.know.ensures.placed
-    ∙ ap (λ o. placed_by o c.nodes-2.inside.placed.items) c.in_ok-learned.ensures.same
-    ∙ ap (λ p. placed_by order.learned p) (ap (λ (v : PolledView). v.placed) c.nodes-2.view_is ∙ c.reserve_for.ensures.placed)
+    ∙ ap (λ o. known_by o c.nodes-2.inside.placed.items) c.in_ok-learned.ensures.same
+    ∙ ap (λ p. known_by order.learned p) (ap (λ (v : PolledView). v.placed) c.nodes-2.view_is ∙ c.reserve_for.ensures.placed)
 
 -- the cycle was run on the nodes as they were before
 ran : (c : After-drop-plain-inside-2) → Ran c.args.order.now c.args.nodes.now.nodes.layout (states_of c.args.nodes.now.nodes.nodes)
@@ -39,7 +40,7 @@ ran c =
 
 -- the frames carry the requests of their instances
 carries : (c : After-drop-plain-inside-2) → CarriesBy c.args.nodes.now.nodes.layout c.args.order.now
-    (placed_by c.args.order.now.learned c.args.nodes.now.placed) c.run_cycle_in.new.segment c.args.nodes.now.riding
+    (known_by c.args.order.now.learned c.args.nodes.now.placed) c.run_cycle_in.new.segment c.args.nodes.now.riding
     c.carry.new.self c.carry.new.out.items
 carries c =
     let order = c.args.order.now in
@@ -50,8 +51,8 @@ carries c =
     let layout : c.layout.result.now ≡ old.nodes.layout = c.layout.ensures.layout ∙ ap (λ (v : PolledView). v.nodes.layout) c.nodes.view_is in
     let now = c.carry.new.self in
     let out = c.carry.new.out.items in
-    subst (λ (r : Riding). CarriesBy old.nodes.layout order (placed_by order.learned old.placed) plain r now out) riding
-    (subst (λ (f : List TimedFrame). CarriesBy old.nodes.layout order (placed_by order.learned old.placed) f c.nodes-3.inside.rides now out) c.frames.ensures.list
+    subst (λ (r : Riding). CarriesBy old.nodes.layout order (known_by order.learned old.placed) plain r now out) riding
+    (subst (λ (f : List TimedFrame). CarriesBy old.nodes.layout order (known_by order.learned old.placed) f c.nodes-3.inside.rides now out) c.frames.ensures.list
     (subst (λ (p : List Placed). CarriesBy old.nodes.layout order p c.frames.result.now c.nodes-3.inside.rides now out) (c.as_slice.ensures.value ∙ placed c)
     (subst (λ (l : CycleLayout). CarriesBy l order c.as_slice.result.now c.frames.result.now c.nodes-3.inside.rides now out) layout
     (record { taken = c.carry.ensures.taken; fates = c.carry.ensures.fates; frames = c.carry.ensures.frames }))))

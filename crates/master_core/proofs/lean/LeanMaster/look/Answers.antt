@@ -7,7 +7,7 @@ use Rattle.master_core.proofs.lean.LeanMaster.look.Goals as goal
 
 pub invariant_of-self : goal.invariant_of-self
 invariant_of-self c =
-    rw (c.put.ensures.history, c.put.ensures.keeps, c.next-next.ensures.next) (state-looked _ _ _ c.known.ensures.core c.self.invariant.0 c.args.caller, c.self.invariant.1)
+    rw (c.put.ensures.history, c.next-next.ensures.next) (state-looked _ _ _ c.known.ensures.core c.self.invariant.0 c.args.caller, c.self.invariant.1)
 
 pub returns-clause-legal : goal.returns-clause-legal
 returns-clause-legal c =

@@ -8,7 +8,7 @@ use Rattle.master_core.proofs.lean.LeanMaster.open.Goals as goal
 
 pub invariant_of-self : goal.invariant_of-self
 invariant_of-self c =
-    rw (c.put.ensures.history, c.put.ensures.keeps, c.open-order.ensures.state, c.open-order.ensures.order.cycle)
+    rw (c.put.ensures.history, c.open-order.ensures.state, c.open-order.ensures.order.cycle)
     (state-opened _ _ _ c.known.ensures.core c.self.invariant.0 _ c.open-order.ensures.order.mask, c.self.invariant.1)
 
 pub returns-clause-order : goal.returns-clause-order

@@ -1,4 +1,4 @@
-use Rattle.std.proofs.Common.{◌≡◌, ◌∙◌, ℕ, Bool, false, not, [], ◌∷◌, ◌++◌, ap, subst, sym}
+use Rattle.std.proofs.Common.{◌≡◌, ◌∙◌, ℕ, false, true, [], ◌∷◌, ◌++◌, ap, subst, sym}
 use Rattle.change_protocol.specs.declared.operations.Change.{Change}
 use Rattle.admission.specs.declared.verdict.Verdict.{Verdict}
 use Rattle.master_core.specs.declared.answered.Answered.{Answered}
@@ -13,8 +13,8 @@ use Rattle.master_core.proofs.Whole.{answered-same, plain-more}
 use Rattle.master_core.proofs.lean.LeanMaster.submit.Goals as goal
 use Rattle.master_core.proofs.lean.LeanMaster.submit.Goals.{After-put}
 
-to : (c : After-put) → IsAnswerAs (not c.self.inside.journal.keeps) c.self.inside.core c.in_ok-answer.answer
-to c = subst (λ (b : Bool). IsAnswerAs (not b) c.self.inside.core c.in_ok-answer.answer) c.keeps.ensures.keeps c.in_ok-answer.ensures.answer
+to : (c : After-put) → IsAnswerAs true c.self.inside.core c.in_ok-answer.answer
+to c = c.in_ok-answer.ensures.answer
 
 right : (c : After-put) → IsRightAnswer c.self.inside.core.rules c.self.inside.journal.history c.in_ok-answer.answer.change c.in_ok-answer.answer.from
     c.in_ok-answer.answer.verdict c.in_ok-answer.answer.trail
@@ -23,30 +23,27 @@ right c = c.in_ok-answer.ensures.right _ _ c.self.invariant.0
 here : (c : After-put) → c.in_ok-answer.answer.from ≡ next_of c.self.inside.journal.history
 here c = c.in_ok-answer.ensures.answered.from ∙ c.self.invariant.0.next
 
-behind : (c : After-put) → IsStateAs (not c.self.inside.journal.keeps) (c.self.inside.journal.history
+behind : (c : After-put) → IsStateAs true (c.self.inside.journal.history
     ++ Submit c.args.caller c.in_ok-answer.answer.change c.in_ok-answer.answer.from c.in_ok-answer.answer.verdict c.in_ok-answer.answer.trail ∷ []) c.put-change.new.self
 behind c =
     c.put-change.ensures.history _ _ c.args.caller (to c) c.self.invariant.0
-    (subst (λ (n : ℕ). IsHeld (not c.self.inside.journal.keeps) n (placed_of c.self.inside.journal.history) c.self.inside.core.placed)
+    (subst (λ (n : ℕ). IsHeld true n (placed_of c.self.inside.journal.history) c.self.inside.core.placed)
     (sym c.in_ok-answer.ensures.answered.from) c.self.invariant.0.held)
     (right c)
 
-then : (c : After-put) → IsStateAs (not c.self.inside.journal.keeps) c.put.new.self.history c.put-change.new.self
+then : (c : After-put) → IsStateAs true c.put.new.self.history c.put-change.new.self
 then c = rw (c.put.ensures.history, c.reserve.ensures.history, c.put-change.ensures.change, c.put-change.ensures.answered) (behind c)
 
 same : (c : After-put) → (c.put-change.new.self.rules ≡ c.self.inside.core.rules) × (c.put-change.new.self.forgets ≡ false)
 same c =
-    let by = answered-same (not c.self.inside.journal.keeps) c.self.inside.core c.in_ok-answer.answer.from c.in_ok-answer.answer.change c.in_ok-answer.answer.verdict in
+    let by = answered-same true c.self.inside.core c.in_ok-answer.answer.from c.in_ok-answer.answer.change c.in_ok-answer.answer.verdict in
     let state = c.put-change.ensures.state _ (to c) in (
       ap (λ (v : CoreView). v.rules) state ∙ by.0,
       ap (λ (v : CoreView). v.forgets) state ∙ by.1 ∙ c.self.invariant.1,
     )
 
 pub invariant_of-self-2 : goal.invariant_of-self-2
-invariant_of-self-2 c = (
-  subst (λ (b : Bool). IsStateAs (not b) c.put.new.self.history c.put-change.new.self) (sym (c.put.ensures.keeps ∙ c.reserve.ensures.keeps)) (then c),
-  (same c).1,
-)
+invariant_of-self-2 c = (then c, (same c).1)
 
 pub returns-clause-legal : goal.returns-clause-legal
 returns-clause-legal c = (then c).legal
