@@ -18,6 +18,7 @@ mod Repeats
 mod Row
 mod Same
 mod SameLeft
+pub mod Shared
 mod States
 mod Places
 mod Stretched

@@ -295,6 +295,27 @@ module _ (rules : Rules) (c from pending next : ℕ) (placed : List Placed) (cha
   verdict-pruned (Horizon first walked) is = (in_time is.0, moved (Horizon first walked) is.0.well_formed is.1)
   verdict-pruned (Accepted first length) is = (in_time is.0, moved (Accepted first length) is.0.well_formed is.1)
 
+  -- and the other way round
+  formed-fewer : IsWellFormed placed (bounds_by rules) change → IsWellFormed (pruned c placed) (bounds_by rules) change
+  formed-fewer formed = faults-pruned c placed well (bounds_by rules) change ∙ formed
+
+  in_time-fewer : IsInTime rules placed next change → IsInTime rules (pruned c placed) next change
+  in_time-fewer is = record { well_formed = formed-fewer is.well_formed; ahead = is.ahead }
+
+  moved-fewer : (verdict : Verdict) → IsWellFormed placed (bounds_by rules) change
+      → IsVerdictOnPlan rules.horizon (plan_from rules (applied placed change) from pending) verdict
+      → IsVerdictOnPlan rules.horizon (plan_from rules (applied (pruned c placed) change) from pending) verdict
+  moved-fewer verdict formed is =
+      verdict-same rules from pending (applied placed change) (applied (pruned c placed) change) verdict
+      (turned from (applied (pruned c placed) change) (applied placed change) (same-lists (formed-fewer formed))) is
+
+  pub verdict-fewer : (verdict : Verdict) → IsVerdict rules placed pending from next change verdict → IsVerdict rules (pruned c placed) pending from next change verdict
+  verdict-fewer (Malformed op why) is = ap (λ (l : List Broken). slice_get l 0) (faults-pruned c placed well (bounds_by rules) change) ∙ is
+  verdict-fewer (Passed start opened) is = (formed-fewer is.0, is.1, is.2, is.3)
+  verdict-fewer (Miss slot release cycle) is = (in_time-fewer is.0, moved-fewer (Miss slot release cycle) is.0.well_formed is.1)
+  verdict-fewer (Horizon first walked) is = (in_time-fewer is.0, moved-fewer (Horizon first walked) is.0.well_formed is.1)
+  verdict-fewer (Accepted first length) is = (in_time-fewer is.0, moved-fewer (Accepted first length) is.0.well_formed is.1)
+
   trails : (verdict : Verdict) → IsWellFormed (pruned c placed) (bounds_by rules) change
       → trail_of (plan_from rules (applied (pruned c placed) change) from pending) verdict ≡ trail_of (plan_from rules (applied placed change) from pending) verdict
   trails verdict formed = trail-same rules from pending (applied (pruned c placed) change) (applied placed change) (same-lists formed) verdict
@@ -312,5 +333,5 @@ module _ (rules : Rules) (c from pending next : ℕ) (placed : List Placed) (cha
 
   pub due-pruned : (verdict : Verdict) → IsDueOf (pruned c placed) verdict → IsDueOf placed verdict
   due-pruned verdict due is =
-      let formed : IsWellFormed (pruned c placed) (bounds_by rules) change = faults-pruned c placed well (bounds_by rules) change ∙ is.well_formed in
-      due-same rules from pending (applied (pruned c placed) change) (applied placed change) verdict (same-lists formed) (due (record { well_formed = formed; ahead = is.ahead }))
+      let formed : IsWellFormed (pruned c placed) (bounds_by rules) change = formed-fewer is.well_formed in
+      due-same rules from pending (applied (pruned c placed) change) (applied placed change) verdict (same-lists formed) (due (in_time-fewer is))

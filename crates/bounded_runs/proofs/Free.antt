@@ -1,26 +1,21 @@
 -- The bus is free when the asynchronous window of a cycle opens.
-use Rattle.std.proofs.Common.{◌≡◌, ℕ, ◌+◌, ◌*◌, ◌/◌, ◌<◌, ◌≤◌, List, ◌++◌, map, length, Contains, ◌⊎◌, inl, inr, refl, sym, ◌∙◌, subst, arith, div-lt_iff_lt-mul, le-div_iff_mul-le, mul-le-mul_right}
+use Rattle.std.proofs.Common.{◌≡◌, ℕ, ◌+◌, ◌*◌, ◌/◌, ◌<◌, ◌≤◌, List, ◌∷◌, ◌++◌, All, Contains, get_or, ◌⊎◌, inl, inr, refl, sym, ◌∙◌, subst, arith, div-lt_iff_lt-mul, le-div_iff_mul-le, mul-le-mul_right}
 use Rattle.std.specs.Prelude.{◌==◌}
 use Rattle.std.proofs.lemmas.Bool.{cases_lt, eq-eqb}
-use Rattle.std.proofs.lemmas.List.Elements.{All-contains, All-filter, Contains-append_cases}
+use Rattle.std.proofs.lemmas.List.Elements.{All-contains, All-filter, Contains-append_cases, Contains-append_left, Contains-get_or}
 use Rattle.profile.specs.Limits.{least_asynchronous}
-use Rattle.can_frame.specs.DataFrame.{DataFrame}
 use Rattle.can_frame.specs.Wire.{wire_length}
 use Rattle.can_frame.specs.declared.data_frame.TimedFrame.{TimedFrame}
-use Rattle.can_frame.proofs.Shared.{wire-most}
 use Rattle.cycle_layout.specs.Layout.{CycleLayout, IsLayout, async_open, trigger_part}
 use Rattle.requirement_table.specs.Instance.{Instance}
 use Rattle.requirement_table.specs.Opening.{Opening, width_of}
-use Rattle.trigger_kind.specs.Kind.{triggers_of}
-use Rattle.trigger_kind.proofs.Shared.{part-least}
-use Rattle.trigger_codec.specs.Bytes.{trigger_frame}
-use Rattle.trigger_codec.proofs.Shared.{later-room, sent-behind}
 use Rattle.async_window.specs.declared.request.Request.{Request}
 use Rattle.bus_line.specs.Trace.{end_of}
 use Rattle.node_model.specs.Opening.{start_of}
 use Rattle.cycle_engine.specs.Cycle.{IsRequestFrame, IsSlotFrame, RunsCycle, cycle_of, frames_in}
+use Rattle.cycle_engine.proofs.Shared.{triggers-in_part}
 use Rattle.bounded_runs.specs.Runs.{IsBoundedRun}
-use Rattle.async_bound.proofs.Shared.{Contains-here, Contains-cases, Contains-filter, Contains-map}
+use Rattle.async_bound.proofs.Shared.{Contains-filter}
 
 module _ (sends : Instance → List ℕ) (layout : CycleLayout) (known : IsLayout layout) (requests : List Request) (openings : List Opening)
     (count : ℕ) (trace : List TimedFrame) (run : IsBoundedRun sends layout requests openings count trace) where
@@ -29,9 +24,6 @@ module _ (sends : Instance → List ℕ) (layout : CycleLayout) (known : IsLayou
     pub ends : end_of sent ≤ (cycle + 1) * layout.cycle
     pub apart : (end_of sent ≤ async_open layout cycle) ⊎ (async_open layout cycle ≤ sent.start)
     pub guarded : (end_of sent ≤ async_open layout cycle) ⊎ ((least_asynchronous ≤ sent.frame.identifier) ⊎ ((cycle + 1) * layout.cycle ≤ sent.start + layout.window))
-
-  eight-long : (frame : DataFrame) → length frame.bytes ≡ 8 → wire_length frame ≤ 135
-  eight-long frame eight = omega (arith, eight, wire-most frame)
 
   module _ (opening : Opening) (narrow : width_of opening ≤ layout.window)
       (runs : RunsCycle sends layout opening (frames_in layout opening.cycle trace)) where
@@ -42,37 +34,22 @@ module _ (sends : Instance → List ℕ) (layout : CycleLayout) (known : IsLayou
     length-in sent has = All-contains (λ s. s.len ≡ wire_length s.frame) frames sent
         (All-filter (λ s. cycle_of layout s == opening.cycle) (λ s. s.len ≡ wire_length s.frame) trace run.can_trace.ordered.lengths) has
 
-    trigger-ends : end_of runs.trigger ≤ start_of layout opening + 135
-    trigger-ends =
-        let has : Contains frames runs.trigger = subst (λ fs. Contains fs runs.trigger) (sym runs.all_frames) (Contains-here runs.trigger (runs.second ++ runs.later)) in
-        let eight : length (trigger_frame opening.cycle (width_of opening) opening.mask).bytes ≡ 8 = refl in
-        let short = eight-long runs.trigger.frame (subst (λ f. length f.bytes ≡ 8) (sym runs.is_trigger) eight) in
-        omega (arith, short, length-in runs.trigger has, runs.starts)
+    abbrev triggers : List TimedFrame
+    triggers = runs.trigger ∷ runs.second
 
-    trigger-is : IsApart opening.cycle runs.trigger
-    trigger-is =
-        let least : 135 ≤ trigger_part layout = part-least (triggers_of layout.slots) in
-        let room = known.room in
-        record {
-          ends = omega (arith, trigger-ends, least, room);
-          apart = inl (omega (arith, trigger-ends, least));
-          guarded = inl (omega (arith, trigger-ends, least));
-        }
+    -- the frames are the trigger frames, and those behind them
+    split : frames ≡ triggers ++ runs.later
+    split = runs.all_frames
 
-    second-is : (sent : TimedFrame) → Contains frames sent → Contains runs.second sent → IsApart opening.cycle sent
-    second-is sent has second =
-        let behind_it = sent-behind layout.slots opening.cycle (width_of opening) opening.mask runs.trigger.frame (map (λ s. s.frame) runs.second) runs.are_triggers in
-        let is = later-room (triggers_of layout.slots) opening.cycle opening.mask sent.frame
-        (subst (λ fs. Contains fs sent.frame) behind_it (Contains-map (λ s. s.frame) runs.second sent second)) in
-        let short = eight-long sent.frame is.0 in
-        let least : 270 ≤ trigger_part layout = is.1 in
-        let behind = All-contains (λ s. s.start ≡ end_of runs.trigger) runs.second sent runs.at_once second in
+    trigger-is : (sent : TimedFrame) → Contains triggers sent → IsApart opening.cycle sent
+    trigger-is sent has =
+        let whole : All (λ s. s.len ≡ wire_length s.frame) triggers = λ k d within.
+        length-in (get_or triggers k d) (subst (λ fs. Contains fs (get_or triggers k d)) (sym split)
+        (Contains-append_left triggers runs.later (get_or triggers k d) (Contains-get_or triggers k d within))) in
+        let ended = All-contains (λ s. end_of s ≤ start_of layout opening + trigger_part layout) triggers sent
+        (triggers-in_part layout opening frames runs whole) has in
         let room = known.room in
-        record {
-          ends = omega (arith, trigger-ends, least, room, short, behind, length-in sent has);
-          apart = inl (omega (arith, trigger-ends, least, short, behind, length-in sent has));
-          guarded = inl (omega (arith, trigger-ends, least, short, behind, length-in sent has));
-        }
+        record { ends = omega (arith, ended, room); apart = inl (omega (arith, ended)); guarded = inl (omega (arith, ended)) }
 
     later-is : (sent : TimedFrame) → IsRequestFrame layout opening sent ⊎ IsSlotFrame layout opening sent → IsApart opening.cycle sent
     later-is sent (inl request) = record { ends = omega (arith, request.before); apart = inr request.after; guarded = inr (inl request.identifier) }
@@ -82,12 +59,9 @@ module _ (sends : Instance → List ℕ) (layout : CycleLayout) (known : IsLayou
 
     of-frame : (sent : TimedFrame) → Contains frames sent → IsApart opening.cycle sent
     of-frame sent has =
-        elim (Contains-cases runs.trigger (runs.second ++ runs.later) sent (subst (λ fs. Contains fs sent) runs.all_frames has)) [
-          | inl same ↦ subst (IsApart opening.cycle) same trigger-is
-          | inr behind ↦ elim (Contains-append_cases runs.second runs.later sent behind) [
-            | inl second ↦ second-is sent has second
-            | inr later ↦ later-is sent (All-contains (λ s. IsRequestFrame layout opening s ⊎ IsSlotFrame layout opening s) runs.later sent runs.all later)
-          ]
+        elim (Contains-append_cases triggers runs.later sent (subst (λ fs. Contains fs sent) split has)) [
+          | inl trigger ↦ trigger-is sent trigger
+          | inr later ↦ later-is sent (All-contains (λ s. IsRequestFrame layout opening s ⊎ IsSlotFrame layout opening s) runs.later sent runs.all later)
         ]
 
   in-cycle : (cycle : ℕ) → cycle < count → (sent : TimedFrame) → Contains trace sent → cycle_of layout sent ≡ cycle → IsApart cycle sent

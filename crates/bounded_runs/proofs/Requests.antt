@@ -7,6 +7,7 @@ use Rattle.can_frame.proofs.Shared.{wire-positive}
 use Rattle.cycle_layout.specs.Layout.{CycleLayout}
 use Rattle.requirement_table.specs.Instance.{Instance}
 use Rattle.requirement_table.specs.Opening.{Opening, width_of}
+use Rattle.trigger_kind.specs.Kind.{greatest_trigger}
 use Rattle.trigger_codec.proofs.Shared.{low_ids}
 use Rattle.async_window.specs.declared.request.Request.{Request}
 use Rattle.async_window.specs.Waiting.{requests_of}
@@ -29,7 +30,7 @@ module _ (sends : Instance → List ℕ) (layout : CycleLayout) (requests : List
   from-offer : (opening : Opening) (sent : TimedFrame) → least_asynchronous ≤ sent.frame.identifier
       → offered_in sends layout requests opening (started_before sent.start trace) sent.start sent.frame → OfRequest sent
   from-offer opening sent high (inl trigger) =
-      let low = All-contains (λ f. f.identifier ≤ 1) (trigger_frames layout opening) sent.frame
+      let low = All-contains (λ f. f.identifier ≤ greatest_trigger) (trigger_frames layout opening) sent.frame
       (low_ids layout.slots opening.cycle (width_of opening) opening.mask)
       trigger.among in
       absurd (omega (arith, high, low))

@@ -9,8 +9,10 @@ use Rattle.requirement_table.specs.declared.entries.Placed.{Placed}
 use Rattle.requirement_table.specs.Instance.{Instance, MaySend, instance_of, worst, worst_of}
 use Rattle.bit_sets.specs.Sets.{most_slots}
 use Rattle.requirement_table.specs.Table.{IsInRange, IsWellPlaced, instance_in, sendable, width_in, worst_in}
-use Rattle.requirement_table.proofs.Shared.{MaySend-from_instance, instance_in-sound, one_instance}
+use Rattle.requirement_table.proofs.Shared.{MaySend-from_instance, instance_in-not_over, instance_in-sound, one_instance}
 use Rattle.bit_sets.proofs.Shared.{sum_where-costs, sum_where-most, sum_where-add, sum_where-one}
+use Rattle.change_protocol.specs.Pruned.{pruned}
+use Rattle.change_protocol.proofs.Shared.{not_over-pruned}
 use Rattle.bus_trace.specs.Logged.{cost_in}
 
 -- Sums
@@ -123,8 +125,16 @@ pub width-none : (c : ℕ) (flagged : ℕ → Bool) → width_in [] c flagged �
 width-none c flagged = let none = sum_where-most most_slots 0 flagged (worst_in [] c) (λ s below. omega arith) in omega arith
 
 -- lists with the same instances in a cycle
-pub width-same : (left placed : List Placed) (c : ℕ) (flagged : ℕ → Bool)
+width-same : (left placed : List Placed) (c : ℕ) (flagged : ℕ → Bool)
     → ((slot : ℕ) → instance_in left slot c ≡ instance_in placed slot c)
     → width_in left c flagged ≡ width_in placed c flagged
 width-same left placed c flagged same =
     sum_where-costs most_slots flagged (worst_in left c) (worst_in placed c) (λ s below _. ap (λ o. option_map_or worst_of o 0) (same s))
+
+-- such are a list and the same list pruned by that cycle or an earlier one
+pub width-pruned : (by c : ℕ) (placed : List Placed) (flagged : ℕ → Bool) → by ≤ c → width_in (pruned by placed) c flagged ≡ width_in placed c flagged
+width-pruned by c placed flagged before =
+    width-same (pruned by placed) placed c flagged (λ slot.
+    sym (instance_in-not_over c (pruned by placed) slot c (omega arith))
+    ∙ ap (λ l. instance_in l slot c) (not_over-pruned by c placed before)
+    ∙ instance_in-not_over c placed slot c (omega arith))

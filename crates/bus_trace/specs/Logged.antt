@@ -1,5 +1,5 @@
--- What is written of a log while it is made: which events are done, which frames are left, and which entries may still
--- be sent.
+-- What is written of a log while it is made: which events are done, which frames are left, and which entries are still
+-- needed.
 use Rattle.std.specs.Prelude.{◌≡◌, ℕ, ◌^◌, ◌<◌, ◌≤◌, ◌==◌, ◌&&◌}
 use Rattle.std.specs.Prelude.{Bool, true, is_some, if◌then◌else◌, List, [], ◌∷◌}
 use Rattle.profile.specs.Limits.{most_nodes}
@@ -7,10 +7,11 @@ use Rattle.can_frame.specs.declared.data_frame.TimedFrame.{TimedFrame}
 use Rattle.requirement_table.specs.declared.entries.Placed.{Placed}
 use Rattle.requirement_table.specs.Instance.{instance_of, worst}
 use Rattle.bit_sets.specs.Sets.{has_bit, most_slots}
-use Rattle.requirement_table.specs.Table.{IsWellPlaced, instance_in, width_in}
+use Rattle.requirement_table.specs.Table.{IsWellPlaced, width_in}
 use Rattle.change_protocol.specs.declared.operations.Change.{Change}
 use Rattle.change_protocol.specs.Malformed.{Bounds, IsWellFormed}
 use Rattle.admission.specs.Verdict.{is_accepted}
+use Rattle.master_core.specs.Cores.{IsPrunedBefore}
 use Rattle.master_core.specs.declared.event.Event.{Event}
 use Rattle.master_core.specs.declared.event.Event.TheVariants.{Submit, Look, Open}
 use Rattle.bus_trace.specs.EventRows.{rows_at, told_at}
@@ -83,12 +84,11 @@ IsFormedIn placed (Submit caller change from verdict trail) = is_accepted verdic
 IsFormedIn placed (Look caller next) = Unit {0}
 IsFormedIn placed (Open cycle mask) = Unit {0}
 
--- these are the placed entries, and those among which each slot finds its instance in the cycles from `next` on
-pub record HasEntries (list : List Placed) (next : ℕ) (placed left : List Placed) : Type 0 where
-  pub all : placed ≡ list
-  pub well_placed : IsWellPlaced placed
-  pub left_well_placed : IsWellPlaced left
-  pub same : (slot c : ℕ) → next ≤ c → instance_in left slot c ≡ instance_in placed slot c
+-- these are of the placed entries those that are needed where no cycle before `next` is asked for: all but some that are
+-- over by then and stand before another one of their slot
+pub record HasEntries (list : List Placed) (next : ℕ) (kept : List Placed) : Type 0 where
+  pub held : IsPrunedBefore next list kept
+  pub well_placed : IsWellPlaced kept
 
 -- what an entry costs in a cycle, in bit times: the worst length of its frame, where its slot is flagged and an
 -- instance of it may be sent

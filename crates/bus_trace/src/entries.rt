@@ -1,63 +1,64 @@
-//! The placed entries at a place of a history, and what the flagged slots of a cycle cost. All lengths are bit times.
+//! The placed entries that are needed at a place of a history, and what the flagged slots of a cycle cost. All lengths
+//! are bit times.
 
-ghost use Rattle.std.specs.Prelude.{◌≡◌, ◌≤◌, ◌<◌, [], IfOk, OnOk, length};
+ghost use Rattle.std.specs.Prelude.{◌≡◌, ◌≤◌, ◌<◌, [], List, IfOk, OnOk, length};
+ghost use Rattle.requirement_table.specs.declared.entries.Placed.{Placed};
 ghost use Rattle.requirement_table.specs.Instance.{worst};
 ghost use Rattle.bit_sets.specs.Sets.{has_bit};
 ghost use Rattle.requirement_table.specs.Table.{IsInRange, IsWellPlaced, width_in};
 ghost use Rattle.change_protocol.specs.Applied.{applied};
 ghost use Rattle.bus_trace.specs.Logged.{HasEntries, IsFormed, cost_in};
 
+use admission::laws::pruned_lists;
 use change_protocol::laws::well_formed_changes;
-use change_protocol::{ApplyFault, Change, apply};
+use change_protocol::{ApplyFault, Change, apply, prune};
 use profile::MOST_NODES;
-use requirement_table::laws::entries_that_are_over;
-use requirement_table::{MOST_SLOTS, Mask, Placed, cost, current, not_over};
+use requirement_table::{MOST_SLOTS, Mask, Placed, cost, current};
 use std::alloc::{AllocError, Global};
 
-/// The placed entries at a place of a history.
+/// The placed entries at a place of a history, but for those that nothing later asks for.
 #[derive(Drop, Debug)]
 pub struct Entries {
-    /// All of them.
-    placed: Vec<Placed>,
-    /// Those that were not over when the last change was accepted: no other can have an instance to send any more.
-    left: Vec<Placed>,
+    /// Those that were not over when the last change was accepted, and the last one of each slot. No other can have an
+    /// instance to send any more, or be in the way of a later change.
+    kept: Vec<Placed>,
 }
 
 impl Entries {
     /// The entries before any change: none.
     pub fn new(alloc: Global) -> Entries
-        ensures entries { HasEntries [] 0 result.placed.items result.left.items }
+        ensures entries { HasEntries [] 0 result.kept.items }
     {
         Entries {
-            placed: Vec::new(alloc),
-            left: Vec::new(alloc),
+            kept: Vec::new(alloc),
         }
     }
 
-    /// Applies a change that was accepted when `next` was the next cycle to be opened.
+    /// Applies a change that was accepted when `next` was the next cycle to be opened. It costs time linear in the
+    /// entries that are kept.
     ///
     /// # Errors
     ///
     /// Only where memory runs out.
     pub fn accept(&mut self, alloc: Global, change: &Change, next: u64) -> Result<(), AllocError>
-        requires placed { IsWellPlaced self.old.placed.items }
-        requires formed { IsFormed self.old.placed.items change.now }
-        ensures entries { OnOk result
-            (HasEntries (applied self.old.placed.items change.now) next self.new.placed.items self.new.left.items) }
+        requires well_placed { IsWellPlaced self.old.kept.items }
+        requires formed { IsFormed self.old.kept.items change.now }
+        ensures entries { OnOk result ((list : List Placed) → HasEntries list next self.old.kept.items
+            → HasEntries (applied list change.now) next self.new.kept.items) }
     {
-        let placed = after_change(alloc, self.placed.as_slice(), change)?;
-        entries_that_are_over();
-        self.left = not_over(alloc, placed.as_slice(), next)?;
-        self.placed = placed;
+        let mut list = after_change(alloc, self.kept.as_slice(), change)?;
+        pruned_lists();
+        prune(&mut list, next);
+        self.kept = list;
         Ok(())
     }
 
     /// The length of the synchronous window of a cycle in which these slots are flagged: their worst lengths together.
     pub fn width(&self, cycle: u64, mask: Mask) -> u32
-        requires left { IsWellPlaced self.now.left.items }
-        ensures width { result ≡ width_in self.now.left.items cycle (has_bit mask) }
+        requires kept { IsWellPlaced self.now.kept.items }
+        ensures width { result ≡ width_in self.now.kept.items cycle (has_bit mask) }
     {
-        width(self.left.as_slice(), cycle, mask)
+        width(self.kept.as_slice(), cycle, mask)
     }
 }
 

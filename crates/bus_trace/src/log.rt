@@ -40,8 +40,8 @@ fn frame_count(event: &Event, left: &[TimedFrame]) -> usize
 
 /// The length of the synchronous window of the cycle that an event opens, in bit times, or 0 where it opens none.
 fn opened_width(entries: &Entries, event: &Event) -> u32
-    requires left { IsWellPlaced entries.now.left.items }
-    ensures width { result ≡ width_with entries.now.left.items event.now }
+    requires kept { IsWellPlaced entries.now.kept.items }
+    ensures width { result ≡ width_with entries.now.kept.items event.now }
 {
     match event {
         Event::Submit { .. } => 0,
@@ -58,10 +58,10 @@ fn push_event(
     frames: &[TimedFrame],
 ) -> Result<(), AllocError>
     requires near { IsEventNear event.now }
-    requires left { IsWellPlaced entries.now.left.items }
+    requires kept { IsWellPlaced entries.now.kept.items }
     ensures ok { OnOk result
-        (rows.new.text.items ≡ rows.old.text.items ++ rows_with entries.now.left.items frames.now event.now) }
-    ensures in_range { OnOk result (All IsLogRow (told_with entries.now.left.items frames.now event.now)) }
+        (rows.new.text.items ≡ rows.old.text.items ++ rows_with entries.now.kept.items frames.now event.now) }
+    ensures in_range { OnOk result (All IsLogRow (told_with entries.now.kept.items frames.now event.now)) }
 {
     match put_rows(rows, event, opened_width(entries, event), frames) {
         Ok(()) => Ok(()),
@@ -76,11 +76,10 @@ fn place_event(
     event: &Event,
     next: u64,
 ) -> Result<(), AllocError>
-    requires placed { IsWellPlaced entries.old.placed.items }
-    requires formed { IsFormedIn entries.old.placed.items event.now }
-    ensures entries { OnOk result ((list : List Placed)
-        → HasEntries list next entries.old.placed.items entries.old.left.items
-        → HasEntries (placed_after list event.now) next entries.new.placed.items entries.new.left.items) }
+    requires well_placed { IsWellPlaced entries.old.kept.items }
+    requires formed { IsFormedIn entries.old.kept.items event.now }
+    ensures entries { OnOk result ((list : List Placed) → HasEntries list next entries.old.kept.items
+        → HasEntries (placed_after list event.now) next entries.new.kept.items) }
 {
     if let Event::Submit {
         change,

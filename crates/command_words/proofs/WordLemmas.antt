@@ -1,12 +1,13 @@
 -- What clap's getters read, by the rows of its matches.
-use Rattle.std.proofs.Common.{◌≡◌, ◌∙◌, ◌<◌, inl, inr, ◌^◌, ℕ, Bool, true, false, refl, sym, ap, List, [], ◌∷◌, length, codes, Option, Some, None, Result, Ok, Err, nat_lt, lt-ltb, ltb-true, unwrap_or}
+use Rattle.std.proofs.Common.{◌≡◌, ◌∙◌, ◌<◌, inl, inr, ◌^◌, ℕ, Bool, true, false, refl, sym, ap, List, [], ◌∷◌, fold, length, codes, Option, Some, None, Result, Ok, Err, nat_lt, lt-ltb, ltb-true, subst, unwrap_or}
 use Rattle.std.specs.Option.{option_map_or}
 use Rattle.std.specs.Result.{IsErrAnd}
-use Rattle.std.specs.Prelude.{◌⊎◌, IfErr, option_and_then}
+use Rattle.std.specs.Prelude.{◌⊎◌, if◌then◌else◌, IfErr, find, option_and_then}
 use Rattle.std.specs.List.{list_all}
 use Rattle.std.specs.Char.{digit_value}
 use Rattle.std.specs.Str.{bytes_eq}
 use Rattle.std.specs.Str.Parse.{AllDigits, IsNumeral, ParsesBool, ParsesUnsigned, digits_value, without_leading_plus}
+use Rattle.std.proofs.lemmas.Option.{same_Some}
 use Rattle.std.proofs.lemmas.Slice.Eq.{bytes_eq-Decides}
 use Rattle.clap.specs.Matches.{ReadsOne}
 use Rattle.clap.specs.ValueTests.{is_numeral}
@@ -18,8 +19,10 @@ use Rattle.clap.proofs.OnLiterals.{clap_on_literals}
 use Rattle.command_words.specs.declared.words.WordsFault.{WordsFault}
 use Rattle.command_words.specs.declared.words.WordsFault.TheVariants.{Memory, NoCommand}
 use Rattle.command_words.specs.WordsRead.{ExplainsWords}
+use Rattle.command_words.specs.declared.table.Argument.{Argument}
+use Rattle.command_words.specs.declared.table.Argument.TheVariants.{File, FileIf, Number, At, Tail, Report}
 use Rattle.command_words.specs.declared.table.Verb.{Verb}
-use Rattle.command_words.specs.Words.{command_meant, number_in, taken_by, verb_app}
+use Rattle.command_words.specs.Words.{Command, Found, arguments_of, bare_command, command_meant, is_named, number_in, taken_by, verb_app, verb_named, verbs, with_argument}
 
 is_true : {E : Type 0} (G : Text → Result Bool E → Type 0) (text : Text) (read : Option Bool)
     → ((t : Text) (x : Result Bool E) → G t x → ParsesBool t x) → ReadsOne G text read → unwrap_or read false ≡ bytes_eq text (codes "true")
@@ -108,27 +111,45 @@ refused app meaning words own (Err now) why same is (inr fault) =
     )
 
 -- clap's contract is exact of each row of the table
-pub verb_is_simple : (verb : Verb) → is_simple_and_free (verb_app verb) ≡ true
+all-simple : list_all (λ verb. is_simple_and_free (verb_app verb)) verbs ≡ true
 unfolding clap_on_literals verb_app
-verb_is_simple Verb.Replay = refl
-verb_is_simple Verb.Admit = refl
-verb_is_simple Verb.Check = refl
-verb_is_simple Verb.Generate = refl
-verb_is_simple Verb.Live = refl
-verb_is_simple Verb.Audit = refl
-verb_is_simple Verb.Handover = refl
-verb_is_simple Verb.Poll = refl
-verb_is_simple Verb.Elastic = refl
+all-simple = refl
+
+-- what holds of each command holds of the one that is found
+found-has : (test has : Verb → Bool) (list : List Verb) (verb : Verb) → find test list ≡ Some verb → list_all has list ≡ true
+    → has verb ≡ true
+found-has test has [] verb found all = absurd (cc)
+found-has test has (first ∷ rest) verb found all = go (found-has test has rest verb) (test first) refl
+  where
+    go : (find test rest ≡ Some verb → list_all has rest ≡ true → has verb ≡ true) → (is : Bool) → test first ≡ is → has verb ≡ true
+    go later true is =
+        let same = subst (λ (b : Bool). (if b then Some first else find test rest) ≡ Some verb) is found in
+        subst (λ it. has it ≡ true) (same_Some first verb same) (both _ _ all).0
+    go later false is =
+        later (subst (λ (b : Bool). (if b then Some first else find test rest) ≡ Some verb) is found) (both _ _ all).1
+
+-- so it is of the one that a word names
+pub named_simple : (threads : Bool) (name : Text) (verb : Verb) → Some verb ≡ verb_named threads name
+    → is_simple_and_free (verb_app verb) ≡ true
+named_simple threads name verb named =
+    found-has (is_named threads name) (λ it. is_simple_and_free (verb_app it)) verbs verb (sym named) all-simple
+
+-- an argument leaves the command what it is
+argument-verb : (rows : Found) (command : Command) (argument : Argument) → (with_argument rows command argument).verb ≡ command.verb
+argument-verb rows command (File source) = refl
+argument-verb rows command (FileIf source) = refl
+argument-verb rows command Number = refl
+argument-verb rows command At = refl
+argument-verb rows command Tail = refl
+argument-verb rows command Report = refl
+
+arguments-verb : (rows : Found) (arguments : List Argument) (command : Command)
+    → (fold (with_argument rows) command arguments).verb ≡ command.verb
+arguments-verb rows [] command = refl
+arguments-verb rows (argument ∷ rest) command =
+    arguments-verb rows rest (with_argument rows command argument) ∙ argument-verb rows command argument
 
 -- a command is that of its row
-pub meant-verb : (verb : Verb) (rows : List Row) → (command_meant verb rows).verb ≡ verb
+pub meant-verb : (verb : Verb) (rows : Found) → (command_meant verb rows).verb ≡ verb
 unfolding command_meant
-meant-verb Verb.Replay rows = refl
-meant-verb Verb.Admit rows = refl
-meant-verb Verb.Check rows = refl
-meant-verb Verb.Generate rows = refl
-meant-verb Verb.Live rows = refl
-meant-verb Verb.Audit rows = refl
-meant-verb Verb.Handover rows = refl
-meant-verb Verb.Poll rows = refl
-meant-verb Verb.Elastic rows = refl
+meant-verb verb rows = arguments-verb rows (arguments_of verb) (bare_command verb)

@@ -1,7 +1,8 @@
 //! The table of commands: a row for each, with its word, and with its files and options in their order.
 
 ghost use Rattle.std.specs.Prelude.{◌≡◌, true, IfSome};
-ghost use Rattle.command_words.specs.Words.{arguments_of, is_named, limit_of, needs_threads, source_word, usage, verb_named, verb_word};
+ghost use Rattle.clap.specs.Words.{is_simple_and_free};
+ghost use Rattle.command_words.specs.Words.{arguments_of, is_named, limit_of, needs_threads, source_word, usage, verb_app, verb_named, verb_word};
 
 /// The files that a command reads.
 #[derive(Clone, Copy, PartialEq, Eq, Debug)]
@@ -174,6 +175,8 @@ impl Verb {
     pub fn named(threads: bool, name: &str) -> Option<Verb>
         ensures verb { result ≡ verb_named threads name.now }
         ensures carried { IfSome result (λ verb. needs_threads verb ≡ threads) }
+        // Of its row clap's contract is exact.
+        ensures simple { IfSome result (λ verb. is_simple_and_free (verb_app verb) ≡ true) }
     {
         let mut left = VERBS;
         while let Some((verb, rest)) = left.split_first() {

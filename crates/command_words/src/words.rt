@@ -198,6 +198,7 @@ fn read_command<'a>(
 
 /// What the words of this command ask for.
 fn command_named(alloc: Global, verb: Verb, words: &[String]) -> Result<Command<'_>, WordsFault>
+    requires simple { is_simple_and_free (verb_app verb) ≡ true }
     ensures ok { IfOk result (λ command. Some (command_read command)
         ≡ taken_by (verb_app verb) (command_meant verb) (map string_bytes words.now)) }
     ensures row { IfOk result (λ command. IsOfRow command.verb (command_read command)) }

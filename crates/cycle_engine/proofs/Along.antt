@@ -16,8 +16,8 @@ use Rattle.bus_line.specs.Trace.{Follows, IsNext, NothingOffered, end_of, free_a
 use Rattle.bus_line.specs.Stations.{IsOffered, offers_of, told}
 use Rattle.requirement_table.specs.Opening.{Opening, width_of}
 use Rattle.node_model.specs.Opening.{end_of_cycle, start_of}
-use Rattle.trigger_kind.specs.Kind.{opening_identifier, triggers_of}
-use Rattle.trigger_kind.proofs.Shared.{opening-low}
+use Rattle.trigger_kind.specs.Kind.{greatest_trigger}
+use Rattle.trigger_kind.proofs.Shared.{above-opens_not}
 use Rattle.node_model.specs.Node.{IsNode, NodeState, after_hearing, identifiers_of}
 use Rattle.node_model.specs.Offered.{OffersRequest, trigger_frames}
 use Rattle.async_window.specs.Owners.{AreOwners}
@@ -49,10 +49,6 @@ IsOwned-kept owners nodes sent request is = record {
   node = IsNumber-kept nodes sent is.owner.node is.node;
 }
 
--- a frame that is no trigger frame opens no cycle
-pub opens_not : (slots id : ℕ) → 1 < id → id ≡ opening_identifier slots → ⊥
-opens_not slots id high same = let low = opening-low (triggers_of slots) in omega (arith, same, high, low)
-
 HaveSenders-kept : (opening : Opening) (nodes : List NodeState) (sent : TimedFrame) → HaveSenders nodes opening → HaveSenders (all_hear nodes sent) opening
 HaveSenders-kept opening nodes sent senders slot within flagged =
     let sender = senders slot within flagged in (sender.0, sender.1, IsNumber-kept nodes sent sender.0.placed.entry.node sender.2)
@@ -80,10 +76,10 @@ pub record Standing (layout : CycleLayout) (owners : List Owner) (requests : Lis
 module _ (layout : CycleLayout) (owners : List Owner) (requests : List Request) (opening : Opening)
     (are_owners : AreOwners owners) (well_placed : IsWellPlaced opening.placed) where
   -- nodes that hear one more frame of the cycle
-  Standing-more : (past : List TimedFrame) (nodes : List NodeState) (sent : TimedFrame) → 1 < sent.frame.identifier → start_of layout opening ≤ sent.start
+  Standing-more : (past : List TimedFrame) (nodes : List NodeState) (sent : TimedFrame) → greatest_trigger < sent.frame.identifier → start_of layout opening ≤ sent.start
       → Standing layout owners requests opening past nodes → Standing layout owners requests opening (past ++ sent ∷ []) (all_hear nodes sent)
   Standing-more past nodes sent other begun standing = record {
-    are = All-map IsNode (λ node. after_hearing node sent) nodes (All-weaker IsNode (λ node. IsNode (after_hearing node sent)) (λ node is. node-hearing node sent (λ opens. absurd (opens_not node.layout.slots sent.frame.identifier other opens)) is) nodes standing.are);
+    are = All-map IsNode (λ node. after_hearing node sent) nodes (All-weaker IsNode (λ node. IsNode (after_hearing node sent)) (λ node is. node-hearing node sent (λ opens. absurd (above-opens_not node.layout.slots sent.frame.identifier other opens)) is) nodes standing.are);
     stand = All-map (StandsIn layout owners requests opening (past ++ sent ∷ [])) (λ node. after_hearing node sent) nodes
         (All-weaker (StandsIn layout owners requests opening past) (λ node. StandsIn layout owners requests opening (past ++ sent ∷ []) (after_hearing node sent))
         (λ node. stands-later layout owners requests opening past sent node are_owners well_placed other begun) nodes standing.stand);
@@ -97,7 +93,7 @@ module _ (layout : CycleLayout) (owners : List Owner) (requests : List Request) 
       let here : at / layout.cycle ≡ opening.cycle = div-eq_of_lt-le layout.cycle begun within in
       λ k d inside. offers_own_part layout owners requests opening past at (get_or nodes k d) (standing.are k d inside) well_placed (standing.stand k d inside) here
 
-  own_id : (number : ℕ) (past : List TimedFrame) (at : ℕ) (frame : DataFrame) → OffersOwn number layout owners requests opening past at frame → 1 < frame.identifier
+  own_id : (number : ℕ) (past : List TimedFrame) (at : ℕ) (frame : DataFrame) → OffersOwn number layout owners requests opening past at frame → greatest_trigger < frame.identifier
   own_id number past at frame (inl (offers, contains)) =
       let least = All-map (λ id. 0x200 ≤ id) (λ owner. owner.id) _ (All-filter (λ owner. owner.node == number) (λ owner. 0x200 ≤ owner.id) owners are_owners.least) in
       omega (arith, All-contains (λ id. 0x200 ≤ id) (identifiers_of number owners) frame.identifier least contains)
@@ -116,7 +112,7 @@ module _ (layout : CycleLayout) (owners : List Owner) (requests : List Request) 
   IsNext-nodes : (before : Stationed) (sofar past : List TimedFrame) (nodes : List NodeState) (free : ℕ) (sent : TimedFrame) → told cycle_line before sofar ≡ nodes_alone layout nodes
       → Standing layout owners requests opening past nodes → NoTrigger layout opening past → start_of layout opening ≤ free
       → IsNext (offers_of cycle_line before) sofar free (end_of_cycle layout opening) sent
-      → IsNext (offered_in bytes_of layout requests opening) past free (end_of_cycle layout opening) sent × (1 < sent.frame.identifier)
+      → IsNext (offered_in bytes_of layout requests opening) past free (end_of_cycle layout opening) sent × (greatest_trigger < sent.frame.identifier)
   IsNext-nodes before sofar past nodes free sent now standing none begun next =
       let behind : start_of layout opening ≤ sent.start = omega (arith, begun, next.when_free) in
       let parts = parts_at past nodes sent.start behind next.within standing in
@@ -179,7 +175,7 @@ part-within layout opening is = omega (arith, add-mul opening.cycle 1 layout.cyc
 module _ (layout : CycleLayout) (owners : List Owner) (requests : List Request) (opening : Opening)
     (are_owners : AreOwners owners) (well_placed : IsWellPlaced opening.placed) (past : List TimedFrame) (nodes : List NodeState)
     (waiting : Waiting layout owners requests opening past nodes) where
-  asynchronous : (before : List TimedFrame) (at : ℕ) (other : DataFrame) → OffersRequest layout requests opening before at other → 1 < other.identifier
+  asynchronous : (before : List TimedFrame) (at : ℕ) (other : DataFrame) → OffersRequest layout requests opening before at other → greatest_trigger < other.identifier
   asynchronous before at other offers =
       let own = IsOwn-request layout owners requests opening before at nodes waiting.owned other offers in
       own_id layout owners requests opening are_owners well_placed own.0.number before at other own.2

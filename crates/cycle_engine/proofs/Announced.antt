@@ -11,7 +11,7 @@ use Rattle.cycle_layout.specs.Layout.{CycleLayout}
 use Rattle.trigger_codec.specs.Bytes.{triggers_with}
 use Rattle.bus_line.specs.Trace.{Follows, IsNext, end_of, free_after}
 use Rattle.bus_line.specs.Stations.{IsOffered, offers_of, told}
-use Rattle.trigger_kind.specs.Kind.{opening_identifier}
+use Rattle.trigger_kind.specs.Kind.{greatest_trigger, opening_identifier}
 use Rattle.node_model.specs.Node.{IsNode, NodeState, after_hearing, node_offer}
 use Rattle.node_model.proofs.Shared.{node-hearing, offers-in_range}
 use Rattle.cycle_engine.specs.Nodes.{heard_by}
@@ -67,7 +67,7 @@ pub record GoFirst (layout : CycleLayout) (frames : List DataFrame) (nodes : Lis
 
 -- trigger frames that nodes can hear: none but the last one opens a cycle, and each is short
 pub record CanBeHeard (layout : CycleLayout) (frames : List DataFrame) (nodes : List NodeState) : Type 0 where
-  pub first : All (λ frame. frame.identifier ≤ 1) frames
+  pub first : All (λ frame. frame.identifier ≤ greatest_trigger) frames
   pub last : AllPairs (λ one other. one.identifier ≢ opening_identifier layout.slots) frames
   pub short : All (λ frame. wire_length frame ≤ 135) frames
   pub are : All IsNode nodes
@@ -109,7 +109,7 @@ module _ (layout : CycleLayout) (low : ℕ) where
 
   -- it is sent at once
   pub first_announced : (frame : DataFrame) (later : List DataFrame) (nodes : List NodeState) (before : Stationed) (sofar : List TimedFrame) (free until : ℕ) (sent : TimedFrame)
-      → low ≤ free → frame.identifier ≤ 1 → All IsNode nodes → told cycle_line before sofar ≡ announced layout low (frame ∷ later) nodes
+      → low ≤ free → frame.identifier ≤ greatest_trigger → All IsNode nodes → told cycle_line before sofar ≡ announced layout low (frame ∷ later) nodes
       → IsNext (offers_of cycle_line before) sofar free until sent → StartAt free sent × (sent.frame ≡ frame)
   first_announced frame later nodes before sofar free until sent late first are now next =
       let waiting = announced layout low (frame ∷ later) nodes in
@@ -139,7 +139,7 @@ module _ (layout : CycleLayout) (low : ℕ) where
   CanBeHeard-more frame later nodes sent is can =
       let early = can.next (λ none. absurd (cc)) in
       record {
-        first = All-tail (λ f. f.identifier ≤ 1) frame later can.first;
+        first = All-tail (λ f. f.identifier ≤ greatest_trigger) frame later can.first;
         last = AllPairs-tail (λ one other. one.identifier ≢ opening_identifier layout.slots) frame later can.last;
         short = All-tail (λ f. wire_length f ≤ 135) frame later can.short;
         are = All-map IsNode (λ node. after_hearing node sent) nodes (λ k d within. node-hearing (get_or nodes k d) sent (λ _. early k d within) (can.are k d within));
@@ -168,7 +168,7 @@ module _ (layout : CycleLayout) (low : ℕ) where
   go-first (frame ∷ rest) nodes before sofar free until [] late room can now nothing =
       absurd (nothing free frame (omega arith) (omega (arith, room)) (subst (λ s. IsOffered cycle_line s free frame) (sym now) (offers_announced frame rest nodes free late)))
   go-first (frame ∷ rest) nodes before sofar free until (sent ∷ all) late room can now (next, follows) =
-      let first = first_announced frame rest nodes before sofar free until sent late (All-head (λ f. f.identifier ≤ 1) frame rest can.first) can.are now next in
+      let first = first_announced frame rest nodes before sofar free until sent late (All-head (λ f. f.identifier ≤ greatest_trigger) frame rest can.first) can.are now next in
       let starts : StartAt free sent = first.0 in
       let is : sent.frame ≡ frame = first.1 in
       let long : wire_length frame ≤ 135 = All-head (λ f. wire_length f ≤ 135) frame rest can.short in

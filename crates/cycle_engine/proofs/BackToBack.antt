@@ -22,7 +22,7 @@ use Rattle.node_model.specs.Window.{IsInWindow, due_frame, is_due_slot}
 use Rattle.node_model.proofs.Shared.{due-kept, frame-kept, frames-due, node-hearing, offers-due, stays-in_window}
 use Rattle.cycle_engine.specs.Stations.{Stationed, all_hear, cycle_line, frame_by_nodes, offered_by_nodes, offers_this}
 use Rattle.cycle_engine.specs.SyncWindow.{back_to_back, by_slots, due_by, due_frames, nodes_alone, sent_at}
-use Rattle.cycle_engine.proofs.Along.{opens_not}
+use Rattle.trigger_kind.proofs.Shared.{above-opens_not}
 use Rattle.cycle_engine.proofs.Lists.{Contains-filter_map, Contains-from_filter_map, Contains-here, Contains-later, filter_map-none}
 
 -- no slot below this one is due
@@ -147,7 +147,7 @@ module _ (from until : ℕ) where
       let node = get_or nodes j d in
       let was = all j d inside in
       record {
-        known = node-hearing node sent (λ opens. absurd (opens_not node.layout.slots sent.frame.identifier (omega (arith, is)) opens)) was.known;
+        known = node-hearing node sent (λ opens. absurd (above-opens_not node.layout.slots sent.frame.identifier (omega (arith, is)) opens)) was.known;
         in_window = stays-in_window node from until sent (omega (arith, is)) was.in_window;
         later = λ slot below. elim (cases_eq slot k) [
           | inl here ↦ due-kept node k slot sent was.known is within (omega (arith, here, within))

@@ -1,6 +1,6 @@
 -- What no frame changes in a node, and which frame opens its next cycle.
 use Rattle.std.proofs.Common.{◌≡◌, ◌≢◌, ℕ, ◌+◌, Bool, true, false, cond, List, [], ◌∷◌, refl, ◌∙◌}
-use Rattle.std.specs.Prelude.{◌==◌, fold}
+use Rattle.std.specs.Prelude.{◌==◌, fold, nat_lt}
 use Rattle.std.proofs.lemmas.Bool.{eq-eqb, ne_eqb}
 use Rattle.can_frame.specs.declared.data_frame.TimedFrame.{TimedFrame}
 use Rattle.trigger_kind.specs.Kind.{opening_identifier}
@@ -18,7 +18,7 @@ module _ (node : NodeState) (sent : TimedFrame) where
   opens = sent.frame.identifier == opening_identifier node.layout.slots
 
   abbrev notes : Bool
-  notes = sent.frame.identifier == 0
+  notes = nat_lt sent.frame.identifier (opening_identifier node.layout.slots)
 
   abbrev marks : Bool
   marks = is_own_slot node.entries sent.frame.identifier

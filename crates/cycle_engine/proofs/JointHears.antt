@@ -1,6 +1,6 @@
 -- What the joint node hears, each of its parts hears.
 use Rattle.std.proofs.Common.{◌≡◌, ℕ, ◌+◌, ◌-◌, ◌<◌, ◌≤◌, ◌&&◌, ◌||◌, ◌==◌, Bool, true, false, cond, List, [], ◌∷◌, ◌++◌, drop, All, Option, None, Some, refl, sym, ap, ◌∙◌, arith}
-use Rattle.std.specs.Prelude.{fold}
+use Rattle.std.specs.Prelude.{fold, nat_lt}
 use Rattle.std.specs.Option.{option_map}
 use Rattle.std.proofs.lemmas.Bool.{eqb-true, lt-ltb, false≢true}
 use Rattle.std.proofs.lemmas.List.Sums.{fold-append}
@@ -105,7 +105,8 @@ part_with owners placed number joint opened = record (part_of owners placed join
 
 entries_kept : (node : NodeState) (sent : TimedFrame) → (after_hearing node sent).entries ≡ node.entries
 entries_kept node sent =
-    kept_by (λ n. n.entries ≡ node.entries) (sent.frame.identifier == opening_identifier node.layout.slots) (sent.frame.identifier == 0)
+    kept_by (λ n. n.entries ≡ node.entries) (sent.frame.identifier == opening_identifier node.layout.slots)
+    (nat_lt sent.frame.identifier (opening_identifier node.layout.slots))
     (is_own_slot node.entries sent.frame.identifier) _ _ _ _ refl refl refl refl
 
 pub entries_kept_all : (sent : List TimedFrame) (node : NodeState) → (fold after_hearing node sent).entries ≡ node.entries
@@ -176,7 +177,7 @@ module _ (taken : (id : ℕ) (mail : List Mail) (other : ℕ)
   loose-hears joint opened sent same =
       let counting : NodeState = record joint { frames = counted joint.frames } in
       let id = sent.frame.identifier in
-      loose sent.frame (id == opening_identifier joint.layout.slots) (id == 0) (is_own_slot entries id) (is_own_slot joint.entries id) counting opened
+      loose sent.frame (id == opening_identifier joint.layout.slots) (nat_lt id (opening_identifier joint.layout.slots)) (is_own_slot entries id) (is_own_slot joint.entries id) counting opened
       (own-all joint id same) (own-low joint id same)
 
   pub part-hears : (joint : NodeState) (sent : TimedFrame) → joint.entries ≡ joint_entries placed
@@ -184,7 +185,7 @@ module _ (taken : (id : ℕ) (mail : List Mail) (other : ℕ)
   part-hears joint sent same =
       let counting : NodeState = record joint { frames = counted joint.frames } in
       let id = sent.frame.identifier in
-      strict sent.frame (id == opening_identifier joint.layout.slots) (id == 0) (is_own_slot entries id) (is_own_slot joint.entries id) counting refl
+      strict sent.frame (id == opening_identifier joint.layout.slots) (nat_lt id (opening_identifier joint.layout.slots)) (is_own_slot entries id) (is_own_slot joint.entries id) counting refl
       (own-all joint id same) (own-low joint id same)
 
   loose-all : (sent : List TimedFrame) (joint : NodeState) (opened : Option Opened) → joint.entries ≡ joint_entries placed

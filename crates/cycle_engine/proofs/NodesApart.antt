@@ -10,7 +10,7 @@ use Rattle.cycle_layout.specs.Layout.{CycleLayout}
 use Rattle.bus_line.specs.Stations.{told}
 use Rattle.requirement_table.specs.declared.entries.Placed.{Placed}
 use Rattle.requirement_table.specs.Table.{IsWellPlaced}
-use Rattle.trigger_kind.specs.Kind.{opening_identifier}
+use Rattle.trigger_kind.specs.Kind.{greatest_trigger, opening_identifier}
 use Rattle.node_model.specs.Node.{IsNode, NodeState, after_hearing, learnt, node_offer}
 use Rattle.trigger_codec.specs.Bytes.{triggers_with}
 use Rattle.node_model.specs.Own.{AreApart}
@@ -21,7 +21,7 @@ use Rattle.cycle_engine.proofs.Lists.{AllPairs-cons, AllPairs-filter_map, AllPai
 use Rattle.cycle_engine.proofs.Hearing.{layout_kept, next_kept, number_kept}
 use Rattle.cycle_engine.proofs.Announced.{of_some, offers_range, only_id}
 use Rattle.cycle_engine.proofs.TriggerFrames.{low_ids, opens_last}
-use Rattle.cycle_engine.proofs.Along.{opens_not}
+use Rattle.trigger_kind.proofs.Shared.{above-opens_not}
 
 -- nodes that change, and keep their numbers and layouts
 AreNodes-changed : (layout : CycleLayout) (nodes : List NodeState) (f : NodeState → NodeState) → AreNodes layout nodes → All (λ node. IsNode node → IsNode (f node)) nodes
@@ -51,38 +51,38 @@ AreNodes-hearing layout nodes sent next before =
 
 -- the same behind frames that are no trigger frames
 pub AreNodes-told : (layout : CycleLayout) (frames : List TimedFrame) (before : Stationed)
-    → All (λ sent. 1 < sent.frame.identifier) frames → AreNodes layout before.nodes → AreNodes layout (told cycle_line before frames).nodes
+    → All (λ sent. greatest_trigger < sent.frame.identifier) frames → AreNodes layout before.nodes → AreNodes layout (told cycle_line before frames).nodes
 AreNodes-told layout [] before none are = are
 AreNodes-told layout (sent ∷ later) before none are =
-    let other = All-head (λ one. 1 < one.frame.identifier) sent later none in
-    AreNodes-told layout later (cycle_line.next before sent) (All-tail (λ one. 1 < one.frame.identifier) sent later none)
+    let other = All-head (λ one. greatest_trigger < one.frame.identifier) sent later none in
+    AreNodes-told layout later (cycle_line.next before sent) (All-tail (λ one. greatest_trigger < one.frame.identifier) sent later none)
     (AreNodes-hearing layout before.nodes sent
-    (λ k d _ opens. absurd (opens_not (get_or before.nodes k d).layout.slots sent.frame.identifier other opens)) are)
+    (λ k d _ opens. absurd (above-opens_not (get_or before.nodes k d).layout.slots sent.frame.identifier other opens)) are)
 
 -- no trigger frame is left
 pub AreStations-alone : (layout : CycleLayout) (nodes : List NodeState) → AreNodes layout nodes → AreStations (nodes_alone layout nodes)
 AreStations-alone layout nodes are = record {
   nodes = are;
-  triggers = record { low = All-nil (λ (due : DueTrigger). due.frame.identifier ≤ 1); last = λ i j d before within. absurd (omega arith) };
+  triggers = record { low = All-nil (λ (due : DueTrigger). due.frame.identifier ≤ greatest_trigger); last = λ i j d before within. absurd (omega arith) };
   next = λ some. absurd (some refl);
 }
 
 -- a frame with an identifier of a trigger frame is that of the first of them
 first_offered : (b : Bool) (due : DueTrigger) (nodes : List NodeState) (at id : ℕ) → All IsNode nodes
-    → Contains (cond b (due.frame.identifier ∷ []) [] ++ offered_by_nodes nodes at) id → id ≤ 1 → due.frame.identifier ≡ id
+    → Contains (cond b (due.frame.identifier ∷ []) [] ++ offered_by_nodes nodes at) id → id ≤ greatest_trigger → due.frame.identifier ≡ id
 first_offered b due nodes at id are has low = elim (Contains-append_cases (cond b (due.frame.identifier ∷ []) []) (offered_by_nodes nodes at) id has) [
   | inl here ↦ only_id b due.frame.identifier id here
   | inr there ↦ absurd (omega (arith, low, (All-contains (λ n. (0x100 ≤ n) × (n ≤ 0x7EF)) (offered_by_nodes nodes at) id (offers_range nodes at are) there).0))
 ]
 
 pub is_first : (triggers : List DueTrigger) (nodes : List NodeState) (at id : ℕ) → All IsNode nodes
-    → Contains (offered_trigger triggers at ++ offered_by_nodes nodes at) id → id ≤ 1
+    → Contains (offered_trigger triggers at ++ offered_by_nodes nodes at) id → id ≤ greatest_trigger
     → (due : DueTrigger) × (later : List DueTrigger) × (triggers ≡ due ∷ later) × (due.frame.identifier ≡ id)
 is_first [] nodes at id are has low =
     absurd (omega (arith, low, (All-contains (λ n. (0x100 ≤ n) × (n ≤ 0x7EF)) (offered_by_nodes nodes at) id (offers_range nodes at are) has).0))
 is_first (due ∷ later) nodes at id are has low = (due, later, refl, first_offered (nat_le due.at at) due nodes at id are has low)
 
-trigger_alone : (b : Bool) (id : ℕ) (back : List ℕ) → id ≤ 1 → All (λ n. (0x100 ≤ n) × (n ≤ 0x7EF)) back → AreDistinct back
+trigger_alone : (b : Bool) (id : ℕ) (back : List ℕ) → id ≤ greatest_trigger → All (λ n. (0x100 ≤ n) × (n ≤ 0x7EF)) back → AreDistinct back
     → AreDistinct (cond b (id ∷ []) [] ++ back) × All (λ n. n ≤ 0x7EF) (cond b (id ∷ []) [] ++ back)
 trigger_alone true id back low range distinct = (
   AllPairs-cons (λ a b. a ≢ b) id back (λ k d within same. omega (arith, low, same, (range k d within).0)) distinct,
@@ -90,12 +90,12 @@ trigger_alone true id back low range distinct = (
 )
 trigger_alone false id back low range distinct = (distinct, λ k d within. (range k d within).1)
 
-with_trigger : (triggers : List DueTrigger) (at : ℕ) (back : List ℕ) → All (λ due. due.frame.identifier ≤ 1) triggers
+with_trigger : (triggers : List DueTrigger) (at : ℕ) (back : List ℕ) → All (λ due. due.frame.identifier ≤ greatest_trigger) triggers
     → All (λ n. (0x100 ≤ n) × (n ≤ 0x7EF)) back → AreDistinct back
     → AreDistinct (offered_trigger triggers at ++ back) × All (λ n. n ≤ 0x7EF) (offered_trigger triggers at ++ back)
 with_trigger [] at back low range distinct = (distinct, λ k d within. (range k d within).1)
 with_trigger (due ∷ later) at back low range distinct =
-    trigger_alone (nat_le due.at at) due.frame.identifier back (All-head (λ x. x.frame.identifier ≤ 1) due later low) range distinct
+    trigger_alone (nat_le due.at at) due.frame.identifier back (All-head (λ x. x.frame.identifier ≤ greatest_trigger) due later low) range distinct
 
 pub offers-distinct : (stations : Stationed) (at : ℕ)
     → AreStations stations
@@ -118,7 +118,7 @@ module _ (layout : CycleLayout) where
   left-due : (due : DueTrigger) (later : List DueTrigger) (id : ℕ) (b : Bool) → (due.frame.identifier == id) ≡ b → AreDueTriggers layout (due ∷ later)
       → AreDueTriggers layout (cond b later (due ∷ later))
   left-due due later id true is are = record {
-    low = All-tail (λ x. x.frame.identifier ≤ 1) due later are.low;
+    low = All-tail (λ x. x.frame.identifier ≤ greatest_trigger) due later are.low;
     last = AllPairs-tail (λ one other. one.frame.identifier ≢ opening_identifier layout.slots) due later are.last;
   }
   left-due due later id false is are = are
@@ -150,8 +150,8 @@ module _ (layout : CycleLayout) where
       → Contains (offered_trigger triggers sent.start ++ offered_by_nodes nodes sent.start) sent.frame.identifier
       → AreStations (record { layout = layout; triggers = triggers; nodes = nodes })
       → All (λ node. sent.frame.identifier ≡ opening_identifier node.layout.slots → node.next < 2 ^ 42) nodes
-  can-hear triggers nodes sent has are = λ k d within opens. elim (cases_lt 1 sent.frame.identifier) [
-    | inl high ↦ absurd (opens_not (get_or nodes k d).layout.slots sent.frame.identifier high opens)
+  can-hear triggers nodes sent has are = λ k d within opens. elim (cases_lt greatest_trigger sent.frame.identifier) [
+    | inl high ↦ absurd (above-opens_not (get_or nodes k d).layout.slots sent.frame.identifier high opens)
     | inr low ↦
         let first = is_first triggers nodes sent.start sent.frame.identifier are.nodes.are has low in
         are.next (λ none. absurd (some_first first.0 first.1 (sym first.2 ∙ none))) k d within
@@ -168,9 +168,9 @@ module _ (layout : CycleLayout) where
   AreStations-told triggers nodes sent has are = record {
     nodes = AreNodes-hearing layout nodes sent (can-hear triggers nodes sent has are) are.nodes;
     triggers = AreDue-after triggers sent.frame.identifier are.triggers;
-    next = λ some. elim (cases_lt 1 sent.frame.identifier) [
+    next = λ some. elim (cases_lt greatest_trigger sent.frame.identifier) [
       | inl high ↦
-          next-kept_all nodes sent are.nodes.layouts (λ opens. opens_not layout.slots sent.frame.identifier high opens)
+          next-kept_all nodes sent are.nodes.layouts (λ opens. above-opens_not layout.slots sent.frame.identifier high opens)
           (are.next (some-before triggers sent.frame.identifier some))
       | inr low ↦
           let first = is_first triggers nodes sent.start sent.frame.identifier are.nodes.are has low in
@@ -183,7 +183,7 @@ module _ (layout : CycleLayout) where
 -- the trigger frames of a cycle may be the next ones
 pub AreDue-triggers : (layout : CycleLayout) (at cycle l mask : ℕ) → AreDueTriggers layout (due_from at (triggers_with layout.slots cycle l mask))
 AreDue-triggers layout at cycle l mask = record {
-  low = All-map (λ (due : DueTrigger). due.frame.identifier ≤ 1) (λ frame. record { at = at; frame = frame }) (triggers_with layout.slots cycle l mask) (low_ids layout.slots cycle l mask);
+  low = All-map (λ (due : DueTrigger). due.frame.identifier ≤ greatest_trigger) (λ frame. record { at = at; frame = frame }) (triggers_with layout.slots cycle l mask) (low_ids layout.slots cycle l mask);
   last = AllPairs-map (λ (one other : DueTrigger). one.frame.identifier ≢ opening_identifier layout.slots) (λ frame. record { at = at; frame = frame })
       (triggers_with layout.slots cycle l mask) (opens_last layout.slots cycle l mask);
 }

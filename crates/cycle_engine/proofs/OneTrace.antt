@@ -6,6 +6,7 @@ use Rattle.std.specs.List.{slice_get}
 use Rattle.std.proofs.lemmas.List.Elements.{All-contains, All-filter, All-drop}
 use Rattle.can_frame.specs.DataFrame.{DataFrame}
 use Rattle.can_frame.specs.declared.data_frame.TimedFrame.{TimedFrame}
+use Rattle.trigger_kind.specs.Kind.{greatest_trigger}
 use Rattle.cycle_layout.specs.Layout.{CycleLayout, IsLayout}
 use Rattle.async_window.specs.declared.request.Request.{Request}
 use Rattle.async_window.specs.Waiting.{requests_of, unsent_after, frames_with}
@@ -52,10 +53,10 @@ module _ (sends : Instance → List ℕ) (layout : CycleLayout) (requests : List
       (omega (arith, allowed.opened), omega (arith, allowed.whole))
   in_cycle is opening past at frame (inr (inr (slot, offers))) = (offers.begun, offers.within)
 
-  -- a trigger frame has the identifier 0 or 1, a request an asynchronous one, and a slot one between them
-  trigger_id : (opening : Opening) (past : List TimedFrame) (at : ℕ) (frame : DataFrame) → OffersTrigger layout opening past at frame → frame.identifier ≤ 1
+  -- a trigger frame has an identifier below those of others, a request an asynchronous one, and a slot one between them
+  trigger_id : (opening : Opening) (past : List TimedFrame) (at : ℕ) (frame : DataFrame) → OffersTrigger layout opening past at frame → frame.identifier ≤ greatest_trigger
   trigger_id opening past at frame offers =
-      All-contains (λ f. f.identifier ≤ 1) (trigger_frames layout opening) frame (low_ids layout.slots opening.cycle (width_of opening) opening.mask) offers.among
+      All-contains (λ f. f.identifier ≤ greatest_trigger) (trigger_frames layout opening) frame (low_ids layout.slots opening.cycle (width_of opening) opening.mask) offers.among
 
   pub request_id : AreAsynchronous requests → (opening : Opening) (past : List TimedFrame) (at : ℕ) (frame : DataFrame)
       → OffersRequest layout requests opening past at frame → 0x200 ≤ frame.identifier

@@ -1,6 +1,6 @@
 -- The parts of the joint node as a list of nodes.
 use Rattle.std.proofs.Common.{◌≡◌, ℕ, zero, suc, ◌+◌, ◌<◌, ◌≤◌, ◌==◌, cond, List, [], ◌∷◌, drop, length, map, filter, All, Contains, Option, None, Some, inl, inr, refl, sym, ap, ◌∙◌, subst, arith}
-use Rattle.std.specs.Prelude.{IfSome, fold}
+use Rattle.std.specs.Prelude.{IfSome, fold, nat_lt}
 use Rattle.std.specs.Option.{option_map}
 use Rattle.std.specs.List.{range_with_len}
 use Rattle.std.proofs.lemmas.List.FromFn.{get_or-map-range_with_len, length-map-range_with_len}
@@ -124,7 +124,8 @@ module _ (taken : (id : ℕ) (mail : List Mail) (other : ℕ)
     (ids : List ℕ) where
   mail_kept : (node : NodeState) (sent : TimedFrame) → node.mail ≡ mail_of ids node.mail → (after_hearing node sent).mail ≡ mail_of ids (after_hearing node sent).mail
   mail_kept node sent is =
-      kept_by (λ n. n.mail ≡ mail_of ids n.mail) (sent.frame.identifier == opening_identifier node.layout.slots) (sent.frame.identifier == 0)
+      kept_by (λ n. n.mail ≡ mail_of ids n.mail) (sent.frame.identifier == opening_identifier node.layout.slots)
+      (nat_lt sent.frame.identifier (opening_identifier node.layout.slots))
       (is_own_slot node.entries sent.frame.identifier) _ _ _ _ is is is
       (ap (without_first sent.frame.identifier) is ∙ sym (taken-of taken ids sent.frame.identifier node.mail))
 

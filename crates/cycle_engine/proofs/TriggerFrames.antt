@@ -10,9 +10,10 @@ use Rattle.can_frame.specs.declared.data_frame.TimedFrame.{TimedFrame}
 use Rattle.can_frame.proofs.Shared.{wire-most}
 use Rattle.cycle_layout.specs.Layout.{CycleLayout, trigger_part}
 use Rattle.requirement_table.specs.Instance.{Instance}
+use Rattle.trigger_kind.specs.Kind.{greatest_trigger}
 use Rattle.trigger_codec.specs.Bytes.{triggers_with}
 use Rattle.trigger_codec.proofs.Shared.{eight_bytes}
-pub use Rattle.trigger_codec.proofs.Shared.{few_frames, frames_long, low_ids, opens_last, rising}
+pub use Rattle.trigger_codec.proofs.Shared.{frames_long, low_ids, opens_last, rising}
 use Rattle.async_window.specs.declared.request.Request.{Request}
 use Rattle.bus_line.specs.Trace.{Follows, IsNext, Offers, end_of, free_after}
 use Rattle.requirement_table.specs.Opening.{Opening, width_of}
@@ -66,9 +67,9 @@ module _ (layout : CycleLayout) (opening : Opening) where
     rising_here : AllPairs (λ one other. one.identifier < other.identifier) (map (λ sent. sent.frame) done ++ left)
     rising_here = subst (AllPairs (λ one other. one.identifier < other.identifier)) (sym sofar.all) (rising layout.slots opening.cycle (width_of opening) opening.mask)
 
-    pub is_low : (frame : DataFrame) → Contains left frame → frame.identifier ≤ 1
+    pub is_low : (frame : DataFrame) → Contains left frame → frame.identifier ≤ greatest_trigger
     is_low frame has =
-        All-contains (λ f. f.identifier ≤ 1) (trigger_frames layout opening) frame (low_ids layout.slots opening.cycle (width_of opening) opening.mask)
+        All-contains (λ f. f.identifier ≤ greatest_trigger) (trigger_frames layout opening) frame (low_ids layout.slots opening.cycle (width_of opening) opening.mask)
         (subst (λ fs. Contains fs frame) sofar.all (Contains-append_right (map (λ sent. sent.frame) done) left frame has))
 
     -- in a list whose front and back are in order, an element of the front stands before one of the back
@@ -151,7 +152,7 @@ module _ (layout : CycleLayout) (opening : Opening) where
   -- What is next on the bus, while trigger frames are left
 
   module _ (sends : Instance → List ℕ) (requests : List Request) (past done : List TimedFrame) (frame : DataFrame) (left : List DataFrame) (sofar : AreLeft past done (frame ∷ left))
-      (asynchronous : (before : List TimedFrame) (at : ℕ) (other : DataFrame) → OffersRequest layout requests opening before at other → 1 < other.identifier) where
+      (asynchronous : (before : List TimedFrame) (at : ℕ) (other : DataFrame) → OffersRequest layout requests opening before at other → greatest_trigger < other.identifier) where
     -- the first of those that are left has the least identifier of all frames that are offered
     pub least_left : (at : ℕ) (other : DataFrame) → offered_in sends layout requests opening (past ++ done) at other → frame.identifier ≤ other.identifier
     least_left at other (inl trigger) = elim (Contains-cases frame left other (is_left past done (frame ∷ left) sofar other at trigger)) [
@@ -174,7 +175,7 @@ module _ (layout : CycleLayout) (opening : Opening) where
           | inr no_gap ↦ omega (arith, no_gap, next.when_free)
         ] in
         let low : sent.frame.identifier ≤ frame.identifier = next.least.least frame (subst (λ at. offered_in sends layout requests opening (past ++ done) at frame) (sym start) (inl offer)) in
-        let is_first : frame.identifier ≤ 1 = is_low past done (frame ∷ left) sofar frame (Contains-here frame left) in (
+        let is_first : frame.identifier ≤ greatest_trigger = is_low past done (frame ∷ left) sofar frame (Contains-here frame left) in (
           record { start = start; whole = next.whole },
           elim next.least.offered [
             | inl trigger ↦ elim (Contains-cases frame left sent.frame (is_left past done (frame ∷ left) sofar sent.frame sent.start trigger)) [
@@ -208,7 +209,7 @@ module _ (layout : CycleLayout) (opening : Opening) where
 
   -- All of them, and what follows them
   module _ (sends : Instance → List ℕ) (requests : List Request)
-      (asynchronous : (before : List TimedFrame) (at : ℕ) (other : DataFrame) → OffersRequest layout requests opening before at other → 1 < other.identifier) where
+      (asynchronous : (before : List TimedFrame) (at : ℕ) (other : DataFrame) → OffersRequest layout requests opening before at other → greatest_trigger < other.identifier) where
     abbrev offers : Offers
     offers = offered_in sends layout requests opening
 

@@ -14,6 +14,7 @@ use Rattle.can_frame.specs.DataFrame.{DataFrame}
 use Rattle.can_frame.specs.declared.data_frame.TimedFrame.{TimedFrame}
 use Rattle.can_frame.specs.Wire.{wire_length}
 use Rattle.can_frame.proofs.Shared.{wire-most, wire-positive}
+use Rattle.trigger_kind.specs.Kind.{greatest_trigger}
 use Rattle.cycle_layout.specs.Layout.{CycleLayout, async_open, trigger_part}
 use Rattle.bit_sets.specs.Sets.{has_bit, most_slots}
 use Rattle.requirement_table.specs.Instance.{Instance, bytes_of, payload, worst, worst_of}
@@ -25,11 +26,11 @@ use Rattle.requirement_table.specs.Opening.{Opening, width_of}
 use Rattle.node_model.specs.Opening.{start_of, end_of_cycle, window_start}
 use Rattle.node_model.specs.Offered.{OffersRequest, OffersSlot, bytes_sent, trigger_frames}
 use Rattle.node_model.specs.Own.{was_sent}
-use Rattle.cycle_engine.specs.Cycle.{IsRequestFrame, IsSentOnce, IsSlotFrame, RunsCycle, of_slot}
+use Rattle.cycle_engine.specs.Cycle.{AreAtOnce, IsRequestFrame, IsSentOnce, IsSlotFrame, RunsCycle, of_slot}
 use Rattle.cycle_engine.specs.Offered.{AreAsynchronous, SendsWhole, offered_in}
 use Rattle.cycle_engine.proofs.Lists.{All-from_map}
 use Rattle.cycle_engine.proofs.OneTrace.{is_asynchronous, request_id}
-use Rattle.cycle_engine.proofs.TriggerFrames.{AreLeft-all, AtOnce, NoTrigger, NoTrigger-more, NoTrigger-sent, cut-left, few_frames, frames_long, frames_short, free_after-later, low_ids}
+use Rattle.cycle_engine.proofs.TriggerFrames.{AreLeft-all, AtOnce, NoTrigger, NoTrigger-more, NoTrigger-sent, cut-left, frames_long, frames_short, free_after-later, low_ids}
 use Rattle.cycle_engine.proofs.Pending.{IsUnsent-from_test, is_pending, is_pending-other, is_pending-sent, pending_width, was_sent-from_unsent}
 use Rattle.bit_sets.proofs.Shared.{sum_where-member, sum_where-without}
 
@@ -104,7 +105,7 @@ pending_width-other layout opening past sent least =
 
 -- behind trigger frames that are sent first, a slot is pending where it is flagged
 is_pending-at_start : (layout : CycleLayout) (opening : Opening) (past sent : List TimedFrame) (slot : ℕ)
-    → All (λ x. x.start < start_of layout opening) past → All (λ x. x.frame.identifier ≤ 1) sent
+    → All (λ x. x.start < start_of layout opening) past → All (λ x. x.frame.identifier ≤ greatest_trigger) sent
     → is_pending layout opening (past ++ sent) slot ≡ has_bit opening.mask slot
 is_pending-at_start layout opening past sent slot before low =
     let unsent : was_sent layout opening (past ++ sent) slot ≡ false = was_sent-from_unsent layout opening (past ++ sent) slot
@@ -124,15 +125,41 @@ each-ends free [] at_once = λ k d within. absurd (omega arith)
 each-ends free (sent ∷ later) (starts, at_once) =
     All-cons (λ x. end_of x ≤ free_after (end_of sent) later) sent later (free_after-later (end_of sent) later at_once) (each-ends (end_of sent) later at_once)
 
--- the second trigger frame starts at once behind the first one
-second-starts : (free : ℕ) (sent : TimedFrame) (later : List TimedFrame) → AtOnce free (sent ∷ later) → length later ≤ 1 → All (λ x. x.start ≡ end_of sent) later
-second-starts free sent [] at_once few = λ k d within. absurd (omega arith)
-second-starts free sent (second ∷ []) (starts, at_once) few = All-cons (λ x. x.start ≡ end_of sent) second [] at_once.0.start (λ k d within. absurd (omega arith))
-second-starts free sent (second ∷ third ∷ later) at_once few = absurd (omega arith)
+-- so they start, as the definition of a cycle says it, and the other way round
+starts-of : (free : ℕ) (sent : List TimedFrame) → AtOnce free sent → AreAtOnce free sent
+starts-of free [] at_once = tt
+starts-of free (sent ∷ later) (starts, at_once) = (starts.start, starts-of (end_of sent) later at_once)
+
+at_once-of : (free : ℕ) (sent : List TimedFrame) → All (λ x. x.len ≡ wire_length x.frame) sent → AreAtOnce free sent → AtOnce free sent
+at_once-of free [] whole start = tt
+at_once-of free (sent ∷ later) whole (start, starts) = (
+  record { start = start; whole = All-head (λ x. x.len ≡ wire_length x.frame) sent later whole },
+  at_once-of (end_of sent) later (All-tail (λ x. x.len ≡ wire_length x.frame) sent later whole) starts,
+)
 
 -- what holds of the frames that are sent
 of-sent : (P : DataFrame → Type 0) (sent : List TimedFrame) (frames : List DataFrame) → map (λ s. s.frame) sent ≡ frames → All P frames → All (λ s. P s.frame) sent
 of-sent P sent frames are all = All-from_map (λ s. s.frame) P sent (subst (All P) (sym are) all)
+
+-- the trigger frames of a cycle end within the trigger part
+pub triggers-in_part : {sends : Instance → List ℕ} (layout : CycleLayout) (opening : Opening) (frames : List TimedFrame)
+    (runs : RunsCycle sends layout opening frames) → All (λ x. x.len ≡ wire_length x.frame) (runs.trigger ∷ runs.second)
+    → All (λ x. end_of x ≤ start_of layout opening + trigger_part layout) (runs.trigger ∷ runs.second)
+triggers-in_part layout opening frames runs whole =
+    let sent : List TimedFrame = runs.trigger ∷ runs.second in
+    let start : ℕ = start_of layout opening in
+    let at_once = at_once-of start sent whole (runs.starts, runs.at_once) in
+    let short = of-sent (λ f. wire_length f ≤ 135) sent (trigger_frames layout opening) runs.are_triggers
+    (frames_short layout.slots opening.cycle (width_of opening) opening.mask) in
+    let long : length sent ≡ length (trigger_frames layout opening) = sym (length-map sent (λ s. s.frame)) ∙ ap length runs.are_triggers in
+    λ k d within.
+    omega (
+      arith,
+      each-ends start sent at_once k d within,
+      ends-by start sent at_once short,
+      ap (λ n. n * 135) long,
+      frames_long layout.slots opening.cycle (width_of opening) opening.mask,
+    )
 
 -- Each instance sends as many bytes as its entry's length
 module _ (sends : Instance → List ℕ) (whole : SendsWhole sends) where
@@ -330,10 +357,9 @@ module _ (sends : Instance → List ℕ) (whole : SendsWhole sends) where
       let sent : List TimedFrame = trigger ∷ second in
       let start : ℕ = start_of layout opening in
       let free : ℕ = free_after start sent in
-      let low = of-sent (λ f. f.identifier ≤ 1) sent (trigger_frames layout opening) are (low_ids layout.slots opening.cycle (width_of opening) opening.mask) in
+      let low = of-sent (λ f. f.identifier ≤ greatest_trigger) sent (trigger_frames layout opening) are (low_ids layout.slots opening.cycle (width_of opening) opening.mask) in
       let short = of-sent (λ f. wire_length f ≤ 135) sent (trigger_frames layout opening) are (frames_short layout.slots opening.cycle (width_of opening) opening.mask) in
       let long : length sent ≡ length (trigger_frames layout opening) = sym (length-map sent (λ s. s.frame)) ∙ ap length are in
-      let few = few_frames layout.slots opening.cycle (width_of opening) opening.mask in
       let room : free + width_of opening ≤ end_of_cycle layout opening =
       omega (arith, ends-by start sent at_once short, ap (λ n. n * 135) long, frames_long layout.slots opening.cycle (width_of opening) opening.mask, fit.room) in
       let ended : All (λ x. end_of x ≤ window_start layout opening) sent = λ k d within. omega (arith, each-ends start sent at_once k d within, room) in
@@ -353,7 +379,7 @@ module _ (sends : Instance → List ℕ) (whole : SendsWhole sends) where
         is_trigger = cc;
         ends = All-head (λ x. end_of x ≤ window_start layout opening) trigger second ended;
         are_triggers = are;
-        at_once = second-starts start trigger second at_once (omega (arith, long, few));
+        at_once = starts-of (end_of trigger) second at_once.1;
         second_ends = All-tail (λ x. end_of x ≤ window_start layout opening) trigger second ended;
         each = λ slot known flagged. window.each slot known (pending slot ∙ flagged);
         none = λ slot known not_flagged. window.none slot known (pending slot ∙ not_flagged);
@@ -367,7 +393,7 @@ module _ (sends : Instance → List ℕ) (whole : SendsWhole sends) where
       → Follows (offered_in sends layout requests opening) past (start_of layout opening) (end_of_cycle layout opening) frames
       → RunsCycle sends layout opening frames
   runs_cycle layout requests opening past frames fit asynchronous before follows =
-      let high : (earlier : List TimedFrame) (at : ℕ) (other : DataFrame) → OffersRequest layout requests opening earlier at other → 1 < other.identifier =
+      let high : (earlier : List TimedFrame) (at : ℕ) (other : DataFrame) → OffersRequest layout requests opening earlier at other → greatest_trigger < other.identifier =
       λ earlier at other request. omega (arith, request_id sends layout requests asynchronous opening earlier at other request) in
       let short = frames_short layout.slots opening.cycle (width_of opening) opening.mask in
       let long = frames_long layout.slots opening.cycle (width_of opening) opening.mask in

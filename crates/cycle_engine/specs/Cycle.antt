@@ -1,5 +1,5 @@
 -- What an opened cycle sends on the bus, behind the cycles before it. Times are bit times.
-use Rattle.std.specs.Prelude.{◌≡◌, ℕ, ◌+◌, ◌/◌, ◌<◌, ◌≤◌, ◌⊎◌, ◌==◌}
+use Rattle.std.specs.Prelude.{⊤, ◌≡◌, ℕ, ◌+◌, ◌/◌, ◌<◌, ◌≤◌, ◌⊎◌, ◌==◌}
 use Rattle.std.specs.Prelude.{true, false, List, [], ◌∷◌, ◌++◌, All, filter, map, Some, IsSome}
 use Rattle.profile.specs.Limits.{first_identifier, least_asynchronous}
 use Rattle.can_frame.specs.declared.data_frame.TimedFrame.{TimedFrame}
@@ -53,9 +53,14 @@ pub record IsRequestFrame (layout : CycleLayout) (opening : Opening) (sent : Tim
   pub after : async_open layout opening.cycle ≤ sent.start
   pub before : end_of sent ≤ window_start layout opening
 
--- the frames of a cycle: its trigger frames, the first at its start and the second, where there is one, at once behind
--- that, ended before the synchronous window; behind them only frames of requests in the asynchronous window and frames
--- of flagged slots in the synchronous window, and of each flagged slot exactly one
+-- frames one at once behind the other, from a time on
+abbrev pub AreAtOnce : ℕ → List TimedFrame → Type 0
+AreAtOnce at [] = ⊤
+AreAtOnce at (sent ∷ later) = (sent.start ≡ at) × AreAtOnce (end_of sent) later
+
+-- the frames of a cycle: its trigger frames, the first at its start and each other one at once behind the one before it,
+-- ended before the synchronous window; behind them only frames of requests in the asynchronous window and frames of
+-- flagged slots in the synchronous window, and of each flagged slot exactly one
 pub record RunsCycle (sends : Instance → List ℕ) (layout : CycleLayout) (opening : Opening) (frames : List TimedFrame) : Type 0 where
   pub trigger : TimedFrame
   pub second : List TimedFrame
@@ -65,7 +70,7 @@ pub record RunsCycle (sends : Instance → List ℕ) (layout : CycleLayout) (ope
   pub is_trigger : trigger.frame ≡ trigger_frame opening.cycle (width_of opening) opening.mask
   pub ends : end_of trigger ≤ window_start layout opening
   pub are_triggers : map (λ sent. sent.frame) (trigger ∷ second) ≡ trigger_frames layout opening
-  pub at_once : All (λ sent. sent.start ≡ end_of trigger) second
+  pub at_once : AreAtOnce (end_of trigger) second
   pub second_ends : All (λ sent. end_of sent ≤ window_start layout opening) second
   pub each : (slot : ℕ) → slot < most_slots → has_bit opening.mask slot ≡ true
       → IsSentOnce sends layout opening later slot

@@ -3,14 +3,14 @@
 use Rattle.std.specs.Prelude.{◌≡◌, ◌≢◌, ℕ, ◌<◌, ◌≤◌, ◌==◌, Bool, false, nat_le, if◌then◌else◌, List, [], ◌∷◌, ◌++◌}
 use Rattle.std.specs.Prelude.{All, AllPairs, length, Option, None, Some, find, map, filter_map}
 use Rattle.std.specs.Option.{option_map_or}
-use Rattle.std.specs.List.{cons_option}
 use Rattle.profile.specs.Limits.{cycles_end, most_nodes}
 use Rattle.can_frame.specs.DataFrame.{DataFrame}
 use Rattle.can_frame.specs.declared.data_frame.TimedFrame.{TimedFrame}
 use Rattle.cycle_layout.specs.Layout.{CycleLayout}
+use Rattle.trigger_codec.specs.Bytes.{frames_left}
 use Rattle.bus_line.specs.Stations.{Line}
 use Rattle.node_model.specs.Node.{IsNode, NodeState, NodeView, after_hearing, node_frame, node_offer}
-use Rattle.trigger_kind.specs.Kind.{opening_identifier}
+use Rattle.trigger_kind.specs.Kind.{greatest_trigger, opening_identifier}
 use Rattle.node_model.specs.Own.{AreApart}
 use Rattle.cycle_engine.specs.declared.stations.DueTriggerFrames.{DueTriggerFrames}
 
@@ -41,7 +41,7 @@ due_from at frames = map (λ frame. record { at = at; frame = frame }) frames
 -- the trigger frames that the stations keep
 abbrev pub due_list : Option DueTriggerFrames → List DueTrigger
 due_list None = []
-due_list (Some due) = due_from due.at (due.next ∷ cons_option due.second [])
+due_list (Some due) = due_from due.at (frames_left due.frames)
 
 -- the identifiers that nodes offer at a time, in the order of the nodes
 abbrev pub offered_by_nodes : List NodeState → ℕ → List ℕ
@@ -104,7 +104,7 @@ pub record AreNodes (layout : CycleLayout) (nodes : List NodeState) : Type 0 whe
 -- what holds of trigger frames that are not yet sent: they have identifiers below those of nodes, and none but the last
 -- one opens a cycle
 pub record AreDueTriggers (layout : CycleLayout) (triggers : List DueTrigger) : Type 0 where
-  pub low : All (λ due. due.frame.identifier ≤ 1) triggers
+  pub low : All (λ due. due.frame.identifier ≤ greatest_trigger) triggers
   pub last : AllPairs (λ one other. one.frame.identifier ≢ opening_identifier layout.slots) triggers
 
 -- what holds of the stations: the nodes can hear the trigger frames that are not yet sent

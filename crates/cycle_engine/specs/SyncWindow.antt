@@ -12,6 +12,7 @@ use Rattle.bit_sets.specs.Sets.{has_bit, most_slots}
 use Rattle.bus_line.specs.Trace.{Follows}
 use Rattle.bus_line.specs.Stations.{offers_of}
 use Rattle.node_model.specs.Node.{NodeState}
+use Rattle.trigger_kind.specs.Kind.{greatest_trigger}
 use Rattle.trigger_codec.specs.Bytes.{triggers_with}
 use Rattle.node_model.specs.Window.{IsInWindow, due_frame, is_due_slot}
 use Rattle.cycle_engine.specs.Nodes.{heard_by}
@@ -58,7 +59,7 @@ pub record IsSentBy (before after : List NodeState) (from until : ℕ) (old new 
   pub frames : List TimedFrame
   pub appended : new ≡ old ++ frames
   pub heard : after ≡ heard_by frames before
-  pub no_trigger : All (λ sent. 1 < sent.frame.identifier) frames
+  pub no_trigger : All (λ sent. greatest_trigger < sent.frame.identifier) frames
   pub follows : (layout : CycleLayout) → Follows (offers_of cycle_line (nodes_alone layout before)) [] from until frames
 
 -- a cycle has run up to its synchronous window: these frames were sent and heard, from the time `from` on the nodes are

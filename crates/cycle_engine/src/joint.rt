@@ -1,14 +1,13 @@
 //! One cycle on the bus of the joint node.
 
 ghost use Rattle.std.specs.Prelude.{◌≡◌, ℕ, ◌+◌, ◌*◌, ◌/◌, ◌^◌, ◌<◌, ◌≤◌, ◌++◌, [], ◌∷◌, List, fold, length, vec_capacity};
-ghost use Rattle.std.specs.List.{cons_option};
 ghost use Rattle.profile.specs.Limits.{cycles_end, shortest_frame};
 ghost use Rattle.can_frame.specs.declared.data_frame.TimedFrame.{TimedFrame};
 ghost use Rattle.requirement_table.specs.declared.entries.Placed.{Placed};
 ghost use Rattle.requirement_table.specs.Instance.{bytes_of};
 ghost use Rattle.async_window.specs.declared.request.Owner.{Owner};
 ghost use Rattle.async_window.specs.declared.request.Request.{Request};
-ghost use Rattle.trigger_codec.specs.Bytes.{trigger_frame, triggers_with};
+ghost use Rattle.trigger_codec.specs.Bytes.{triggers_with};
 ghost use Rattle.bus_line.specs.Trace.{Follows};
 ghost use Rattle.bus_line.specs.Stations.{offers_of};
 ghost use Rattle.node_model.specs.Node.{after_hearing};
@@ -20,10 +19,9 @@ ghost use Rattle.cycle_engine.specs.SyncWindow.{IsBeforeWindow};
 
 use crate::stations::NodeStations;
 use bus_line::run_until;
-use can_frame::{Frame, TimedFrame};
-use cycle_layout::Layout;
+use can_frame::TimedFrame;
 use requirement_table::Order;
-use trigger_codec::{encode, encode_later};
+use trigger_codec::encode_all;
 
 /// Runs the cycle of an order on the bus. The frames of the cycle take the place of those of the list, which has room for
 /// them: one for every 47 bit times, and one.
@@ -106,16 +104,7 @@ fn run_up_to_window(order: &Order, stations: &mut NodeStations, frames: &mut Vec
     layout.is_in_range();
     let start = order.cycle * u64::from(layout.cycle());
     let window = layout.sync_start(order.cycle, order.l);
-    let first = encode(order.cycle, order.l, order.mask);
-    let later = later_trigger(&layout, order);
-    stations.announce(start, first, later);
+    let frames_due = encode_all(layout.triggers(), order.cycle, order.l, order.mask);
+    stations.announce(start, frames_due);
     window.max(run_until(stations, start, window, frames))
-}
-
-/// The trigger frame of the cycle of an order behind the first one, where the layout has one.
-fn later_trigger(layout: &Layout, order: &Order) -> Option<Frame>
-    ensures frames { (l : ℕ) → trigger_frame order.now.cycle l order.now.mask ∷ cons_option result []
-        ≡ triggers_with layout.now.slots order.now.cycle l order.now.mask }
-{
-    encode_later(layout.triggers(), order.cycle, order.mask)
 }

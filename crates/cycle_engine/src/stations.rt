@@ -1,13 +1,14 @@
 //! The joint node of a bus as the station on it, and with it the master, which offers the trigger frames of a cycle.
 
 ghost use Rattle.std.specs.Prelude.{◌≡◌, ◌+◌, ◌-◌, ◌/◌, ◌<◌, ◌≤◌, ◌++◌, [], ◌∷◌};
-ghost use Rattle.std.specs.Prelude.{Contains, OnOk, length, map, vec_capacity};
+ghost use Rattle.std.specs.Prelude.{Contains, OnOk, Some, drop, length, map, vec_capacity};
 ghost use Rattle.std.specs.List.{cons_option};
 ghost use Rattle.profile.specs.Limits.{cycles_end, shortest_frame, times_end};
 ghost use Rattle.requirement_table.specs.Table.{IsWellPlaced};
 ghost use Rattle.node_model.specs.Node.{learnt, with_node};
 ghost use Rattle.node_model.specs.Window.{IsInWindow};
 ghost use Rattle.async_window.specs.Mailbox.{left};
+ghost use Rattle.trigger_codec.specs.Bytes.{frames_left};
 ghost use Rattle.arbitration.specs.Arbitration.{AreDistinct};
 ghost use Rattle.bus_line.specs.Stations.{IsWake, sooner};
 ghost use Rattle.cycle_engine.specs.Stations.{AreDueTriggers, AreNodes, announced, due_from, due_list, frame_by_nodes};
@@ -24,16 +25,15 @@ use node_model::Node;
 use requirement_table::{MOST_SLOTS, Placed};
 use std::alloc::{AllocError, Global};
 use std::marker::Model;
+use trigger_codec::{TriggerFrames, frames_behind};
 
-/// The trigger frames of a cycle that are not sent yet: one, and the one behind it, where there are two.
+/// The trigger frames of a cycle that are not sent yet.
 #[derive(Clone, Copy)]
 pub struct DueTriggerFrames {
     /// The time from which on they are offered, in bit times.
     pub at: u64,
-    /// The frame that is offered next.
-    pub next: Frame,
-    /// The frame that is offered once that one was sent.
-    pub second: Option<Frame>,
+    /// The frames, of which the first one is offered.
+    pub frames: TriggerFrames,
 }
 
 /// The joint node of a bus, and the trigger frames that are offered next, where there are any.
@@ -117,22 +117,18 @@ impl NodeStations {
         self.node.learn_all(placed);
     }
 
-    /// Makes trigger frames the next ones, from a time on: one, and another one behind it, where there are two.
-    pub fn announce(&mut self, at: u64, first: Frame, second: Option<Frame>)
-        requires due { AreDueTriggers self.old.layout (due_from at (first ∷ cons_option second [])) }
+    /// Makes trigger frames the next ones, from a time on.
+    pub fn announce(&mut self, at: u64, frames: TriggerFrames)
+        requires due { AreDueTriggers self.old.layout (due_from at (frames_left frames)) }
         requires next { self.old.node.state.next < cycles_end }
         ensures announced { self.new ≡ record {
           layout = self.old.layout;
-          triggers = due_from at (first ∷ cons_option second []);
+          triggers = due_from at (frames_left frames);
           node = self.old.node;
         } }
         ensures known { AreNodes self.new.layout (self.new.node.state ∷ []) }
     {
-        self.due = Some(DueTriggerFrames {
-            at,
-            next: first,
-            second,
-        });
+        self.due = Some(DueTriggerFrames { at, frames });
     }
 
     /// The frame of the node, where it offers an identifier at a time.
@@ -191,8 +187,8 @@ impl Stations for NodeStations {
     fn frame(&self, at: u64, id: u16) -> Frame {
         match self.due {
             Some(due) => {
-                if due.next.id() == id {
-                    due.next
+                if due.frames.next.id() == id {
+                    due.frames.next
                 } else {
                     self.frame_of_node(at, id)
                 }
@@ -236,7 +232,7 @@ fn push_trigger(due: &Option<DueTriggerFrames>, at: u64, ids: &mut Contenders)
 {
     if let Some(due) = due {
         if due.at <= at {
-            ids.push(due.next.id());
+            ids.push(due.frames.next.id());
         }
     }
 }
@@ -255,7 +251,7 @@ fn take_due(due: &mut Option<DueTriggerFrames>, id: u16)
     ensures left { due_list due.new ≡ triggers_after id (due_list due.old) }
 {
     if let Some(first) = due {
-        if first.next.id() == id {
+        if first.frames.next.id() == id {
             *due = behind(first);
         }
     }
@@ -263,14 +259,10 @@ fn take_due(due: &mut Option<DueTriggerFrames>, id: u16)
 
 /// The trigger frames that are left once the first of them was sent.
 fn behind(due: &DueTriggerFrames) -> Option<DueTriggerFrames>
-    ensures left { due_list result ≡ due_from due.now.at (cons_option due.now.second []) }
+    ensures left { due_list result ≡ drop 1 (due_list (Some due.now)) }
 {
-    match due.second {
-        Some(second) => Some(DueTriggerFrames {
-            at: due.at,
-            next: second,
-            second: None,
-        }),
+    match frames_behind(&due.frames) {
+        Some(frames) => Some(DueTriggerFrames { at: due.at, frames }),
         None => None,
     }
 }

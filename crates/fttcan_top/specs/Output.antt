@@ -1,5 +1,5 @@
 -- The headline's definitions: what is written for what the words and the files ask for, and what a status says.
-use Rattle.std.specs.Prelude.{◌≡◌, ℕ, ◌⊎◌, ⊤, Bool, false, List, [], ◌++◌, length, codes, if◌then◌else◌, Option, None}
+use Rattle.std.specs.Prelude.{◌≡◌, ℕ, ◌⊎◌, ⊤, Bool, true, false, List, [], ◌++◌, length, codes, if◌then◌else◌, Option, None}
 use Rattle.std.specs.Fmt.{decimal}
 use Rattle.can_frame.specs.declared.TimedFrame.{TimedFrame}
 use Rattle.ftt_io.specs.Puts.{Puts, PutsPrefix}
@@ -228,6 +228,13 @@ IsCutWhileRun (Task.Handover job at) old new =
 IsCutWhileRun (Task.Poll job streams) old new =
     TellsBegun (IsPolledRunBegun job.system job.steps streams) (IsPollText job streams) old new
 IsCutWhileRun _ old new = ⊥
+
+-- whether what is asked for is written while its run goes on
+abbrev pub is_streamed : Task → Bool
+is_streamed (Task.Log job None report) = true
+is_streamed (Task.Handover job at) = true
+is_streamed (Task.Poll job streams) = true
+is_streamed _ = false
 
 -- the first part of an answer was put: its first bytes, or the first ones of the rows of a run that was cut short
 abbrev pub PutsPart : Task → Option (List ℕ) → Option (List ℕ) → Type 0

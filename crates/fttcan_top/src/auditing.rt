@@ -7,13 +7,13 @@ ghost use Rattle.fttcan_top.specs.Output.{IsAuditText, IsDoneStatus};
 
 use crate::status::Status;
 use crate::work::Outcome;
-use asked_files::Job;
+use asked_files::{Job, LogText};
 use std::alloc::{AllocError, Global};
 use trace_audit::{AuditFault, audit_text};
 
 /// Audits the text of a log, and answers with `yes` where its rows are all rows of a whole run of the steps. Otherwise it
 /// answers with the least number of first rows that cannot stand. Where all rows can stand it answers with `unfinished`.
-pub fn audit_of(alloc: Global, job: &Job, log: &[u8]) -> Result<Outcome, AllocError>
+pub fn audit_of(alloc: Global, job: &Job, log: &LogText) -> Result<Outcome, AllocError>
     requires job { IsJob job.now }
     requires log { IsLogText log.now }
     ensures answer { IfOk result (λ outcome. IsAuditText job.now log.now outcome.status outcome.text.items) }
@@ -21,6 +21,7 @@ pub fn audit_of(alloc: Global, job: &Job, log: &[u8]) -> Result<Outcome, AllocEr
 {
     let steps = job.steps.as_slice();
     let requests = job.requests.as_slice();
+    let log = log.as_slice();
     match audit_text(alloc, &job.system, steps, requests, log) {
         Ok(()) => Ok(Outcome {
             status: Status::Done,

@@ -1,25 +1,82 @@
 //! The top call: from the words of a call and the files that they name to the bytes that are written.
 
-ghost use Rattle.std.specs.Prelude.{◌≡◌, ◌≤◌, ◌⊎◌, false, length, map, string_bytes, IfOk, IsErrOf, None};
+ghost use Rattle.std.specs.Prelude.{◌≡◌, ◌≤◌, ◌⊎◌, true, false, length, map, string_bytes, IfOk, IsErrOf, OnErr, None};
 ghost use Rattle.ftt_io.specs.Counts.{Rose};
 ghost use Rattle.command_words.specs.Words.{command_of};
 ghost use Rattle.asked_files.specs.Asked.{IsTask, is_live};
 ghost use Rattle.asked_files.specs.Loads.{Fetches, sources_of};
 ghost use Rattle.fttcan_top.specs.Ends.{Answers, Ended, IsCarried};
-ghost use Rattle.fttcan_top.specs.Output.{IsDoneStatus};
+ghost use Rattle.fttcan_top.specs.Output.{IsDoneStatus, IsOutput, PutsPart, Tells, is_streamed};
 
 use crate::auditing::audit_of;
 use crate::choosing::choice_of;
 use crate::status::Status;
 use crate::stop::tell;
 use crate::streamed::{as_answer, write_handed, write_log, write_polled};
-use crate::work::{check_of, plan_of, put_answer, summary_of_made, tail_of};
+use crate::work::{Outcome, check_of, plan_of, put_answer, summary_of_made, tail_of};
 use asked_files::{Stop, Task, load};
 use ftt_io::{Shelf, Sink};
-use std::alloc::Global;
+use replay_run::Cut;
+use std::alloc::{AllocError, Global};
 
-/// Does what was asked, and writes the answer: a whole log while the run goes on, and anything else when it is worked
-/// out.
+/// Whether what is asked for is written while its run goes on.
+fn is_streamed(task: &Task) -> bool
+    ensures streamed { result ≡ is_streamed task.now }
+{
+    match task {
+        Task::Log(_, None, _) | Task::Handover(..) | Task::Poll(..) => true,
+        Task::Log(_, Some(_), _) | Task::Table(_) | Task::Check(..) | Task::Summary(_) => false,
+        Task::Live(..) | Task::Choice(..) | Task::Audit(..) => false,
+    }
+}
+
+/// Does what was asked, where the answer is written when it is worked out.
+fn answer_of(alloc: Global, task: Task) -> Result<Outcome, AllocError>
+    requires task { IsTask task }
+    requires alone { is_live task ≡ false }
+    requires whole { is_streamed task ≡ false }
+    ensures output { IfOk result (λ outcome. IsOutput task outcome.status outcome.text.items) }
+    ensures done { IfOk result (λ outcome. IsDoneStatus outcome.status) }
+{
+    match task {
+        Task::Log(job, tail, report) => match tail {
+            Some(count) => tail_of(alloc, &job, count, report),
+            None => unreachable!(),
+        },
+        Task::Table(job) => plan_of(alloc, &job),
+        Task::Check(job, certificate) => check_of(alloc, &job, &certificate),
+        Task::Summary(number) => summary_of_made(alloc, number),
+        Task::Live(..) => unreachable!(),
+        Task::Choice(job, wish) => choice_of(alloc, &job, &wish),
+        Task::Handover(..) => unreachable!(),
+        Task::Audit(job, log) => audit_of(alloc, &job, &log),
+        Task::Poll(..) => unreachable!(),
+    }
+}
+
+/// Does what was asked, where the answer is written while its run goes on.
+fn write_streamed<O: Sink>(alloc: Global, task: Task, out: &mut O) -> Result<Status, Cut>
+    requires task { IsTask task }
+    requires streamed { is_streamed task ≡ true }
+    ensures faults_never_fall { O.faults out.old ≤ O.faults out.new }
+    ensures done { IfOk result IsDoneStatus }
+    ensures tells { IfOk result (λ status. Tells task status (O.told_bytes out.old) (O.told_bytes out.new)) }
+    ensures cut { OnErr result (PutsPart task (O.told_bytes out.old) (O.told_bytes out.new)) }
+    ensures failed { IsErrOf result Cut.Write → Rose (O.faults out.old) (O.faults out.new) }
+{
+    match task {
+        Task::Log(job, tail, report) => match tail {
+            None => write_log(alloc, &job, report, out),
+            Some(_) => unreachable!(),
+        },
+        Task::Handover(job, at) => write_handed(alloc, &job, at, out),
+        Task::Poll(job, streams) => write_polled(alloc, &job, streams, out),
+        Task::Table(_) | Task::Check(..) | Task::Summary(_) => unreachable!(),
+        Task::Live(..) | Task::Choice(..) | Task::Audit(..) => unreachable!(),
+    }
+}
+
+/// Does what was asked, and writes the answer.
 fn carry_out<O: Sink>(alloc: Global, task: Task, out: &mut O) -> Result<Status, Stop>
     requires task { IsTask task }
     requires alone { is_live task ≡ false }
@@ -28,21 +85,10 @@ fn carry_out<O: Sink>(alloc: Global, task: Task, out: &mut O) -> Result<Status, 
     ensures carried { IsCarried task (Rose (O.faults out.old) (O.faults out.new))
         (O.told_bytes out.old) (O.told_bytes out.new) result }
 {
-    match task {
-        Task::Log(job, tail, report) => match tail {
-            None => as_answer(write_log(alloc, &job, report, out)),
-            Some(count) => put_answer(tail_of(alloc, &job, count, report), out),
-        },
-        Task::Table(job) => put_answer(plan_of(alloc, &job), out),
-        Task::Check(job, certificate) => put_answer(check_of(alloc, &job, &certificate), out),
-        Task::Summary(number) => put_answer(summary_of_made(alloc, number), out),
-        Task::Live(..) => unreachable!(),
-        Task::Choice(job, wish) => put_answer(choice_of(alloc, &job, &wish), out),
-        Task::Handover(job, at) => as_answer(write_handed(alloc, &job, at, out)),
-        Task::Audit(job, log) => put_answer(audit_of(alloc, &job, log.as_slice()), out),
-        Task::Poll(job, streams) => {
-            as_answer(write_polled(alloc, &job, streams.into_vec(), out))
-        }
+    if is_streamed(&task) {
+        as_answer(write_streamed(alloc, task, out))
+    } else {
+        put_answer(answer_of(alloc, task), out)
     }
 }
 

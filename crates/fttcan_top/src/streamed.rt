@@ -12,14 +12,13 @@ ghost use Rattle.fttcan_top.specs.Output.{IsDoneStatus, PutsPart, Tells};
 use crate::rows::put_rows;
 use crate::status::Status;
 use crate::work::status_when;
-use asked_files::{Job, Stop};
+use asked_files::{Job, Stop, StreamList};
 use async_window::{Owner, Request};
 use ftt_io::Sink;
 use handover_run::replay_handed;
 use poll_run::replay_polled;
 use replay_run::laws::rows_so_far;
 use replay_run::{Cut, Written, replay_to};
-use sporadic_poll::Stream;
 use std::alloc::{AllocError, Global};
 
 /// The report of a run, where its frames were kept; else no text.
@@ -36,7 +35,7 @@ pub(crate) fn report_of(
     let Written { master, trace } = run;
     match trace {
         None => Ok(Vec::new(alloc)),
-        Some(trace) => match master.into_master(alloc)? {
+        Some(trace) => match master.into_master() {
             Some(master) => plan_report::report(alloc, &master, trace.as_slice(), owners, requests),
             None => unreachable!(),
         },
@@ -120,19 +119,20 @@ pub fn write_handed<O: Sink>(alloc: Global, job: &Job, at: u32, out: &mut O) -> 
 pub fn write_polled<O: Sink>(
     alloc: Global,
     job: &Job,
-    streams: Vec<Stream>,
+    streams: StreamList,
     out: &mut O,
 ) -> Result<Status, Cut>
     requires job { IsJob job.now }
-    requires streams { AreLegalStreams job.now.system.rules.slots streams.items }
+    requires streams { AreLegalStreams job.now.system.rules.slots streams }
     ensures faults_never_fall { O.faults out.old ≤ O.faults out.new }
     ensures done { IfOk result IsDoneStatus }
     ensures tells { IfOk result
-        (λ status. Tells (Task.Poll job.now streams.items) status (O.told_bytes out.old) (O.told_bytes out.new)) }
-    ensures cut { OnErr result (PutsPart (Task.Poll job.now streams.items) (O.told_bytes out.old) (O.told_bytes out.new)) }
+        (λ status. Tells (Task.Poll job.now streams) status (O.told_bytes out.old) (O.told_bytes out.new)) }
+    ensures cut { OnErr result (PutsPart (Task.Poll job.now streams) (O.told_bytes out.old) (O.told_bytes out.new)) }
     ensures failed { IsErrOf result Cut.Write → Rose (O.faults out.old) (O.faults out.new) }
 {
     poll_run::laws::rows_so_far();
+    let streams = streams.into_vec();
     let accepted = replay_polled(alloc, &job.system, job.steps.as_slice(), streams, out)?;
     Ok(status_when(accepted))
 }

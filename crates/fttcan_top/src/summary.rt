@@ -36,25 +36,16 @@ fn is_asynchronous(sent: &TimedFrame) -> bool
     LEAST_ASYNCHRONOUS <= sent.frame.id()
 }
 
-/// The number of changes that were accepted.
-fn accepted(history: &[Event]) -> usize
-    ensures count { result ≡ count_by accepts history.now }
+/// The numbers of changes that were accepted and that were refused, and of opened cycles.
+fn answered(history: &[Event]) -> (usize, usize, usize)
+    ensures accepted { result.0 ≡ count_by accepts history.now }
+    ensures refused { result.1 ≡ count_by refuses history.now }
+    ensures opened { result.2 ≡ count_by is_open history.now }
 {
-    history.iter().filter(|event| event.accepts()).count()
-}
-
-/// The number of changes that were refused.
-fn refused(history: &[Event]) -> usize
-    ensures count { result ≡ count_by refuses history.now }
-{
-    history.iter().filter(|event| refuses(*event)).count()
-}
-
-/// The number of opened cycles.
-fn opened(history: &[Event]) -> usize
-    ensures count { result ≡ count_by is_open history.now }
-{
-    history.iter().filter(|event| event.opens_cycle()).count()
+    let accepted = history.iter().filter(|event| event.accepts()).count();
+    let refused = history.iter().filter(|event| refuses(*event)).count();
+    let opened = history.iter().filter(|event| event.opens_cycle()).count();
+    (accepted, refused, opened)
 }
 
 /// The numbers of synchronous and of asynchronous frames, and the bit times that all frames took.
@@ -85,9 +76,7 @@ pub fn summary_of(
     ensures text { IfOk result
         (λ text. string_bytes text ≡ summary_text number history.now trace.now requests) }
 {
-    let accepted = accepted(history);
-    let refused = refused(history);
-    let opened = opened(history);
+    let (accepted, refused, opened) = answered(history);
     let (synchronous, asynchronous, busy) = counted(trace);
     let left = requests.saturating_sub(asynchronous);
     let mut text = String::new(alloc);

@@ -115,10 +115,8 @@ pub fn live_log_of<T: Threads + Wait + Sync, G: Gate>(
     let mut text = log_text(alloc, history, trace)?;
     let rows = report_if(alloc, report, &master, trace, owners, requests)?;
     text.extend_from_slice(rows.as_slice())?;
-    Ok(Outcome {
-        status: status_when(all_accepted(history)),
-        text,
-    })
+    let status = status_when(all_accepted(history));
+    Ok(Outcome { status, text })
 }
 
 /// Runs the input that a number makes, and answers with the summary.
@@ -136,10 +134,8 @@ pub fn summary_of_made(alloc: Global, number: u32) -> Result<Outcome, AllocError
         run.trace.as_slice(),
         requests.len(),
     )?;
-    Ok(Outcome {
-        status: Status::Done,
-        text: text.into_bytes(),
-    })
+    let (status, text) = (Status::Done, text.into_bytes());
+    Ok(Outcome { status, text })
 }
 
 /// Has a master answer the steps, and answers with the plan of the table that stands then.

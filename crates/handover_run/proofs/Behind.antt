@@ -1,5 +1,5 @@
 -- A run on the way is so with another legal history that has the same core.
-use Rattle.std.proofs.Common.{◌≡◌, ℕ, ◌*◌, ◌≤◌, true, List, [], Option, Some, None, All, sym, ap, ◌∙◌, subst}
+use Rattle.std.proofs.Common.{◌≡◌, ℕ, ◌*◌, ◌≤◌, false, true, List, [], Option, Some, None, All, is_some, sym, ap, ◌∙◌, subst}
 use Rattle.can_frame.specs.declared.data_frame.TimedFrame.{TimedFrame}
 use Rattle.requirement_table.specs.declared.entries.Order.{Order}
 use Rattle.requirement_table.specs.declared.entries.Placed.{Placed}
@@ -66,7 +66,7 @@ module _ (laws : OneCore) where
 
   -- a run goes on with another master whose history has the core of the first one's
   pub going-behind : (setting : Setting) (trace : List TimedFrame) (run : Bus) (master : LeanView) → core_of run.master.history ≡ core_of master.history
-      → master.rules ≡ setting.rules → IsPlainlyLegal setting.rules master.history → master.keeps ≡ run.master.keeps → IsGoing setting trace run
+      → master.rules ≡ setting.rules → IsPlainlyLegal setting.rules master.history → master.keeps ≡ is_some run.trace → IsGoing setting trace run
       → IsGoing setting trace (record run { master = master })
   going-behind setting trace run master same rules plain events going = record {
     same_rules = rules;
@@ -78,21 +78,22 @@ module _ (laws : OneCore) where
     };
     triggers = going.triggers ∙ laws.next run.master.history master.history same;
     frames = going.frames;
-    events = events ∙ going.events;
+    events = events;
     spare = going.spare;
   }
 
   -- the standby takes over
   pub taken-over : (run : Handed) (standby : StandbyView) (master : LeanView) → run.standby ≡ Some standby → master.rules ≡ standby.rules
-      → master.history ≡ standby.history → IsPlainlyLegal master.rules master.history → master.keeps ≡ run.bus.master.keeps
+      → master.history ≡ standby.history → IsPlainlyLegal master.rules master.history → master.keeps ≡ false
       → RunsStill IsHanded run (record run { bus = record run.bus { master = master }; standby = None })
-  taken-over run standby master there rules history plain events = λ setting whole trace is.
+  taken-over run standby master there rules history plain keeps = λ setting whole trace is.
       let follows : IsFollowing setting.rules whole standby = subst (IsStillFollowing setting.rules whole) there is.followed in
       let same_rules : master.rules ≡ setting.rules = rules ∙ follows.same_rules in
       let same : core_of whole ≡ core_of master.history = follows.same_core ∙ ap core_of (sym history) in
       record {
         going = going-behind setting trace run.bus master (sym is.same_core ∙ same) same_rules
-            (subst (λ (r : Rules). IsPlainlyLegal r master.history) same_rules plain) events is.going;
+            (subst (λ (r : Rules). IsPlainlyLegal r master.history) same_rules plain) (keeps ∙ sym is.unkept) is.going;
+        unkept = is.unkept;
         plain = is.plain;
         under_way = is.under_way;
         same_core = same;
@@ -114,6 +115,7 @@ pub still-handed : (setting : Setting) (whole : List Event) (trace : List TimedF
     → IsHanded setting whole trace run → IsHanded setting whole trace (record run { bus = between })
 still-handed setting whole trace run between still is = record {
   going = still.going setting trace is.going;
+  unkept = still.kept ∙ is.unkept;
   plain = is.plain;
   under_way = is.under_way;
   same_core = is.same_core ∙ ap core_of (sym still.same);
@@ -122,10 +124,11 @@ still-handed setting whole trace run between still is = record {
 }
 
 -- a run of no calls yet
-pub begins-handed : (setting : Setting) (run : Handed) (standby : StandbyView) → IsGoing setting [] run.bus → run.bus.master.history ≡ []
-    → run.standby ≡ Some standby → standby.rules ≡ setting.rules → standby.history ≡ [] → run.quiet ≡ true → IsHanded setting [] [] run
-begins-handed setting run standby going empty there rules none quiet = record {
+pub begins-handed : (setting : Setting) (run : Handed) (standby : StandbyView) → IsGoing setting [] run.bus → is_some run.bus.trace ≡ false
+    → run.bus.master.history ≡ [] → run.standby ≡ Some standby → standby.rules ≡ setting.rules → standby.history ≡ [] → run.quiet ≡ true → IsHanded setting [] [] run
+begins-handed setting run standby going unkept empty there rules none quiet = record {
   going = going;
+  unkept = unkept;
   plain = record { legal = tt; now = tt };
   under_way = subst (λ (h : List Event). IsUnderWay setting h []) empty going.way.under_way;
   same_core = ap core_of (sym empty);

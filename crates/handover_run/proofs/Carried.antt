@@ -1,5 +1,5 @@
 -- A run that was brought on by one event is brought on as a whole, whoever is the master.
-use Rattle.std.proofs.Common.{◌≡◌, ℕ, Bool, true, false, List, [], ◌∷◌, ◌++◌, map, refl, sym, ap, ◌∙◌, subst}
+use Rattle.std.proofs.Common.{◌≡◌, ℕ, Bool, true, false, List, [], ◌∷◌, ◌++◌, is_some, map, refl, sym, ap, ◌∙◌, subst}
 use Rattle.std.specs.Prelude.{◌&&◌}
 use Rattle.std.proofs.lemmas.List.{map-append}
 use Rattle.std.proofs.lemmas.List.Folds.{list_all-append}
@@ -55,16 +55,17 @@ module _ (laws : OneCore) (goes : GoesOnPlain) (setting : Setting) (whole : List
   whole-core = core-push whole on.event ∙ ap (λ (l : List Item). l ++ core_of (on.event ∷ [])) is.same_core ∙ sym (core-push own on.event)
       ∙ sym (ap core_of on.history)
 
-  pub handed-on : (calls : List Call) → map call_of after.bus.master.history ≡ map call_of own ++ calls
+  pub handed-on : (calls : List Call) → is_some after.bus.trace ≡ is_some run.bus.trace → map call_of after.bus.master.history ≡ map call_of own ++ calls
       → IsStillFollowing setting.rules (whole ++ on.event ∷ []) after.standby → after.quiet ≡ all_accepted (whole ++ on.event ∷ [])
       → IsRunOn IsHanded setting whole trace after.bus.master.history frames calls after
-  handed-on calls answered follows quiet = record {
+  handed-on calls kept answered follows quiet = record {
     event = on.event;
     ends = record { before = own; is = on.history };
     answers = map-append call_of whole (on.event ∷ [])
         ∙ ap (λ (l : List Call). map call_of whole ++ l) (answered-by own after.bus.master.history on.event calls on.history answered);
     goes = record {
       going = on.going;
+      unkept = kept ∙ is.unkept;
       plain = whole-plain;
       under_way = under-way-behind laws setting after.bus.master.history (whole ++ on.event ∷ []) (trace ++ frames) (sym whole-core) whole-plain.legal
           on.going.way.under_way;
@@ -76,10 +77,10 @@ module _ (laws : OneCore) (goes : GoesOnPlain) (setting : Setting) (whole : List
   }
 
   -- where a cycle was opened
-  pub opened-on : map call_of after.bus.master.history ≡ map call_of own ++ opens ∷ []
+  pub opened-on : is_some after.bus.trace ≡ is_some run.bus.trace → map call_of after.bus.master.history ≡ map call_of own ++ opens ∷ []
       → ((cycle mask : ℕ) → IsRight setting.rules whole (Open cycle mask) → IsStillFollowing setting.rules (whole ++ Open cycle mask ∷ []) after.standby)
       → after.quiet ≡ run.quiet → IsRunOn IsHanded setting whole trace after.bus.master.history frames (opens ∷ []) after
-  opened-on answered follow same =
+  opened-on kept answered follow same =
       let opening : IsOpening on.event = opening-of on.event (answered-by own after.bus.master.history on.event (opens ∷ []) on.history answered) in
       let right : IsRight setting.rules whole (Open opening.cycle opening.mask) =
       subst (λ (e : Event). IsRight setting.rules whole e) opening.is (right-behind setting.rules whole on.event whole-plain.legal) in
@@ -87,7 +88,7 @@ module _ (laws : OneCore) (goes : GoesOnPlain) (setting : Setting) (whole : List
       subst (λ (e : Event). IsStillFollowing setting.rules (whole ++ e ∷ []) after.standby) (sym opening.is) (follow opening.cycle opening.mask right) in
       let quiet : all_accepted (whole ++ on.event ∷ []) ≡ all_accepted whole =
       ap (λ (e : Event). all_accepted (whole ++ e ∷ [])) opening.is ∙ quiet-push whole (Open opening.cycle opening.mask) ∙ and-true (all_accepted whole) in
-      handed-on (opens ∷ []) answered follows (same ∙ is.quiet ∙ sym quiet)
+      handed-on (opens ∷ []) kept answered follows (same ∙ is.quiet ∙ sym quiet)
 
   -- of its event a standby that follows may be told
   pub right-told : (one : StandbyView) (last : Event) → IsFollowing setting.rules whole one → last ≡ on.event → IsRightBehind one last
@@ -101,12 +102,12 @@ module _ (laws : OneCore) (goes : GoesOnPlain) (setting : Setting) (whole : List
       }
 
   -- where an act was answered
-  pub answered-on : (caller : ℕ) (act : Act) → map call_of after.bus.master.history ≡ map call_of own ++ asked caller act ∷ []
+  pub answered-on : (caller : ℕ) (act : Act) → is_some after.bus.trace ≡ is_some run.bus.trace → map call_of after.bus.master.history ≡ map call_of own ++ asked caller act ∷ []
       → IsStillFollowing setting.rules (whole ++ on.event ∷ []) after.standby → after.quiet ≡ (run.quiet && refuses_nothing on.event)
       → IsRunOn IsHanded setting whole trace after.bus.master.history frames (asked caller act ∷ []) after
-  answered-on caller act answered follows quiet =
+  answered-on caller act kept answered follows quiet =
       let all : (run.quiet && refuses_nothing on.event) ≡ all_accepted (whole ++ on.event ∷ []) =
       ap (λ (b : Bool). b && refuses_nothing on.event) is.quiet
       ∙ ap (λ (b : Bool). all_accepted whole && b) (sym (and-true (refuses_nothing on.event)))
       ∙ sym (quiet-push whole on.event) in
-      handed-on (asked caller act ∷ []) answered follows (quiet ∙ all)
+      handed-on (asked caller act ∷ []) kept answered follows (quiet ∙ all)

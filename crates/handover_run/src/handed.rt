@@ -73,8 +73,7 @@ impl Handed {
             return;
         }
         if let Some(standby) = self.standby.take() {
-            let keeps = self.bus.master.keeps();
-            self.bus.master = LeanMaster::of(standby.take_over(), keeps);
+            self.bus.master = LeanMaster::of(standby.take_over());
         }
     }
 }

@@ -1,7 +1,7 @@
 -- What a run owes is served: each instance whose last cycle was run, and nothing else in its slot.
-use Rattle.std.proofs.Common.{◌≡◌, ℕ, ◌+◌, ◌*◌, ◌<◌, ◌≤◌, ◌⊎◌, ◌&&◌, Bool, true, false, eqb, leb, List, [], ◌++◌, get_or, Option, Some, None, All, Contains, IsSome, refl, ap, sym, ◌∙◌, arith, subst, inl, inr}
+use Rattle.std.proofs.Common.{◌≡◌, ℕ, ◌+◌, ◌*◌, ◌<◌, ◌≤◌, ◌⊎◌, ◌&&◌, Bool, true, false, eqb, leb, List, [], ◌∷◌, ◌++◌, get_or, Option, Some, None, All, Contains, IsSome, refl, ap, sym, ◌∙◌, arith, subst, inl, inr}
 use Rattle.std.specs.Prelude.{option_map, IfSome}
-use Rattle.std.proofs.lemmas.Bool.{cases_eq, eq-eqb, ne_eqb, le-leb, leb-true, and_from, and_left, and_right, and_parts, false_from_ne_true, cond-false}
+use Rattle.std.proofs.lemmas.Bool.{cases_eq, eq-eqb, ne_eqb, le-leb, leb-true, and_from, and_left, and_right, and_parts, false_from_ne_true}
 use Rattle.std.proofs.lemmas.List.Elements.{All-contains, Contains-append_cases, Contains-get_or, filter-append}
 use Rattle.std.proofs.Math.Nat.{div-lt_iff_lt-mul, div-eq_of_lt-le}
 use Rattle.profile.specs.Limits.{first_identifier}
@@ -18,10 +18,11 @@ use Rattle.change_protocol.specs.Applied.{without_end}
 use Rattle.planner_policies.specs.Plan.{Planning, flags_of, mask_at}
 use Rattle.admission_rules.specs.declared.Rules.{Rules}
 use Rattle.master_core.specs.History.{plan_of}
-use Rattle.trigger_codec.proofs.Shared.{behind-ids}
+use Rattle.trigger_kind.specs.Kind.{greatest_trigger}
+use Rattle.trigger_codec.proofs.Shared.{behind-ids, sent-low}
 use Rattle.cycle_engine.specs.Cycle.{IsRequestFrame, IsSentOnce, IsSlotFrame, RunsCycle, RunsCycles, cycle_of, frames_in, of_slot}
 use Rattle.kept_run.specs.Served.{AllGuarded, AllServed, ForgetsEnds, IsSentInWindow, NoStrangers, frames_of}
-use Rattle.kept_run.proofs.Lists.{Contains-cases, Contains-filter, Contains-nil, filter-filter, filter-none, filter-same, place-of}
+use Rattle.kept_run.proofs.Lists.{Contains-filter, Contains-nil, filter-filter, filter-none, filter-same, place-of}
 use Rattle.kept_run.proofs.Opened.{AreOpenedBy}
 use Rattle.kept_run.proofs.Plans.{mask-planned, mask-sendable, planned_once}
 
@@ -32,34 +33,37 @@ abbrev IsLaterFrame : CycleLayout → Opening → TimedFrame → Type 0
 IsLaterFrame layout opening sent = IsRequestFrame layout opening sent ⊎ IsSlotFrame layout opening sent
 
 module _ {sends : Instance → List ℕ} (layout : CycleLayout) (opening : Opening) (frames : List TimedFrame) (runs : RunsCycle sends layout opening frames) where
-  -- the first trigger frame has identifier 0, and one behind it identifier 1
+  -- the first trigger frame has identifier 0, and those behind it have others
   pub trigger_identifier : runs.trigger.frame.identifier ≡ 0
   trigger_identifier = ap (λ f. f.identifier) runs.is_trigger
 
-  pub second_identifiers : All (λ sent. sent.frame.identifier ≡ 1) runs.second
+  pub second_identifiers : All (λ sent. 0 < sent.frame.identifier) runs.second
   second_identifiers =
       behind-ids layout.slots opening.cycle (width_of opening) opening.mask runs.trigger runs.second runs.are_triggers
 
-  -- a frame of the cycle is one of its trigger frames, or one behind them
-  first_or_later : (sent : TimedFrame) → Contains frames sent → (sent.frame.identifier ≤ 1) ⊎ Contains runs.later sent
-  first_or_later sent among = elim (Contains-cases runs.trigger (runs.second ++ runs.later) sent (subst (λ l. Contains l sent) runs.all_frames among)) [
-    | inl trigger ↦ inl (let zero = ap (λ s. s.frame.identifier) (sym trigger) ∙ trigger_identifier in omega arith)
-    | inr behind ↦ elim (Contains-append_cases runs.second runs.later sent behind) [
-      | inl second ↦ inl (let one = All-contains (λ s. s.frame.identifier ≡ 1) runs.second sent second_identifiers second in omega arith)
-      | inr later ↦ inr later
-    ]
+  -- the frames of the cycle are its trigger frames, and those behind them
+  abbrev triggers : List TimedFrame
+  triggers = runs.trigger ∷ runs.second
+
+  split : frames ≡ triggers ++ runs.later
+  split = runs.all_frames
+
+  low : All (λ sent. sent.frame.identifier ≤ greatest_trigger) triggers
+  low = sent-low layout.slots opening.cycle (width_of opening) opening.mask triggers runs.are_triggers
+
+  first_or_later : (sent : TimedFrame) → Contains frames sent → (sent.frame.identifier ≤ greatest_trigger) ⊎ Contains runs.later sent
+  first_or_later sent among = elim (Contains-append_cases triggers runs.later sent (subst (λ l. Contains l sent) split among)) [
+    | inl trigger ↦ inl (All-contains (λ s. s.frame.identifier ≤ greatest_trigger) triggers sent low trigger)
+    | inr later ↦ inr later
   ]
 
   -- the frames of a slot in the cycle are those behind its trigger frames
   of_slot-cycle : (slot : ℕ) → of_slot slot frames ≡ of_slot slot runs.later
   of_slot-cycle slot =
-      let zero = trigger_identifier in
       let is_slot : TimedFrame → Bool = λ s. eqb s.frame.identifier (first_identifier + slot) in
-      let none : of_slot slot runs.second ≡ [] =
-      filter-none is_slot runs.second (λ k d within. ne_eqb _ _ (λ same. let one = second_identifiers k d within in omega arith)) in
-      ap (of_slot slot) runs.all_frames
-      ∙ cond-false (eqb runs.trigger.frame.identifier (first_identifier + slot)) _ _ (ne_eqb _ _ (λ same. omega arith))
-      ∙ filter-append is_slot runs.second runs.later ∙ ap (λ l. l ++ of_slot slot runs.later) none
+      let none : of_slot slot triggers ≡ [] =
+      filter-none is_slot triggers (λ k d within. ne_eqb _ _ (λ same. omega (arith, same, low k d within))) in
+      ap (of_slot slot) split ∙ filter-append is_slot triggers runs.later ∙ ap (λ l. l ++ of_slot slot runs.later) none
 
   -- a slot that is not flagged sends nothing in the cycle
   nothing_sent : (slot : ℕ) (sent : TimedFrame) → slot < most_slots → has_bit opening.mask slot ≡ false
@@ -203,7 +207,7 @@ module _ (sends : Instance → List ℕ) (rules : Rules) (layout : CycleLayout) 
     opening : Opening
     opened : Contains openings opening
     cycle : opening.cycle ≡ cycle_of layout sent
-    is : (sent.frame.identifier ≤ 1) ⊎ IsLaterFrame layout opening sent
+    is : (sent.frame.identifier ≤ greatest_trigger) ⊎ IsLaterFrame layout opening sent
 
   frame-of : (sent : TimedFrame) → Contains trace sent → IsFrameOf sent
   frame-of sent among =
@@ -242,7 +246,7 @@ module _ (sends : Instance → List ℕ) (rules : Rules) (layout : CycleLayout) 
 
   -- a frame with the identifier of a slot is sent where the slot is flagged
   slot-flagged : (o : Opening) (sent : TimedFrame) (slot : ℕ) → slot < most_slots → sent.frame.identifier ≡ first_identifier + slot
-      → (sent.frame.identifier ≤ 1) ⊎ IsLaterFrame layout o sent → has_bit o.mask slot ≡ true
+      → (sent.frame.identifier ≤ greatest_trigger) ⊎ IsLaterFrame layout o sent → has_bit o.mask slot ≡ true
   slot-flagged o sent slot known same is =
       elim is [
         | inl trigger ↦ absurd (omega arith)

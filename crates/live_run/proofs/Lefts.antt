@@ -1,5 +1,5 @@
 -- Requests that are not sent, node by node and owner by owner.
-use Rattle.std.proofs.Common.{◌≡◌, ℕ, zero, suc, ◌+◌, ◌<◌, ◌≤◌, eqb, Bool, true, false, cond, List, [], ◌∷◌, length, map, filter, fold, sum_by, All, Option, Some, None, refl, sym, ap, ◌∙◌, arith}
+use Rattle.std.proofs.Common.{◌≡◌, ℕ, zero, suc, ◌+◌, ◌<◌, ◌≤◌, eqb, nat_lt, Bool, true, false, cond, List, [], ◌∷◌, length, map, filter, fold, sum_by, All, Option, Some, None, refl, sym, ap, ◌∙◌, arith}
 use Rattle.std.specs.Prelude.{slice_get}
 use Rattle.std.specs.List.{range_with_len}
 use Rattle.std.proofs.lemmas.List.Sums.{sum_by-cons}
@@ -174,7 +174,7 @@ number-heard (sent ∷ later) node =
     let old = record node { frames = counted node.frames } in
     number-heard later (after_hearing node sent)
     ∙ number-either (eqb frame.identifier (opening_identifier old.layout.slots)) _ _ node.number refl
-    (number-either (eqb frame.identifier 0) _ _ node.number refl
+    (number-either (nat_lt frame.identifier (opening_identifier old.layout.slots)) _ _ node.number refl
     (number-either (is_own_slot old.entries frame.identifier) _ _ node.number refl refl))
 
 pub numbers_heard : (frames : List TimedFrame) (nodes : List NodeState)

@@ -367,3 +367,27 @@ core-all law core is whole held well slots nodes = record {
   to_learn = learned-or whole (is_some core.learned);
   few = λ on. absurd (cc);
 }
+
+-- the fields of it
+module _ (core : CoreView) (whole list : List Placed) (learned : Option (List Placed)) (list_is : list ≡ whole)
+    (learned_is : learned ≡ (if is_some core.learned then Some whole else None)) where
+  pub all-fields : record core { placed = list; learned = learned; forgets = false } ≡ with_all core whole
+  all-fields =
+      ap (λ (l : List Placed). record core { placed = l; learned = learned; forgets = false }) list_is
+      ∙ ap (λ (o : Option (List Placed)). record core { placed = whole; learned = o; forgets = false }) learned_is
+
+  pub core-whole : WholeLaw → (since : ℕ) (ranked : Ranking) → IsCore core → IsRanked core since ranked → IsPrunedBefore core.cycle whole core.placed → IsWellPlaced whole
+      → All (HasSlot core.rules.slots) whole → All (HasNode core.rules.nodes) whole → (by : ℕ) (fewer : Ranking) → by ≡ core.cycle
+      → fewer ≡ record ranked { placed = not_over core.cycle list }
+      → IsCore (record core { placed = list; learned = learned; forgets = false })
+      × IsRanked (record core { placed = list; learned = learned; forgets = false }) by fewer
+  core-whole law since ranked is ranks held well slots nodes by fewer by_is left = (
+    subst IsCore (sym all-fields) (core-all law core is whole held well slots nodes),
+    record {
+      passed = omega arith;
+      left =
+          left
+          ∙ ap (λ (r : Ranking). record r { placed = not_over core.cycle list }) ranks.left
+          ∙ ap (λ (n : ℕ). ranking_by core.rules (not_over n list)) (sym by_is);
+    },
+  )

@@ -9,6 +9,8 @@ mod Growing
 mod Histories
 mod Journals
 mod Keeping
+mod KeptLists
+mod KeptPlans
 mod KnownSlots
 mod LeadsOn
 mod LeanSteps
@@ -25,3 +27,4 @@ mod Told
 mod Unfelt
 mod Walks
 mod Whole
+mod WholePlans

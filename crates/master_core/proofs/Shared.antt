@@ -18,7 +18,9 @@ use Rattle.change_protocol.specs.declared.operations.Act.TheVariants as act
 use Rattle.master_core.specs.Calls.{Call, asked, call_of}
 pub use Rattle.master_core.proofs.Earlier.{opened-of_legal}
 pub use Rattle.master_core.proofs.Histories.{is_changed-push, legal-push, next_of-push, openings_of-push, placed_of-push}
+pub use Rattle.master_core.proofs.KeptLists.{kept-held, kept-next, kept-same, kept_of-push}
 pub use Rattle.master_core.proofs.Legal.{sound-of_legal}
+pub use Rattle.master_core.proofs.Settling.{none-behind, same-placed, since-now}
 
 -- there is one verdict
 pub record OneVerdict : Type 0 where

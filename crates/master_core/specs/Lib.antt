@@ -5,9 +5,9 @@ pub mod Calls
 pub mod Certificates
 pub mod CorePlans
 pub mod Cores
-pub mod Grown
 pub mod History
 pub mod Journals
 pub mod Keeping
+pub mod Kept
 pub mod Openings
 pub mod Orders

@@ -36,7 +36,8 @@ pub struct Planned {
 }
 
 impl Model for Planned {
-    ghost use Rattle.std.specs.Prelude.{All};
+    ghost use Rattle.std.specs.Prelude.{All, IfSome};
+    ghost use Rattle.requirement_table.specs.Table.{IsWellPlaced};
     ghost use Rattle.change_protocol.specs.Operations.{HasTypes};
     ghost use Rattle.master_core.specs.Answers.{AreTablesOf, decision_of};
     ghost use Rattle.master_core.specs.Apart.{PlannedView};
@@ -51,7 +52,8 @@ impl Model for Planned {
       decision = decision_of p.answer;
     } };
 
-    ghost invariant = { λ p. All HasTypes p.answer.change.ops × AreTablesOf p.rules p.answer.from p.answer.made };
+    ghost invariant = { λ p. All HasTypes p.answer.change.ops × AreTablesOf p.rules p.answer.from p.answer.made
+        × IfSome p.answer.made (λ made. IsWellPlaced made.learned) };
 }
 
 impl Planned {

@@ -1,6 +1,6 @@
 //! The core of a master: what it keeps besides its history.
 
-ghost use Rattle.std.specs.Prelude.{◌≡◌, ◌+◌, ◌^◌, ◌<◌, ◌≤◌, ◌++◌, ◌∷◌, [], List, ℕ, true, false, Some, None, Bool, All, IfOk, IfSome, OnErr, OnOk, if◌then◌else◌, length, option_map};
+ghost use Rattle.std.specs.Prelude.{◌≡◌, ◌+◌, ◌^◌, ◌<◌, ◌≤◌, ◌++◌, ◌∷◌, [], List, ℕ, true, false, Some, None, Bool, All, IfOk, IfSome, OnErr, OnOk, if◌then◌else◌, is_some, length, option_map};
 ghost use Rattle.profile.specs.Limits.{cycles_end, openings_end};
 ghost use Rattle.change_protocol.specs.Applied.{applied};
 ghost use Rattle.plan_check.specs.PlanKept.{IsTaken};
@@ -20,6 +20,7 @@ ghost use Rattle.master_core.specs.History.{IsRightAnswer, placed_of};
 ghost use Rattle.master_core.specs.declared.event.Event.{Event};
 ghost use Rattle.master_core.specs.declared.event.Event.TheVariants.{Submit, Look, Open};
 
+use crate::all_placed::AllPlaced;
 use crate::answer::{Answer, answer_of, take_over};
 use crate::answered::Answered;
 use crate::apart::Snapshot;
@@ -320,30 +321,32 @@ impl Core {
         self.learned = pruned(self.learned.take(), since);
     }
 
-    /// The core with this list in place of the one that it keeps, which is this list without some entries that no later
-    /// answer needs. It forgets none.
-    ///
-    /// # Errors
-    ///
-    /// Only where memory runs out.
-    pub(crate) fn with_all(&self, alloc: Global, placed: Vec<Placed>) -> Result<Core, AllocError>
-        requires pruned { IsPrunedBefore self.now.cycle placed.items self.now.placed }
-        requires well_placed { IsWellPlaced placed.items }
-        requires slots { All (λ p. p.entry.slot < self.now.rules.slots) placed.items }
-        requires nodes { All (λ p. p.entry.node < self.now.rules.nodes) placed.items }
-        ensures core { IfOk result (λ core. core ≡ with_all self.now placed.items) }
+    /// The core with all placed entries in place of those that it keeps, which are all without some that no later answer
+    /// needs. It forgets none. It takes no memory.
+    pub(crate) fn into_all(self, all: AllPlaced) -> Core
+        requires pruned { IsPrunedBefore self.cycle all self.placed }
+        requires slots { All (λ p. p.entry.slot < self.rules.slots) all }
+        requires nodes { All (λ p. p.entry.node < self.rules.nodes) all }
+        ensures core { result ≡ with_all self all }
     {
         safe_states();
-        let learned = learned_list(alloc, placed.as_slice(), self.learned.is_some())?;
-        let table = Table::of(alloc, placed, self.state.cycle, &self.rules)?;
-        Ok(Core {
-            rules: self.rules,
+        let Core {
+            rules,
             table,
-            state: self.state,
+            state,
             learned,
-            accepted: self.accepted,
+            accepted,
+            forgets: _,
+        } = self;
+        let (placed, learned) = all.into_lists(learned.is_some());
+        Core {
+            rules,
+            table: table.with_list(placed, &state),
+            state,
+            learned,
+            accepted,
             forgets: false,
-        })
+        }
     }
 
     /// Plans and opens the next cycle, below 2^41. No deadline is missed in it, nor in any later one. It takes no
@@ -538,6 +541,13 @@ impl Core {
         ensures few { self.now.forgets ≡ true → length result.now ≤ most_kept }
     {
         self.table.placed.as_slice()
+    }
+
+    /// Whether the nodes are to learn the entries.
+    pub(crate) fn learns(&self) -> bool
+        ensures learns { result ≡ is_some self.now.learned }
+    {
+        self.learned.is_some()
     }
 
     /// Law: what holds of every core.

@@ -87,6 +87,18 @@ impl Journal {
         if keeps { Some(recent) } else { None }
     }
 
+    /// All events, where they are kept.
+    pub(crate) fn events(&self) -> Option<&[Event]>
+        ensures all { IfSome result (λ events. events.now ≡ self.now.history) }
+        ensures kept { is_some result ≡ self.now.keeps }
+    {
+        if self.keeps {
+            Some(self.recent.as_slice())
+        } else {
+            None
+        }
+    }
+
     /// Makes room for so many events. Where all are kept, they need no memory then; else it takes memory for one.
     ///
     /// # Errors
@@ -111,6 +123,17 @@ impl Journal {
         make_room(&mut self.recent, places)?;
         self.spare = events;
         Ok(())
+    }
+
+    /// Gives the room for one event back.
+    pub(crate) fn release(&mut self)
+        requires spare { 1 ≤ self.old.spare }
+        ensures history { self.new.history ≡ self.old.history }
+        ensures keeps { self.new.keeps ≡ self.old.keeps }
+        ensures spare { self.new.spare + 1 ≡ self.old.spare }
+        ensures few { length self.new.history + self.new.spare < 2 ^ 61 }
+    {
+        self.spare -= 1;
     }
 
     /// Puts an event behind the others, for which there is room.

@@ -14,6 +14,7 @@ mod event;
 mod journal;
 pub mod laws;
 mod lean;
+mod lean_plans;
 mod master;
 mod opened;
 mod past;

@@ -112,12 +112,12 @@ apart-turned one other are = record {
 }
 
 pub after_hearing-entries : (node : NodeState) (sent : TimedFrame) → (after_hearing node sent).entries ≡ node.entries
-after_hearing-entries node sent = after_hearing-keeps (λ n. n.entries ≡ node.entries) node sent (λ opening. refl) (λ other noting. refl) refl refl
+after_hearing-entries node sent = after_hearing-keeps (λ n. n.entries ≡ node.entries) node sent (λ opening. refl) (λ noting. refl) refl refl
 
 pub after_hearing-identifiers : (node : NodeState) (sent : TimedFrame) → map (λ box. box.identifier) (after_hearing node sent).mail ≡ map (λ box. box.identifier) node.mail
 after_hearing-identifiers node sent =
     after_hearing-keeps (λ n. map (λ box. box.identifier) n.mail ≡ map (λ box. box.identifier) node.mail) node sent
-    (λ opening. refl) (λ other noting. refl) refl (without_first-identifiers sent.frame.identifier node.mail)
+    (λ opening. refl) (λ noting. refl) refl (without_first-identifiers sent.frame.identifier node.mail)
 
 pub apart-same : (one other after also : NodeState) → after.entries ≡ one.entries → also.entries ≡ other.entries
     → map (λ box. box.identifier) after.mail ≡ map (λ box. box.identifier) one.mail

@@ -27,8 +27,9 @@ use Rattle.node_model.specs.Node.{NodeState, after_hearing, counted, entries_of,
 use Rattle.async_window.specs.Owners.{AreOwners}
 use Rattle.node_model.specs.Own.{StandsIn, StandsOnBus, was_sent}
 use Rattle.node_model.specs.Offered.{trigger_frames}
+use Rattle.trigger_kind.specs.Kind.{greatest_trigger}
 use Rattle.node_model.proofs.OtherFrames.{other-frame}
-use Rattle.node_model.proofs.Triggers.{IsBelowTwo, opened_with, opening_done, opens-next, trigger-identifiers}
+use Rattle.node_model.proofs.Triggers.{IsOfTrigger, opened_with, opening_done, opens-next, trigger-identifiers}
 use Rattle.node_model.proofs.OwnEntries.{entries_of-well_placed}
 use Rattle.node_model.proofs.Standing.{standing, opened_for, standing_in-is}
 
@@ -86,7 +87,7 @@ module _ (layout : CycleLayout) (owners : List Owner) (requests : List Request) 
 
   -- after the trigger frames no slot of the cycle was sent
   none_sent : (past sent : List TimedFrame) (slot : ℕ) → All (λ earlier. earlier.start < start_of layout opening) past
-      → All IsBelowTwo sent → was_sent layout opening (past ++ sent) slot ≡ false
+      → All IsOfTrigger sent → was_sent layout opening (past ++ sent) slot ≡ false
   none_sent past sent slot before triggers =
       list_any_none (is_of_slot slot) (past ++ sent)
       (All-append (λ x. is_of_slot slot x ≡ false) past sent
@@ -104,13 +105,13 @@ module _ (layout : CycleLayout) (owners : List Owner) (requests : List Request) 
 
   -- trigger frames take away no request
   same_mail-all : (number : ℕ) → AreOwners owners
-      → (sent past : List TimedFrame) → All IsBelowTwo sent
+      → (sent past : List TimedFrame) → All IsOfTrigger sent
       → mail_after (identifiers_of number owners) requests past ≡ mail_after (identifiers_of number owners) requests (past ++ sent)
   same_mail-all number are [] past triggers = ap (mail_after (identifiers_of number owners) requests) (sym (append-nil past))
   same_mail-all number are (one ∷ rest) past triggers =
-      let below = All-head IsBelowTwo one rest triggers in
+      let below = All-head IsOfTrigger one rest triggers in
       same_mail (identifiers_of number owners) past one (mail_after-least number owners requests past are) (omega (arith, below))
-      ∙ same_mail-all number are rest (past ++ one ∷ []) (All-tail IsBelowTwo one rest triggers)
+      ∙ same_mail-all number are rest (past ++ one ∷ []) (All-tail IsOfTrigger one rest triggers)
       ∙ ap (mail_after (identifiers_of number owners) requests) (append_assoc past (one ∷ []) rest)
 
   module _ (past : List TimedFrame) (sent : TimedFrame) (number frames : ℕ) (noted : Noted) (are : AreOwners owners) where
@@ -121,7 +122,7 @@ module _ (layout : CycleLayout) (owners : List Owner) (requests : List Request) 
     above = mail_after-least number owners requests past are
 
     -- another frame
-    module _ (heard : ℕ) (well : IsWellPlaced opening.placed) (other : 1 < sent.frame.identifier) (begun : start_of layout opening ≤ sent.start)
+    module _ (heard : ℕ) (well : IsWellPlaced opening.placed) (other : greatest_trigger < sent.frame.identifier) (begun : start_of layout opening ≤ sent.start)
         (marked : stands_marked number past heard) where
       abbrev open_node : NodeState
       open_node = in_cycle number noted past heard frames
@@ -200,7 +201,7 @@ module _ (layout : CycleLayout) (owners : List Owner) (requests : List Request) 
           ]
 
 module _ (layout : CycleLayout) (owners : List Owner) (requests : List Request) (opening : Opening) (past sent : List TimedFrame) where
-  stands-opened : (node : NodeState) (frames : ℕ) → AreOwners owners → All (λ earlier. earlier.start < start_of layout opening) past → All IsBelowTwo sent
+  stands-opened : (node : NodeState) (frames : ℕ) → AreOwners owners → All (λ earlier. earlier.start < start_of layout opening) past → All IsOfTrigger sent
       → StandsOnBus layout owners requests opening.placed past opening.cycle node
       → StandsIn layout owners requests opening (past ++ sent) (opening_done node (width_of opening) opening.mask frames)
   stands-opened node frames are before triggers stands = record {
@@ -236,7 +237,7 @@ module _ (layout : CycleLayout) (owners : List Owner) (requests : List Request) 
 
 pub stands-later : (layout : CycleLayout) (owners : List Owner) (requests : List Request) (opening : Opening) (past : List TimedFrame)
     (sent : TimedFrame) (node : NodeState)
-    → AreOwners owners → IsWellPlaced opening.placed → 1 < sent.frame.identifier → start_of layout opening ≤ sent.start
+    → AreOwners owners → IsWellPlaced opening.placed → greatest_trigger < sent.frame.identifier → start_of layout opening ≤ sent.start
     → StandsIn layout owners requests opening past node
     → StandsIn layout owners requests opening (past ++ sent ∷ []) (after_hearing node sent)
 stands-later layout owners requests opening past sent node are well other begun stands =

@@ -17,6 +17,7 @@ use Rattle.bit_sets.proofs.Shared.{has_bit-set_of, least_where-same, IsLeastBelo
 use Rattle.bit_sets.specs.Least.{least_where}
 use Rattle.node_model.specs.Node.{IsNode, NodeState, Opened, after_hearing, is_due, is_own_slot, node_frame, node_offer, offer_in, with_heard}
 use Rattle.node_model.specs.Window.{IsInWindow, due_frame, is_due_slot}
+use Rattle.trigger_kind.specs.Kind.{greatest_trigger}
 use Rattle.node_model.proofs.OtherFrames.{other-frame}
 use Rattle.node_model.proofs.HeardSlots.{hear-one, marked}
 use Rattle.node_model.proofs.Known.{own-slot}
@@ -94,7 +95,7 @@ heard_layout : (own : Bool) (slot request node : NodeState) → slot.layout ≡ 
 heard_layout true slot request node a b = a
 heard_layout false slot request node a b = b
 
-pub stays-in_window : (node : NodeState) (from until : ℕ) (one : TimedFrame) → 1 < one.frame.identifier → IsInWindow from until node
+pub stays-in_window : (node : NodeState) (from until : ℕ) (one : TimedFrame) → greatest_trigger < one.frame.identifier → IsInWindow from until node
     → IsInWindow from until (after_hearing node one)
 stays-in_window node from until one other is =
     let o = is.opened in

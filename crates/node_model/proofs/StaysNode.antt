@@ -1,6 +1,5 @@
 -- What holds of every node still holds when it learns a list or hears a frame.
-use Rattle.std.proofs.Common.{◌≡◌, ◌≢◌, ℕ, ◌+◌, ◌-◌, ◌^◌, ◌<◌, ◌≤◌, ◌==◌, false, Option, Some, None, IfSome, List, sym, ◌∙◌, arith, option_map}
-use Rattle.std.proofs.lemmas.Bool.{both_ways, eq-eqb}
+use Rattle.std.proofs.Common.{◌≡◌, ◌≢◌, ℕ, ◌+◌, ◌-◌, ◌^◌, ◌<◌, ◌≤◌, Option, Some, None, IfSome, List, arith, option_map}
 use Rattle.profile.specs.Limits.{first_identifier}
 use Rattle.can_frame.specs.declared.data_frame.TimedFrame.{TimedFrame}
 use Rattle.requirement_table.specs.declared.entries.Placed.{Placed}
@@ -42,10 +41,9 @@ open-slot : (window next slot : ℕ) (opened : Option Opened) → IfSome opened 
 open-slot window next slot None is = tt
 open-slot window next slot (Some opened) is = is
 
--- where identifier 0 opens no cycle the first trigger frame is not the last one
-more-frames : (slots id : ℕ) → (id == opening_identifier slots) ≡ false → id ≡ 0 → opening_identifier slots ≢ 0
-more-frames slots id other first zeroth =
-    both_ways (id == opening_identifier slots) other (eq-eqb id (opening_identifier slots) (first ∙ sym zeroth))
+-- where a frame comes before the last one, that one is not the first
+more-frames : (slots id : ℕ) → id < opening_identifier slots → opening_identifier slots ≢ 0
+more-frames slots id earlier first = omega (arith, earlier, first)
 
 counted-small : (n : ℕ) → n < 2 ^ 64 → counted n < 2 ^ 64
 counted-small n small = omega arith
@@ -64,7 +62,7 @@ node-hearing node sent early is =
       frames = counted-small node.frames is.frames;
       noted = tt;
     })
-    (λ other first. record {
+    (λ earlier. record {
       layout = is.layout;
       entries = is.entries;
       mail = is.mail;
@@ -72,7 +70,7 @@ node-hearing node sent early is =
       next = is.next;
       frames = counted-small node.frames is.frames;
       noted = first-noted (triggers_of node.layout.slots) node.layout.window node.next (trigger_of sent.frame)
-          (more-frames node.layout.slots sent.frame.identifier other first);
+          (more-frames node.layout.slots sent.frame.identifier earlier);
     })
     (record {
       layout = is.layout;

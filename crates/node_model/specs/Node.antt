@@ -1,6 +1,6 @@
 -- One node: what it knows, what it does with a frame that it hears, and what it offers. Times are bit times.
 use Rattle.std.specs.Prelude.{ℕ, ◌+◌, ◌-◌, ◌/◌, ◌^◌, ◌<◌, ◌≤◌, ◌==◌, ◌&&◌, ◌||◌, not}
-use Rattle.std.specs.Prelude.{Bool, nat_le, nat_eq, if◌then◌else◌, List, [], map, filter, min, Option}
+use Rattle.std.specs.Prelude.{Bool, nat_le, nat_lt, nat_eq, if◌then◌else◌, List, [], map, filter, min, Option}
 use Rattle.std.specs.Prelude.{Some, None, IfSome, IsSome, is_some, option_map, slice_get}
 use Rattle.std.specs.Option.{option_map_or}
 use Rattle.std.specs.List.{list_any}
@@ -137,7 +137,7 @@ after_request node id = record node { mail = without_first id node.mail }
 abbrev pub after_frame : NodeState → DataFrame → NodeState
 after_frame node frame =
     if frame.identifier == opening_identifier node.layout.slots then after_opening node frame
-    else (if frame.identifier == 0 then after_noting node frame
+    else (if nat_lt frame.identifier (opening_identifier node.layout.slots) then after_noting node frame
     else (if is_own_slot node.entries frame.identifier then after_slot node (frame.identifier - first_identifier)
     else after_request node frame.identifier))
 

@@ -14,7 +14,7 @@ ghost use Rattle.async_window.specs.declared.request.Request.{Request};
 ghost use Rattle.requirement_table.specs.Opening.{Opening, width_of};
 ghost use Rattle.node_model.specs.Opening.{start_of};
 ghost use Rattle.node_model.specs.Node.{IsNode, NodeState, after_hearing, after_request, learnt, node_frame};
-ghost use Rattle.trigger_kind.specs.Kind.{opening_identifier};
+ghost use Rattle.trigger_kind.specs.Kind.{greatest_trigger, opening_identifier};
 ghost use Rattle.node_model.specs.Node.{node_offer};
 ghost use Rattle.node_model.specs.Offered.{trigger_frames};
 ghost use Rattle.node_model.specs.Window.{IsInWindow, due_frame, is_due_slot};
@@ -31,7 +31,8 @@ pub fn offers_its_part()
 {}
 
 /// What a node knows as it hears the frames of a cycle: the trigger frames first, and then frames of other identifiers.
-/// Between two trigger frames it offers nothing. Where a cycle has one, a frame with identifier 1 is only counted.
+/// Between two trigger frames it offers nothing. A frame with an identifier of a trigger frame that such a cycle has not
+/// is only counted.
 pub fn hears_a_cycle()
     ensures learnt { (layout : CycleLayout) (owners : List Owner) (requests : List Request) (placed other : List Placed)
         (past : List TimedFrame) (next : ℕ) (node : NodeState)
@@ -45,16 +46,16 @@ pub fn hears_a_cycle()
         → StandsOnBus layout owners requests opening.placed past opening.cycle node
         → StandsIn layout owners requests opening (past ++ sent) (fold after_hearing node sent) }
     ensures between { (node : NodeState) (sent : TimedFrame) (at : ℕ)
-        → IsNode node → sent.frame.identifier ≡ 0 → opening_identifier node.layout.slots ≢ 0
-        → node.next ≤ at / node.layout.cycle
+        → IsNode node → sent.frame.identifier < opening_identifier node.layout.slots → node.next ≤ at / node.layout.cycle
         → node_offer (after_hearing node sent) at ≡ None }
     ensures only_counted { (node : NodeState) (sent : TimedFrame)
-        → IsNode node → opening_identifier node.layout.slots ≡ 0 → sent.frame.identifier ≡ 1
+        → IsNode node → opening_identifier node.layout.slots < sent.frame.identifier
+        → sent.frame.identifier ≤ greatest_trigger
         → after_hearing node sent ≡ counting node }
     ensures later { (layout : CycleLayout) (owners : List Owner) (requests : List Request) (opening : Opening)
         (past : List TimedFrame) (sent : TimedFrame) (node : NodeState)
         → AreOwners owners → IsWellPlaced opening.placed
-        → 1 < sent.frame.identifier → start_of layout opening ≤ sent.start
+        → greatest_trigger < sent.frame.identifier → start_of layout opening ≤ sent.start
         → StandsIn layout owners requests opening past node
         → StandsIn layout owners requests opening (past ++ sent ∷ []) (after_hearing node sent) }
 {}
@@ -107,7 +108,8 @@ pub fn sends_its_slots()
     ensures frames { (node : NodeState) (from until at slot : ℕ)
         → IsNode node → IsInWindow from until node → from ≤ at → at < until
         → slot < most_slots → node_frame node at (first_identifier + slot) ≡ due_frame node slot }
-    ensures stays { (node : NodeState) (from until : ℕ) (sent : TimedFrame) → 1 < sent.frame.identifier
+    ensures stays { (node : NodeState) (from until : ℕ) (sent : TimedFrame)
+        → greatest_trigger < sent.frame.identifier
         → IsInWindow from until node → IsInWindow from until (after_hearing node sent) }
     ensures same_frames { (node : NodeState) (slot other : ℕ) (sent : TimedFrame) → IsNode node
         → sent.frame.identifier ≡ first_identifier + slot → slot < most_slots

@@ -26,7 +26,7 @@ use profile::{FIRST_IDENTIFIER, LEAST_ASYNCHRONOUS, TIMES_END};
 use requirement_table::{Mask, Placed};
 use std::alloc::{AllocError, Global};
 use std::marker::Model;
-use trigger_codec::{Noted, TRIGGER_IDENTIFIER, Trigger, decode, first_heard, last_heard};
+use trigger_codec::{Noted, Trigger, decode, first_heard, last_heard};
 
 /// A node of the bus. Contracts see what it knows, and the greatest length of a list that it can learn without memory.
 #[derive(Drop)]
@@ -190,9 +190,10 @@ impl Node {
         ensures spare { self.new.spare ≡ self.old.spare }
     {
         let id = heard.frame.id();
-        if id == self.layout.triggers().opening() {
+        let opening = self.layout.triggers().opening();
+        if id == opening {
             self.hear_last(heard);
-        } else if id == TRIGGER_IDENTIFIER {
+        } else if id < opening {
             self.note(heard);
         } else if self.hear_other(heard) {
             self.look_ahead(last_bit(heard));
@@ -213,11 +214,10 @@ impl Node {
         self.look_ahead(last_bit(heard));
     }
 
-    /// Notes the first trigger frame, where it is not the last one.
+    /// Notes a trigger frame that is not the last one.
     #[inline(never)]
     fn note(&mut self, heard: &TimedFrame)
-        requires first { heard.now.frame.identifier ≡ 0 }
-        requires more { heard.now.frame.identifier ≢ opening_identifier self.old.state.layout.slots }
+        requires earlier { heard.now.frame.identifier < opening_identifier self.old.state.layout.slots }
         ensures heard { self.new.state ≡ after_hearing self.old.state heard.now }
         ensures spare { self.new.spare ≡ self.old.spare }
     {
@@ -228,8 +228,7 @@ impl Node {
     /// Hears a frame that is none of the trigger frames, without a look ahead. The answer is whether the frame is
     /// one of the node's own; another one is only counted.
     fn hear_other(&mut self, heard: &TimedFrame) -> bool
-        requires first { heard.now.frame.identifier ≢ 0 }
-        requires last { heard.now.frame.identifier ≢ opening_identifier self.old.state.layout.slots }
+        requires behind { opening_identifier self.old.state.layout.slots < heard.now.frame.identifier }
         ensures heard { self.new.state ≡ after_hearing self.old.state heard.now }
         ensures spare { self.new.spare ≡ self.old.spare }
     {

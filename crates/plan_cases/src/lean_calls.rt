@@ -28,7 +28,7 @@ pub fn answer(alloc: Global, placed: &[Placed], numbers: &str) -> Result<String,
     let mut last = String::new(alloc);
     let lean = asked(alloc, rules, false, placed, &mut last)?;
     let few = lean.placed().len();
-    let whole = match keeping.into_master(alloc)? {
+    let whole = match keeping.into_master() {
         Some(master) => master.placed().len(),
         None => 0,
     };

@@ -78,7 +78,7 @@ pub fn answer(alloc: Global, rules: &Rules, steps: &[Step]) -> Result<Master, Al
 {
     let mut master = LeanMaster::new(alloc, *rules, true)?;
     drive(&mut master, alloc, steps)?;
-    match master.into_master(alloc)? {
+    match master.into_master() {
         Some(master) => Ok(master),
         None => unreachable!(),
     }

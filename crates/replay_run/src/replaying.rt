@@ -69,7 +69,7 @@ pub fn replay(
 {
     match log_steps(alloc, system, steps, requests, true, &mut Silence) {
         Ok(Bus { master, trace, .. }) => match trace {
-            Some(trace) => match master.into_master(alloc)? {
+            Some(trace) => match master.into_master() {
                 Some(master) => Ok(ReplayedRun { master, trace }),
                 None => unreachable!(),
             },

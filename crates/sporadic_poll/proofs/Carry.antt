@@ -9,6 +9,7 @@ use Rattle.std.proofs.lemmas.Option.{none-some, same_Some}
 use Rattle.profile.specs.Limits.{first_identifier}
 use Rattle.can_frame.specs.DataFrame.{DataFrame}
 use Rattle.can_frame.specs.declared.data_frame.TimedFrame.{TimedFrame}
+use Rattle.trigger_kind.specs.Kind.{greatest_trigger}
 use Rattle.cycle_layout.specs.Layout.{CycleLayout, IsLayout}
 use Rattle.requirement_table.specs.Instance.{Instance, bytes_of}
 use Rattle.requirement_table.specs.Opening.{Opening, width_of}
@@ -130,11 +131,11 @@ slot_is frame slot few is =
     rw test (ap Some less)
 
 -- and its identifier is no lower
-above_low : (frame : DataFrame) (slot : ℕ) → slot_sent frame ≡ Some slot → 1 < frame.identifier
+above_low : (frame : DataFrame) (slot : ℕ) → slot_sent frame ≡ Some slot → greatest_trigger < frame.identifier
 above_low frame slot is = by_test (nat_le first_identifier frame.identifier && nat_lt frame.identifier (first_identifier + most_slots)) refl is
   where
     by_test : (test : Bool) → (nat_le first_identifier frame.identifier && nat_lt frame.identifier (first_identifier + most_slots)) ≡ test
-        → (if test then Some (frame.identifier - first_identifier) else None) ≡ Some slot → 1 < frame.identifier
+        → (if test then Some (frame.identifier - first_identifier) else None) ≡ Some slot → greatest_trigger < frame.identifier
     by_test true passes some = omega (arith, leb-true first_identifier frame.identifier ((and_parts _ _ passes).0))
     by_test false passes some = absurd (none-some slot some)
 
@@ -210,10 +211,10 @@ module _ (streams : List Stream) (carried : ℕ → ℕ → Option ℕ) (opening
       (λ k d inside slot few is. none-some slot (sym (none k d inside) ∙ slot_is (get_or front k d).frame slot few is))
       (λ sent at. high sent (subst (λ o. IfSome o (λ s. is_some (slot_sent s.frame) ≡ true)) at first)) follows)
     where
-      high : (sent : TimedFrame) → is_some (slot_sent sent.frame) ≡ true → 1 < sent.frame.identifier
+      high : (sent : TimedFrame) → is_some (slot_sent sent.frame) ≡ true → greatest_trigger < sent.frame.identifier
       high sent is = by_test (nat_le first_identifier sent.frame.identifier && nat_lt sent.frame.identifier (first_identifier + most_slots)) refl is
         where
           by_test : (test : Bool) → (nat_le first_identifier sent.frame.identifier && nat_lt sent.frame.identifier (first_identifier + most_slots)) ≡ test
-              → is_some (if test then Some (sent.frame.identifier - first_identifier) else None) ≡ true → 1 < sent.frame.identifier
+              → is_some (if test then Some (sent.frame.identifier - first_identifier) else None) ≡ true → greatest_trigger < sent.frame.identifier
           by_test true passes some = omega (arith, leb-true first_identifier sent.frame.identifier ((and_parts _ _ passes).0))
           by_test false passes some = absurd (cc)

@@ -17,6 +17,7 @@ use Rattle.requirement_table.specs.Instance.{Instance, bytes_of}
 use Rattle.requirement_table.specs.Opening.{Opening, width_of}
 use Rattle.bit_sets.specs.Sets.{has_bit, most_slots}
 use Rattle.requirement_table.specs.Table.{instance_in}
+use Rattle.trigger_kind.specs.Kind.{greatest_trigger}
 use Rattle.trigger_codec.specs.Bytes.{triggers_with}
 use Rattle.trigger_codec.proofs.Shared.{low_ids}
 use Rattle.async_window.specs.Waiting.{frames_with, unsent_after}
@@ -29,8 +30,8 @@ use Rattle.cycle_engine.specs.SyncWindow.{back_to_back, sent_at}
 use Rattle.sporadic_poll.specs.Rides.{sent_anew}
 
 -- a trigger frame has the identifier 0 or 1
-pub low : (slots cycle l mask : ℕ) (frame : DataFrame) → Contains (triggers_with slots cycle l mask) frame → frame.identifier ≤ 1
-low slots cycle l mask frame has = All-contains (λ f. f.identifier ≤ 1) (triggers_with slots cycle l mask) frame (low_ids slots cycle l mask) has
+pub low : (slots cycle l mask : ℕ) (frame : DataFrame) → Contains (triggers_with slots cycle l mask) frame → frame.identifier ≤ greatest_trigger
+low slots cycle l mask frame has = All-contains (λ f. f.identifier ≤ greatest_trigger) (triggers_with slots cycle l mask) frame (low_ids slots cycle l mask) has
 
 -- where there are no requests, none is offered
 pub no_request : (layout : CycleLayout) (opening : Opening) (past : List TimedFrame) (at : ℕ) (frame : DataFrame) → OffersRequest layout [] opening past at frame → ⊥
@@ -153,7 +154,7 @@ module _ (layout : CycleLayout) (opening : Opening) (sends : Instance → List �
   is_trigger past at frame none (inr (inr (slot, offers))) = absurd (none slot offers.known offers.identifier)
 
   -- and one that is no trigger frame is sent in the window
-  late_slot : (past : List TimedFrame) (at : ℕ) (frame : DataFrame) → 1 < frame.identifier → offered_in bytes_of layout [] opening past at frame → window_start layout opening ≤ at
+  late_slot : (past : List TimedFrame) (at : ℕ) (frame : DataFrame) → greatest_trigger < frame.identifier → offered_in bytes_of layout [] opening past at frame → window_start layout opening ≤ at
   late_slot past at frame high (inl trigger) = absurd (omega (arith, high, low layout.slots opening.cycle (width_of opening) opening.mask frame trigger.among))
   late_slot past at frame high (inr (inl request)) = absurd (no_request layout opening past at frame request)
   late_slot past at frame high (inr (inr (slot, offers))) = offers.late_enough
@@ -232,7 +233,7 @@ module _ (layout : CycleLayout) (opening : Opening) (sends : Instance → List �
 
     -- the frames from the first frame of a slot on
     from_first : (window : List TimedFrame) (past others : List TimedFrame) (free : ℕ) → AreAlike past others → AllSent (past ++ window) → start_of layout opening ≤ free
-        → ((sent : TimedFrame) → slice_get window 0 ≡ Some sent → 1 < sent.frame.identifier)
+        → ((sent : TimedFrame) → slice_get window 0 ≡ Some sent → greatest_trigger < sent.frame.identifier)
         → Follows (offered_in bytes_of layout [] opening) past free (end_of_cycle layout opening) window
         → Follows (offered_in sends layout [] opening) others free (end_of_cycle layout opening) (timed window)
     from_first [] past others free alike all begun slot nothing = nothing_too past others free (end_of_cycle layout opening) alike nothing
@@ -259,7 +260,7 @@ module _ (layout : CycleLayout) (opening : Opening) (sends : Instance → List �
     -- all frames of the cycle: those before the first frame of a slot stay as they are
     pub retimed : (front window : List TimedFrame) (past others : List TimedFrame) (free : ℕ) → AreAlike past others → AllSent (past ++ (front ++ window)) → start_of layout opening ≤ free
         → All (λ sent. (slot : ℕ) → slot < most_slots → sent.frame.identifier ≡ first_identifier + slot → ⊥) front
-        → ((sent : TimedFrame) → slice_get window 0 ≡ Some sent → 1 < sent.frame.identifier)
+        → ((sent : TimedFrame) → slice_get window 0 ≡ Some sent → greatest_trigger < sent.frame.identifier)
         → Follows (offered_in bytes_of layout [] opening) past free (end_of_cycle layout opening) (front ++ window)
         → Follows (offered_in sends layout [] opening) others free (end_of_cycle layout opening) (front ++ timed window)
     retimed [] window past others free alike all begun none slot follows = from_first window past others free alike all begun slot follows

@@ -8,6 +8,7 @@ use Rattle.std.proofs.lemmas.Option.{get_or_from_slice_get, none-some, same_Some
 use Rattle.profile.specs.Limits.{first_identifier}
 use Rattle.can_frame.specs.DataFrame.{DataFrame}
 use Rattle.can_frame.specs.declared.data_frame.TimedFrame.{TimedFrame}
+use Rattle.trigger_kind.specs.Kind.{greatest_trigger}
 use Rattle.cycle_layout.specs.Layout.{CycleLayout}
 use Rattle.requirement_table.specs.Instance.{Instance, MaySend, bytes_of, release_of}
 use Rattle.requirement_table.specs.Opening.{Opening, width_of}
@@ -26,25 +27,25 @@ use Rattle.sporadic_poll.proofs.Fates.{polled_by}
 use Rattle.sporadic_poll.proofs.Retimed.{low}
 
 -- a trigger frame is one of no slot
-none-of_slot : (slot : ℕ) (frames later : List TimedFrame) → All (λ frame. frame.identifier ≤ 1) (map (λ sent. sent.frame) frames)
+none-of_slot : (slot : ℕ) (frames later : List TimedFrame) → All (λ frame. frame.identifier ≤ greatest_trigger) (map (λ sent. sent.frame) frames)
     → of_slot slot (frames ++ later) ≡ of_slot slot later
 none-of_slot slot [] later all = refl
 none-of_slot slot (sent ∷ frames) later all =
-    let first : sent.frame.identifier ≤ 1 = All-head (λ (frame : DataFrame). frame.identifier ≤ 1) sent.frame (map (λ s. s.frame) frames) all in
+    let first : sent.frame.identifier ≤ greatest_trigger = All-head (λ (frame : DataFrame). frame.identifier ≤ greatest_trigger) sent.frame (map (λ s. s.frame) frames) all in
     let other : (sent.frame.identifier == first_identifier + slot) ≡ false = ne_eqb sent.frame.identifier (first_identifier + slot) (λ same. absurd (omega (arith, first, same))) in
     ap (λ b. if b then sent ∷ of_slot slot (frames ++ later) else of_slot slot (frames ++ later)) other
-    ∙ none-of_slot slot frames later (All-tail (λ (frame : DataFrame). frame.identifier ≤ 1) sent.frame (map (λ s. s.frame) frames) all)
+    ∙ none-of_slot slot frames later (All-tail (λ (frame : DataFrame). frame.identifier ≤ greatest_trigger) sent.frame (map (λ s. s.frame) frames) all)
 
 -- so the frames of a slot in a cycle are those behind the trigger
 slots-behind : (sends : Instance → List ℕ) (layout : CycleLayout) (opening : Opening) (frames : List TimedFrame) (slot : ℕ)
     (runs : RunsCycle sends layout opening frames) → of_slot slot frames ≡ of_slot slot runs.later
 slots-behind sends layout opening frames slot runs =
     let triggers : List TimedFrame = runs.trigger ∷ runs.second in
-    let are : All (λ frame. frame.identifier ≤ 1) (trigger_frames layout opening) = λ k d within.
+    let are : All (λ frame. frame.identifier ≤ greatest_trigger) (trigger_frames layout opening) = λ k d within.
     low layout.slots opening.cycle (width_of opening) opening.mask (get_or (trigger_frames layout opening) k d)
     (k, within, get_or_default (trigger_frames layout opening) k (get_or (trigger_frames layout opening) k d) d within) in
     ap (of_slot slot) runs.all_frames
-    ∙ none-of_slot slot triggers runs.later (subst (All (λ (frame : DataFrame). frame.identifier ≤ 1)) (sym runs.are_triggers) are)
+    ∙ none-of_slot slot triggers runs.later (subst (All (λ (frame : DataFrame). frame.identifier ≤ greatest_trigger)) (sym runs.are_triggers) are)
 
 -- an instance that sends something is there, and it is the one that was released in the cycle
 record IsSender (sends : Instance → List ℕ) (placed : List Placed) (slot cycle release : ℕ) (bytes : List ℕ) : Type 0 where

@@ -1,5 +1,5 @@
 -- What a standby has followed, and that it follows what is due.
-use Rattle.std.proofs.Common.{◌≡◌, ◌==◌, ℕ, ◌^◌, ◌<◌, ◌≤◌, inl, inr, Bool, true, false, if◌then◌else◌, List, [], ◌∷◌, ◌++◌, Option, Some, refl, sym, ap, ◌∙◌, subst, arith}
+use Rattle.std.proofs.Common.{◌≡◌, ℕ, ◌^◌, ◌<◌, ◌≤◌, inl, inr, Bool, true, false, if◌then◌else◌, List, [], ◌∷◌, ◌++◌, Option, Some, refl, sym, ap, ◌∙◌, subst, arith}
 use Rattle.std.proofs.lemmas.List.Elements.{All-append, All-cons, All-nil}
 use Rattle.std.proofs.lemmas.List.{append-nil}
 use Rattle.std.proofs.lemmas.Option.{same_Some}
@@ -13,23 +13,20 @@ use Rattle.trigger_codec.specs.Bytes.{triggers_with}
 use Rattle.change_protocol.specs.declared.operations.Change.{Change}
 use Rattle.planner_policies.specs.Plan.{pending_at}
 use Rattle.admission_rules.specs.declared.Rules.{Rules}
-use Rattle.admission.specs.Verdict.{IsDecision, IsRules, IsVerdict, is_accepted}
+use Rattle.admission.specs.Verdict.{IsRules, IsVerdict, is_accepted}
 use Rattle.admission.specs.declared.verdict.Verdict.{Verdict}
 use Rattle.admission.specs.declared.verdict.Verdict.TheVariants.{Malformed, Passed, Miss, Horizon, Accepted}
-use Rattle.master_core.specs.Apart.{IsPlanOf, PlannedView, from_of, snapshot_of}
-use Rattle.master_core.specs.declared.apart.Snapshot.{Snapshot}
 use Rattle.master_core.specs.Orders.{IsUpcoming}
 use Rattle.master_core.specs.declared.upcoming.Upcoming.{Upcoming}
 use Rattle.master_core.specs.declared.event.Event.{Event}
 use Rattle.master_core.specs.declared.event.Event.TheVariants.{Submit, Open}
-use Rattle.master_core.specs.History.{IsLegal, IsPlannedNow, IsRight, IsRightAnswer, accepted_of, next_of, placed_of, plan_of}
+use Rattle.master_core.specs.History.{IsLegal, IsPlannedNow, IsRight, IsRightAnswer, next_of, placed_of, plan_of}
 use Rattle.standby.specs.Core.{Item, changed, opened, core_of, items_of}
 use Rattle.standby.specs.Following.{IsChanged, IsInCore, IsOpened, IsOwnVerdict, IsStandby, StandbyView, due_frames, planned_of, sum_of}
 use Rattle.trigger_codec.specs.Heard.{heard_of}
 use Rattle.trigger_codec.specs.declared.heard.Heard.{Heard}
 use Rattle.standby.proofs.Behind.{own-next}
 use Rattle.standby.proofs.Cores.{core_of-push, next-core, placed-core}
-use Rattle.master_core.proofs.Shared.{OneVerdict}
 use Rattle.standby.proofs.GoingOn.{after-both, after-rest}
 use Rattle.trigger_codec.proofs.Shared.{heard-triggers}
 
@@ -37,22 +34,6 @@ abbrev seen : Rules → List Event → StandbyView
 seen rules own = record { rules = rules; history = own }
 
 -- A change
-
--- what is decided from the standby's own snapshot is its own verdict
-pub own-verdict : (rules : Rules) (own : List Event) (snapshot : Snapshot) (change : Change) (planned : PlannedView) → snapshot ≡ snapshot_of rules own
-    → IsPlanOf snapshot change planned → IsOwnVerdict (seen rules own) change planned.decision.verdict
-own-verdict rules own snapshot change planned is plan =
-    (subst (λ (s : Snapshot). IsDecision s.rules s.placed s.state.pending s.state.cycle change planned.decision) is plan.decided).answer
-
--- such a plan is settled as planned from the next cycle
-pub planned-now : (rules : Rules) (own : List Event) (snapshot : Snapshot) (change : Change) (planned : PlannedView) → snapshot ≡ snapshot_of rules own
-    → IsPlanOf snapshot change planned → from_of own planned ≡ next_of own
-planned-now rules own snapshot change planned is plan =
-    by-if (planned.accepted == accepted_of own) (plan.from ∙ ap (λ (s : Snapshot). s.state.cycle) is)
-  where
-    by-if : (b : Bool) → planned.from ≡ next_of own → (if b then planned.from else next_of own) ≡ next_of own
-    by-if true same = same
-    by-if false same = refl
 
 record HasRepeat (verdict : Verdict) : Type 0 where
   pub first : ℕ
@@ -81,34 +62,23 @@ pub record IsFollowed (rules : Rules) (own : List Event) (caller : ℕ) (change 
   pub change_is : IsChanged (seen rules own) caller change new
   pub standby : IsStandby rules new
 
-followed-by : (rules : Rules) (own : List Event) (caller : ℕ) (change : Change) (first cycles : ℕ) (trail : List ℕ) (new : List Event) → IsStandby rules own
-    → new ≡ own ++ Submit caller change (next_of own) (Accepted first cycles) trail ∷ [] → IsLegal rules new → IsFollowed rules own caller change new
-followed-by rules own caller change first cycles trail new was is legal =
-    let event : Event = Submit caller change (next_of own) (Accepted first cycles) trail in
+followed-by : (rules : Rules) (own : List Event) (caller : ℕ) (change : Change) (first cycles : ℕ) (new : List Event) → IsStandby rules own
+    → new ≡ own ++ Submit caller change (next_of own) (Accepted first cycles) [] ∷ [] → IsLegal rules new → IsFollowed rules own caller change new
+followed-by rules own caller change first cycles new was is legal =
+    let event : Event = Submit caller change (next_of own) (Accepted first cycles) [] in
     let legal_is = subst (IsLegal rules) is legal in
-    let right : IsRightAnswer rules own change (next_of own) (Accepted first cycles) trail = (after-rest (IsRight rules) [] own (event ∷ []) legal_is).0 in
+    let right : IsRightAnswer rules own change (next_of own) (Accepted first cycles) [] = (after-rest (IsRight rules) [] own (event ∷ []) legal_is).0 in
     record {
-      change_is = record {
-        first = first;
-        length = cycles;
-        verdict = right.answer;
-        history = is ∙ ap (λ (t : List ℕ). own ++ Submit caller change (next_of own) (Accepted first cycles) t ∷ []) right.plan;
-      };
+      change_is = record { first = first; length = cycles; verdict = right.answer; history = is };
       standby = subst (IsStandby rules) (sym is) (standby-on rules own event was legal_is refl (changed caller change, refl));
     }
 
-pub followed-change : OneVerdict → (rules : Rules) (own : List Event) (caller : ℕ) (change : Change) (from : ℕ) (verdict planned : Verdict) (trail : List ℕ)
-    (new : List Event) → IsStandby rules own → new ≡ own ++ Submit caller change from verdict trail ∷ [] → from ≡ next_of own → IsLegal rules new
-    → IsOwnVerdict (seen rules own) change planned → is_accepted planned ≡ true → IsFollowed rules own caller change new
-followed-change verdicts rules own caller change from verdict planned trail new was is now legal plan accepted =
-    let here = is ∙ ap (λ (n : ℕ). own ++ Submit caller change n verdict trail ∷ []) now in
-    let right : IsRightAnswer rules own change (next_of own) verdict trail =
-    (after-rest (IsRight rules) [] own (Submit caller change (next_of own) verdict trail ∷ []) (subst (IsLegal rules) here legal)).0 in
-    let same : planned ≡ verdict =
-    verdicts.same rules (placed_of own) (pending_at (plan_of rules (placed_of own)) (next_of own)) (next_of own) (next_of own) change planned verdict plan right.answer in
-    let taken = has-repeat verdict (sym (ap is_accepted same) ∙ accepted) in
-    followed-by rules own caller change taken.first taken.cycles trail new was
-    (here ∙ ap (λ (v : Verdict). own ++ Submit caller change (next_of own) v trail ∷ []) taken.accepts) legal
+pub followed-change : (rules : Rules) (own : List Event) (caller : ℕ) (change : Change) (verdict : Verdict) (new : List Event) → IsStandby rules own
+    → new ≡ own ++ Submit caller change (next_of own) verdict [] ∷ [] → IsLegal rules new → is_accepted verdict ≡ true → IsFollowed rules own caller change new
+followed-change rules own caller change verdict new was is legal accepted =
+    let taken = has-repeat verdict accepted in
+    followed-by rules own caller change taken.first taken.cycles new was
+    (is ∙ ap (λ (v : Verdict). own ++ Submit caller change (next_of own) v [] ∷ []) taken.accepts) legal
 
 -- an accepted change is accepted anew
 pub record AcceptedAnew : Type 0 where

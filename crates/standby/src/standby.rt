@@ -13,11 +13,10 @@ ghost use Rattle.standby.specs.Following.{IsChangeFault, IsChanged, IsInCore, Is
 
 use crate::follow_fault::FollowFault;
 use admission::Rules;
-use admission::laws::one_verdict;
 use can_frame::Frame;
 use change_protocol::Change;
 use master_core::laws::accepted_anew;
-use master_core::{Event, Master, plan_apart};
+use master_core::{Event, LeanMaster, Master};
 use std::alloc::{AllocError, Global};
 use std::marker::Model;
 use trigger_codec::hear;
@@ -26,17 +25,19 @@ use trigger_codec::hear;
 /// planned when it was told.
 #[derive(Drop, Debug)]
 pub struct Standby {
-    master: Master,
+    /// It keeps all events.
+    master: LeanMaster,
 }
 
 impl Model for Standby {
+    ghost use Rattle.std.specs.Prelude.{◌≡◌, true};
     ghost use Rattle.standby.specs.Following.{IsStandby, StandbyView};
 
     ghost Value = { StandbyView };
 
     ghost view = { λ s. record { rules = s.master.rules; history = s.master.history } };
 
-    ghost invariant = { λ s. IsStandby s.master.rules s.master.history };
+    ghost invariant = { λ s. IsStandby s.master.rules s.master.history × (s.master.keeps ≡ true) };
 }
 
 impl Standby {
@@ -51,7 +52,7 @@ impl Standby {
         ensures rules { IfOk result (λ standby. standby.rules ≡ rules) }
         ensures history { IfOk result (λ standby. standby.history ≡ []) }
     {
-        let master = Master::new(alloc, rules)?;
+        let master = LeanMaster::new(alloc, rules, true)?;
         Ok(Standby { master })
     }
 
@@ -74,14 +75,10 @@ impl Standby {
         ensures plain { IsPlainlyLegal self.new.rules self.new.history }
     {
         accepted_anew();
-        one_verdict();
-        let snapshot = self.master.snapshot(alloc)?;
-        let planned = plan_apart(alloc, &snapshot, change)?;
-        let verdict = planned.verdict();
+        let verdict = self.master.accept(alloc, caller, change)?;
         if !verdict.is_accepted() {
             return Err(FollowFault::Refused { verdict });
         }
-        self.master.settle(alloc, caller, change, planned)?;
         Ok(())
     }
 
@@ -119,7 +116,7 @@ impl Standby {
             });
         }
         self.master.reserve(alloc, 1)?;
-        self.master.open_upcoming(upcoming);
+        self.master.pass(upcoming);
         Ok(())
     }
 
@@ -130,7 +127,10 @@ impl Standby {
         ensures plain { IsPlainlyLegal result.rules result.history }
     {
         let Standby { master } = self;
-        master
+        match master.into_master() {
+            Some(master) => master,
+            None => unreachable!(),
+        }
     }
 
     /// The next cycle that the standby expects.
@@ -146,6 +146,9 @@ impl Standby {
         ensures core_alone { All IsInCore self.now.history }
         ensures plain { IsPlainlyLegal self.now.rules self.now.history }
     {
-        self.master.history()
+        match self.master.history() {
+            Some(events) => events,
+            None => unreachable!(),
+        }
     }
 }

@@ -1,6 +1,6 @@
 -- How an event that is done again brings a run on.
 use Rattle.std.proofs.Common.{◌≡◌, ◌++◌, ℕ, false, List, [], ◌∷◌, All, refl, sym, ap, ◌∙◌, subst, append-nil}
-use Rattle.std.specs.Prelude.{Err, IfOk, IfSome, None, Ok, Option, Result, Some}
+use Rattle.std.specs.Prelude.{Err, IfOk, IfSome, None, Ok, OnOk, Option, Result, Some}
 use Rattle.std.proofs.lemmas.List.Elements.{All-cons, All-nil}
 use Rattle.can_frame.specs.declared.data_frame.TimedFrame.{TimedFrame}
 use Rattle.requirement_table.specs.Opening.{width_of}
@@ -8,15 +8,13 @@ use Rattle.bit_sets.specs.Sets.{has_bit}
 use Rattle.requirement_table.specs.Table.{width_in}
 use Rattle.requirement_table.specs.declared.entries.Order.{Order}
 use Rattle.async_window.specs.declared.request.Request.{Request}
-use Rattle.planner_policies.specs.declared.state.PlanState.{PlanState}
-use Rattle.admission_rules.specs.declared.Rules.{Rules}
 use Rattle.master_core.specs.declared.event.Event.{Event}
 use Rattle.master_core.specs.declared.event.Event.TheVariants.{Open}
 use Rattle.master_core.specs.History.{IsLegal, is_open, placed_of}
-use Rattle.master_core.specs.Orders.{IsOrder}
+use Rattle.master_core.specs.Orders.{IsOrderFor}
 use Rattle.kept_run.specs.Progress.{IsOnTheWay}
 use Rattle.kept_run.specs.Setting.{Setting}
-use Rattle.kept_run.proofs.Shared.{CallsBetween, CyclesRun, RanOrder, order-whole, way-called, way-run}
+use Rattle.kept_run.proofs.Shared.{CallsBetween, CyclesRun, RanOrder, way-called, way-run}
 use Rattle.steps_file.specs.declared.steps.Step.{Step}
 use Rattle.system_file.specs.declared.system.System.{System}
 use Rattle.replay_run.specs.Run.{setting_of}
@@ -26,17 +24,10 @@ use Rattle.bus_trace.specs.LogRows.{events_told}
 use Rattle.log_reader.specs.declared.row.LogRow.{LogRow}
 use Rattle.trace_audit.specs.Again.{Asks, EndsNear, IsAgain, IsRerunBroughtOn, IsRerunOpened}
 use Rattle.trace_audit.specs.Ahead.{AreStepsAhead}
-use Rattle.trace_audit.specs.States.{KeepsStates, state_of}
+use Rattle.trace_audit.specs.States.{KeepsStates}
 use Rattle.trace_audit.specs.declared.rerun.Rerun.{Rerun}
 use Rattle.trace_audit.proofs.Rows.{TraceLaws, called-told, opened-told}
 use Rattle.trace_audit.proofs.Taking.{ahead-opened}
-
--- a state by its parts
-pub state-is : (rules : Rules) (history : List Event) (state : PlanState) → state.cycle ≡ (state_of rules history).cycle
-    → state.pending ≡ (state_of rules history).pending → state ≡ state_of rules history
-state-is rules history state cycle pending =
-    ap (λ c. record { cycle = c; pending = state.pending }) cycle
-    ∙ ap (λ p. record { cycle = (state_of rules history).cycle; pending = p }) pending
 
 module _ (system : System) (steps : List Step) (requests : List Request) (trace : List TimedFrame) (old new : Rerun) (line : LogRow)
     (again : IsAgain system requests trace old) where
@@ -45,11 +36,12 @@ module _ (system : System) (steps : List Step) (requests : List Request) (trace 
 
   -- a change or a look
   pub called-on : CallsBetween → (event : Event) → is_open event ≡ false → IsEventNear event → Asks steps old.master.history line event
-      → new.master.rules ≡ old.master.rules → new.nodes ≡ old.nodes
+      → new.master.rules ≡ old.master.rules → new.master.keeps ≡ old.master.keeps → new.nodes ≡ old.nodes
       → new.master.history ≡ old.master.history ++ event ∷ [] → IsLegal new.master.rules new.master.history
-      → KeepsStates new.master.rules new.master.history new.states → AreStepsAhead steps (old.master.history ++ event ∷ []) new.ahead
+      → KeepsStates new.master.rules new.master.history new.master.placed new.states
+      → AreStepsAhead steps (old.master.history ++ event ∷ []) new.ahead
       → IsRerunBroughtOn system steps requests trace old line new
-  called-on laws event closed near asks rules nodes history legal states ahead =
+  called-on laws event closed near asks rules keeps nodes history legal states ahead =
       let same_rules : new.master.rules ≡ system.rules = rules ∙ again.same_rules in
       let whole : IsLegal system.rules (old.master.history ++ event ∷ []) =
       subst (IsLegal system.rules) history (subst (λ r. IsLegal r new.master.history) same_rules legal) in
@@ -58,6 +50,7 @@ module _ (system : System) (steps : List Step) (requests : List Request) (trace 
       let way = way-called laws setting old.master.history (event ∷ []) trace old.nodes one whole again.way in
       let now : IsAgain system requests trace new = record {
         same_rules = same_rules;
+        keeps = keeps ∙ again.keeps;
         way = subst (λ n. IsOnTheWay setting new.master.history trace n) (sym nodes)
             (subst (λ h. IsOnTheWay setting h trace old.nodes) (sym history) way);
         states = states;
@@ -77,25 +70,26 @@ module _ (system : System) (steps : List Step) (requests : List Request) (trace 
 module _ (system : System) (requests : List Request) (trace : List TimedFrame) (old new : Rerun)
     (again : IsAgain system requests trace old) where
   -- a cycle that was opened and run by the master's order
-  pub opened-with : TraceLaws → CyclesRun → (order : Order) → IsOrder system.rules old.master.history order
+  pub opened-with : TraceLaws → CyclesRun → (order : Order) → IsOrderFor system.rules old.master.history order
       → RanOrder order old.nodes new.nodes new.sent → new.width ≡ order.l → new.master.rules ≡ old.master.rules
+      → new.master.keeps ≡ old.master.keeps
       → new.master.history ≡ old.master.history ++ Open order.cycle order.mask ∷ []
-      → KeepsStates new.master.rules new.master.history new.states
+      → KeepsStates new.master.rules new.master.history new.master.placed new.states
       → IsRerunOpened system requests trace old new
-  opened-with laws runs order ordered did same rules history states =
+  opened-with laws runs order ordered did same rules keeps history states =
       let setting : Setting = setting_of system requests in
-      let way = way-run runs setting old.master.history trace new.sent old.nodes new.nodes order
-      (order-whole system.rules old.master.history order again.way.under_way.legal ordered) did again.way in
+      let way = way-run runs setting old.master.history trace new.sent old.nodes new.nodes order ordered did again.way in
       let width : width_of (record { cycle = order.cycle; mask = order.mask; placed = placed_of old.master.history }) ≡ new.width =
-      ap (λ c. width_in (placed_of old.master.history) c (has_bit order.mask)) ordered.cycle ∙ sym ordered.window ∙ sym same in
+      ap (λ c. width_in (placed_of old.master.history) c (has_bit order.mask)) ordered.is.cycle ∙ sym ordered.is.window ∙ sym same in
       let told = opened-told laws setting again.way.known old.master.history trace again.way.under_way order.cycle order.mask new.sent
-      way.under_way ordered.cycle in
+      way.under_way ordered.is.cycle in
       record {
         cycle = order.cycle;
         mask = order.mask;
         history = history;
         again = record {
           same_rules = rules ∙ again.same_rules;
+          keeps = keeps ∙ again.keeps;
           way = subst (λ h. IsOnTheWay setting h (trace ++ new.sent) new.nodes) (sym history) way;
           states = states;
         };
@@ -137,3 +131,8 @@ pub ok-three : {A E : Type 0} (P Q R S : A → Type 0) → ((x : A) → P x → 
     → IfOk r P → IfOk r Q → IfOk r R → IfOk r S
 ok-three P Q R S f (Ok x) p q s = f x p q s
 ok-three P Q R S f (Err e) p q s = tt
+
+-- what is told in two ways of what was done
+pub ok-both : {A E : Type 0} {P Q S : Type 0} (r : Result A E) → OnOk r P → OnOk r Q → (P → Q → S) → OnOk r S
+ok-both (Ok x) p q f = f p q
+ok-both (Err e) p q f = tt

@@ -1,25 +1,27 @@
 -- The states of a plan from which a change can be planned, as a history goes on; and the change that is planned from one.
-use Rattle.std.proofs.Common.{◌≡◌, ◌+◌, ◌≤◌, ◌⊎◌, ◌++◌, ℕ, zero, suc, false, true, List, [], ◌∷◌, Some, cond, eqb, length, refl, sym, ap, ◌∙◌, subst, arith, inl, inr, append_assoc, append-nil, add-zero}
+use Rattle.std.proofs.Common.{◌≡◌, ◌+◌, ◌-◌, ◌≤◌, ◌⊎◌, ◌++◌, ℕ, zero, suc, false, true, List, [], ◌∷◌, Some, cond, eqb, length, refl, sym, ap, ◌∙◌, subst, arith, inl, inr, append_assoc, append-nil, add-zero}
 use Rattle.std.specs.Prelude.{slice_get}
 use Rattle.std.proofs.lemmas.Bool.{cases_Bool, cond-false, cond-true, eq-eqb}
 use Rattle.std.proofs.lemmas.List.{length-append}
 use Rattle.std.proofs.lemmas.List.Sums.{fold-append, sum_by-append, sum_by_push}
 use Rattle.requirement_table.specs.declared.entries.Placed.{Placed}
-use Rattle.requirement_table.specs.Table.{IsWellPlaced}
 use Rattle.change_protocol.specs.Applied.{applied}
+use Rattle.change_protocol.specs.Pruned.{pruned}
 use Rattle.change_protocol.specs.declared.operations.Change.{Change}
-use Rattle.planner_policies.specs.Plan.{IsValid, pending_at}
+use Rattle.planner_policies.specs.Plan.{IsValid}
 use Rattle.planner_policies.specs.declared.state.PlanState.{PlanState}
 use Rattle.admission_rules.specs.declared.Rules.{Rules}
-use Rattle.admission.specs.Verdict.{IsRules, is_accepted}
+use Rattle.admission.specs.Verdict.{is_accepted}
 use Rattle.admission.specs.declared.verdict.Verdict.{Verdict}
-use Rattle.master_core.specs.Apart.{CanSettle, IsPlanOf, IsPlannable, PlannedView, from_of, snapshot_of}
-use Rattle.master_core.specs.declared.apart.Snapshot.{Snapshot}
+use Rattle.master_core.specs.CorePlans.{CorePlannedView, IsCorePlan}
+use Rattle.master_core.specs.Cores.{IsPrunedBefore}
 use Rattle.master_core.specs.declared.event.Event.{Event}
 use Rattle.master_core.specs.declared.event.Event.TheVariants.{Submit, Look, Open}
-use Rattle.master_core.specs.History.{IsLegal, IsRightAnswer, IsSince, accepted_of, accepts, is_open, next_of, placed_after, placed_of, plan_of}
+use Rattle.master_core.specs.History.{IsRightAnswer, IsSince, accepted_of, accepts, is_open, next_of, placed_after, placed_of}
+use Rattle.master_core.specs.Journals.{LeanView}
+use Rattle.master_core.specs.Kept.{CanSettleKept, kept_behind, kept_from, kept_snapshot, state_after}
 use Rattle.kept_run.proofs.Shared.{next_of-push}
-use Rattle.trace_audit.specs.States.{IsStateAt, KeepsStates, state_of}
+use Rattle.trace_audit.specs.States.{IsStateAt, KeepsStates}
 use Rattle.trace_audit.specs.declared.states.States.{States}
 
 -- Lists
@@ -84,7 +86,7 @@ since-before history event from since = λ front back one is accepted.
     since front (back ++ event ∷ []) one (ap (λ h. h ++ event ∷ []) is ∙ append_assoc front (one ∷ back) (event ∷ [])) accepted
 
 module _ (rules : Rules) where
-  at-now : (history : List Event) → IsStateAt rules history (next_of history) (state_of rules history)
+  at-now : (history : List Event) → IsStateAt rules history (next_of history) (state_after rules history)
   at-now history = record {
     front = history;
     begins = ([], append-nil history);
@@ -108,42 +110,52 @@ module _ (rules : Rules) where
       }
 
   -- before any event
-  pub keeps-first : (states : States) → states.since ≡ 0 → states.before.items ≡ state_of rules [] ∷ [] → KeepsStates rules [] states
-  keeps-first states zero_is one = record {
+  pub keeps-first : (states : States) → states.since ≡ 0 → states.before.items ≡ state_after rules [] ∷ []
+      → IsValid [] (state_after rules []).cycle (state_after rules []).pending → KeepsStates rules [] [] states
+  keeps-first states zero_is one valid = record {
     up_to_next = let count = ap length one in omega (arith, count, zero_is);
     some = omega (arith, zero_is);
     each = λ k state is.
-        elim (get-push [] (state_of rules []) k state (subst (λ l. slice_get l k ≡ Some state) one is)) [
+        elim (get-push [] (state_after rules []) k state (subst (λ l. slice_get l k ≡ Some state) one is)) [
           | inl none ↦ absurd (cc)
           | inr end ↦
               let cycle : 0 ≡ states.since + k = let number = end.0 in omega (arith, number, zero_is) in
-              subst (IsStateAt rules [] (states.since + k)) end.1 (subst (λ c. IsStateAt rules [] c (state_of rules [])) cycle (at-now []))
+              subst (IsStateAt rules [] (states.since + k)) end.1 (subst (λ c. IsStateAt rules [] c (state_after rules [])) cycle (at-now []))
         ];
+    valid = λ k state is.
+        elim (get-push [] (state_after rules []) k state (subst (λ l. slice_get l k ≡ Some state) one is)) [
+          | inl none ↦ absurd (cc)
+          | inr end ↦ subst (λ (s : PlanState). IsValid [] s.cycle s.pending) end.1 valid
+        ];
+    held = record { by = 0; early = omega (arith, zero_is); is = refl };
     behind = λ front back one is accepted. absurd (no-end front one back is);
     least = λ from since. omega (arith, zero_is);
   }
 
   -- an event that opens no cycle and accepts no change
-  pub keeps-closed : (history : List Event) (event : Event) (states : States) → is_open event ≡ false → accepts event ≡ false
-      → KeepsStates rules history states → KeepsStates rules (history ++ event ∷ []) states
-  keeps-closed history event states closed none keeps =
+  pub keeps-closed : (history : List Event) (event : Event) (placed : List Placed) (states : States) → is_open event ≡ false → accepts event ≡ false
+      → KeepsStates rules history placed states → KeepsStates rules (history ++ event ∷ []) placed states
+  keeps-closed history event placed states closed none keeps =
       let next : next_of (history ++ event ∷ []) ≡ next_of history =
       next_of-push history event ∙ ap (λ b. next_of history + cond b 1 0) closed ∙ add-zero (next_of history) in
       record {
         up_to_next = keeps.up_to_next ∙ ap (λ n. n + 1) (sym next);
         some = let some = keeps.some in omega (arith, some, next);
         each = λ k state is. at-still history event none (states.since + k) state (keeps.each k state is);
+        valid = keeps.valid;
+        held = subst (λ p. IsPrunedBefore states.since p placed) (sym (same-placed history event none)) keeps.held;
         behind = since-stays history event none states.since keeps.behind;
         least = λ from since. keeps.least from (since-before history event from since);
       }
 
   -- a cycle that is opened, and the state behind it
-  pub keeps-opened : (history : List Event) (cycle mask : ℕ) (old new : States) → new.since ≡ old.since
-      → new.before.items ≡ old.before.items ++ state_of rules (history ++ Open cycle mask ∷ []) ∷ []
-      → KeepsStates rules history old → KeepsStates rules (history ++ Open cycle mask ∷ []) new
-  keeps-opened history cycle mask old new same more keeps =
+  pub keeps-opened : (history : List Event) (cycle mask : ℕ) (placed : List Placed) (old new : States) → new.since ≡ old.since
+      → new.before.items ≡ old.before.items ++ state_after rules (history ++ Open cycle mask ∷ []) ∷ []
+      → IsValid placed (state_after rules (history ++ Open cycle mask ∷ [])).cycle (state_after rules (history ++ Open cycle mask ∷ [])).pending
+      → KeepsStates rules history placed old → KeepsStates rules (history ++ Open cycle mask ∷ []) placed new
+  keeps-opened history cycle mask placed old new same more valid keeps =
       let event : Event = Open cycle mask in
-      let state_now : PlanState = state_of rules (history ++ event ∷ []) in
+      let state_now : PlanState = state_after rules (history ++ event ∷ []) in
       let next : next_of (history ++ event ∷ []) ≡ next_of history + 1 = next_of-push history event in
       let count : length new.before.items ≡ length old.before.items + 1 = ap length more ∙ length-append old.before.items (state_now ∷ []) in
       let so_far = keeps.up_to_next in
@@ -161,18 +173,28 @@ module _ (rules : Rules) where
                   subst (IsStateAt rules (history ++ event ∷ []) (new.since + k)) end.1
                   (subst (λ c. IsStateAt rules (history ++ event ∷ []) c state_now) place (at-now (history ++ event ∷ [])))
             ];
+        valid = λ k state is.
+            elim (get-push old.before.items state_now k state (subst (λ l. slice_get l k ≡ Some state) more is)) [
+              | inl before ↦ keeps.valid k state before
+              | inr end ↦ subst (λ (s : PlanState). IsValid placed s.cycle s.pending) end.1 valid
+            ];
+        held = subst (λ s. IsPrunedBefore s (placed_of (history ++ event ∷ [])) placed) (sym same)
+            (subst (λ p. IsPrunedBefore old.since p placed) (sym (same-placed history event refl)) keeps.held);
         behind = subst (IsSince (history ++ event ∷ [])) (sym same) (since-stays history event refl old.since keeps.behind);
         least = λ from since. let least = keeps.least from (since-before history event from since) in omega (arith, least, same);
       }
 
   -- an accepted change: only the state before the next cycle is kept
-  pub keeps-accepted : (history : List Event) (event : Event) (states : States) → is_open event ≡ false → accepts event ≡ true
-      → states.since ≡ next_of history → states.before.items ≡ state_of rules (history ++ event ∷ []) ∷ []
-      → KeepsStates rules (history ++ event ∷ []) states
-  keeps-accepted history event states closed accepted since_is one =
+  pub keeps-accepted : (history : List Event) (event : Event) (placed : List Placed) (states : States) → is_open event ≡ false → accepts event ≡ true
+      → states.since ≡ next_of (history ++ event ∷ []) → states.before.items ≡ state_after rules (history ++ event ∷ []) ∷ []
+      → IsValid placed (state_after rules (history ++ event ∷ [])).cycle (state_after rules (history ++ event ∷ [])).pending
+      → IsPrunedBefore (next_of (history ++ event ∷ [])) (placed_of (history ++ event ∷ [])) placed
+      → KeepsStates rules (history ++ event ∷ []) placed states
+  keeps-accepted history event placed states closed accepted now_is one valid held =
       let next : next_of (history ++ event ∷ []) ≡ next_of history =
       next_of-push history event ∙ ap (λ b. next_of history + cond b 1 0) closed ∙ add-zero (next_of history) in
-      let now : PlanState = state_of rules (history ++ event ∷ []) in
+      let since_is : states.since ≡ next_of history = now_is ∙ next in
+      let now : PlanState = state_after rules (history ++ event ∷ []) in
       record {
         up_to_next = let count = ap length one in omega (arith, count, next, since_is);
         some = omega (arith, next, since_is);
@@ -185,6 +207,12 @@ module _ (rules : Rules) where
                   subst (IsStateAt rules (history ++ event ∷ []) (states.since + k)) end.1
                   (subst (λ c. IsStateAt rules (history ++ event ∷ []) c now) place (at-now (history ++ event ∷ [])))
             ];
+        valid = λ k state is.
+            elim (get-push [] now k state (subst (λ l. slice_get l k ≡ Some state) one is)) [
+              | inl none ↦ absurd (cc)
+              | inr end ↦ subst (λ (s : PlanState). IsValid placed s.cycle s.pending) end.1 valid
+            ];
+        held = subst (λ n. IsPrunedBefore n (placed_of (history ++ event ∷ [])) placed) (sym now_is) held;
         behind = λ front back other is again. elim (last-or-before history event front other back is) [
           | inl end ↦ let same = ap next_of end.0 in omega (arith, same, since_is)
           | inr before ↦
@@ -195,70 +223,80 @@ module _ (rules : Rules) where
         least = λ from since. let least = since history [] event refl accepted in omega (arith, least, since_is);
       }
 
-  -- so it is behind each answer to a change
-  pub keeps-answered : (history : List Event) (caller : ℕ) (change : Change) (from : ℕ) (verdict : Verdict) (trail : List ℕ) (old new : States)
-      → (is_accepted verdict ≡ false → new ≡ old)
-      → (is_accepted verdict ≡ true → new.since ≡ next_of history)
-      → (is_accepted verdict ≡ true → new.before.items ≡ state_of rules (history ++ Submit caller change from verdict trail ∷ []) ∷ [])
-      → KeepsStates rules history old → KeepsStates rules (history ++ Submit caller change from verdict trail ∷ []) new
-  keeps-answered history caller change from verdict trail old new same since one keeps = elim (cases_Bool (is_accepted verdict)) [
-    | inl yes_ ↦ keeps-accepted history (Submit caller change from verdict trail) new refl yes_ (since yes_) (one yes_)
-    | inr no_ ↦ subst (KeepsStates rules (history ++ Submit caller change from verdict trail ∷ [])) (sym (same no_))
-        (keeps-closed history (Submit caller change from verdict trail) old refl no_ keeps)
-  ]
+  -- a change that is refused, which leaves the entries as they are
+  pub keeps-refused : (history : List Event) (event : Event) (placed behind : List Placed) (states : States) → is_open event ≡ false
+      → accepts event ≡ false → behind ≡ placed → KeepsStates rules history placed states
+      → KeepsStates rules (history ++ event ∷ []) behind states
+  keeps-refused history event placed behind states closed none stays keeps =
+      subst (λ p. KeepsStates rules (history ++ event ∷ []) p states) (sym stays) (keeps-closed history event placed states closed none keeps)
 
--- The snapshot of which a change is planned again
+-- so it does in a master
+pub refused-placed : (old new : List Placed) (from : ℕ) (change : Change) (verdict : Verdict) → new ≡ kept_behind old from change verdict
+    → is_accepted verdict ≡ false → new ≡ old
+refused-placed old new from change verdict is refused =
+    is ∙ cond-false (is_accepted verdict) (pruned from (applied old change)) old refused
 
--- what is known of legal histories
-pub record LegalLaws : Type 0 where
-  pub well_placed : (rules : Rules) (history : List Event) → IsLegal rules history → IsWellPlaced (placed_of history)
-  pub valid : (rules : Rules) (history : List Event) → IsLegal rules history
-      → IsValid (placed_of history) (next_of history) (pending_at (plan_of rules (placed_of history)) (next_of history))
-  pub front : (rules : Rules) (history later : List Event) → IsLegal rules (history ++ later) → IsLegal rules history
+-- What a change is planned from: the entries that are kept, and one of the states
 
-module _ (rules : Rules) (history : List Event) (cycle : ℕ) (state : PlanState) (at : IsStateAt rules history cycle state)
-    (taken planned_of : Snapshot) (same : taken ≡ snapshot_of rules history) (changed : planned_of ≡ record taken { state = state }) where
-  pub front-snapshot : planned_of ≡ snapshot_of rules at.front
-  front-snapshot =
-      let with_state : Snapshot → Snapshot = λ s. record s { state = state } in
-      let made : List Placed → PlanState → ℕ → Snapshot = λ p s a. record { rules = rules; placed = p; state = s; accepted = a } in
-      changed ∙ ap with_state same
-      ∙ ap (λ s. made (placed_of history) s (accepted_of history)) at.is
-      ∙ ap (λ p. made p (state_of rules at.front) (accepted_of history)) (sym at.same_table)
-      ∙ ap (λ a. made (placed_of at.front) (state_of rules at.front) a) (sym at.same_count)
+module _ (master : LeanView) (states : States) (keeps : KeepsStates master.rules master.history master.placed states)
+    (from : ℕ) (state : PlanState) (late : states.since ≤ from)
+    (found : slice_get states.before.items (from - states.since) ≡ Some state) where
+  at : IsStateAt master.rules master.history from state
+  at =
+      let place : states.since + (from - states.since) ≡ from = omega (arith, late) in
+      subst (λ c. IsStateAt master.rules master.history c state) place (keeps.each (from - states.since) state found)
 
-  pub can-settle : (change : Change) (planned : PlannedView) → IsPlanOf planned_of change planned → CanSettle rules history change planned
-  can-settle change planned is = record {
-    snapshot = planned_of;
-    plan = is;
-    same_rules = ap (λ s. s.rules) front-snapshot;
-    place = λ _. (at.front, at.begins, front-snapshot);
-  }
+  cycle-is : state.cycle ≡ from
+  cycle-is = ap (λ s. s.cycle) at.is ∙ at.next
 
-  pub plannable : LegalLaws → IsRules rules → IsLegal rules history → next_of history ≤ 20000 → IsPlannable planned_of
-  plannable laws known legal few =
+  pub found-valid : IsValid master.placed state.cycle state.pending
+  found-valid = keeps.valid (from - states.since) state found
+
+  -- no later than the next cycle
+  pub found-early : state.cycle ≤ next_of master.history
+  found-early =
       let (rest, begins) = at.begins in
-      let front : IsLegal rules at.front = laws.front rules at.front rest (subst (IsLegal rules) (sym begins) legal) in
-      let count : next_of history ≡ next_of at.front + next_of rest =
+      let count : next_of master.history ≡ next_of at.front + next_of rest =
       ap next_of (sym begins) ∙ sum_by-append (λ e. cond (is_open e) 1 0) at.front rest in
-      subst IsPlannable (sym front-snapshot) (record {
-        rules = known;
-        well_placed = laws.well_placed rules at.front front;
-        valid = laws.valid rules at.front front;
-        next = omega (arith, count, few);
-      })
+      let first : state.cycle ≡ next_of at.front = ap (λ s. s.cycle) at.is in
+      omega (arith, count, first)
 
-  pub planned-from : (change : Change) (planned : PlannedView) → IsPlanOf planned_of change planned → from_of history planned ≡ cycle
-  planned-from change planned is =
-      let count : planned.accepted ≡ accepted_of history = is.accepted ∙ ap (λ s. s.accepted) front-snapshot ∙ at.same_count in
-      cond-true (eqb planned.accepted (accepted_of history)) planned.from (next_of history) (eq-eqb _ _ count)
-      ∙ is.from ∙ ap (λ s. s.state.cycle) front-snapshot ∙ at.next
+  held-from : IsPrunedBefore (next_of at.front) (placed_of at.front) master.placed
+  held-from =
+      let early = keeps.held.early in
+      let next = at.next in
+      record {
+        by = keeps.held.by;
+        early = omega (arith, early, next, late);
+        is = keeps.held.is ∙ ap (pruned keeps.held.by) (sym at.same_table);
+      }
+
+  -- what is planned from them can be settled, from the cycle of the state on
+  module _ (change : Change) (planned : CorePlannedView) (is : IsCorePlan (kept_snapshot master state) change planned) where
+    pub can-settle : CanSettleKept master planned
+    can-settle = record {
+      rules = ap (λ s. s.rules) is.snapshot_is;
+      place = λ _. record {
+        front = at.front;
+        begins = at.begins;
+        count = at.same_count;
+        same = ap (λ s. s.placed) is.snapshot_is;
+        held = held-from;
+        state = ap (λ s. s.state) is.snapshot_is ∙ at.is;
+      };
+    }
+
+    pub settled-from : kept_from master.history planned ≡ from
+    settled-from =
+        let count : planned.snapshot.accepted ≡ accepted_of master.history = ap (λ s. s.accepted) is.snapshot_is in
+        cond-true (eqb planned.snapshot.accepted (accepted_of master.history)) planned.snapshot.state.cycle (next_of master.history)
+        (eq-eqb _ _ count) ∙ ap (λ s. s.state.cycle) is.snapshot_is ∙ cycle-is
 
 -- where no state is kept before a cycle, no change can be planned from there
-pub no-answer : (rules : Rules) (history : List Event) (states : States) (change : Change) (from : ℕ) (verdict : Verdict) (trail : List ℕ)
-    → KeepsStates rules history states → (states.since ≤ from → states.since + length states.before.items ≤ from)
+pub no-answer : (rules : Rules) (history : List Event) (placed : List Placed) (states : States) (change : Change) (from : ℕ)
+    (verdict : Verdict) (trail : List ℕ) → KeepsStates rules history placed states → (states.since ≤ from → states.since + length states.before.items ≤ from)
     → IsRightAnswer rules history change from verdict trail → ⊥
-no-answer rules history states change from verdict trail keeps none right =
+no-answer rules history placed states change from verdict trail keeps none right =
     let low = keeps.least from right.since in
     let high = right.opened in
     let count = keeps.up_to_next in

@@ -197,7 +197,8 @@ module _ (system : System) (steps : List Step) (requests : List Request) (rows :
     last-row = subst (IsUpTo system steps requests rows audit.auditor) ended heard.up_to
 
     -- not all that the steps ask for has happened
-    pub is-unfinished : (next_of audit.auditor.rerun.master.history ≡ sum_by count_of steps → AnswersAllActs steps audit.auditor.rerun.master.history → ⊥)
+    pub is-unfinished : (audit.auditor.rerun.master.keeps ≡ true → next_of audit.auditor.rerun.master.history ≡ sum_by count_of steps
+        → AnswersAllActs steps audit.auditor.rerun.master.history → ⊥)
         → IsUnfinished system steps requests rows
     is-unfinished none =
         let last = last-row in
@@ -206,7 +207,7 @@ module _ (system : System) (steps : List Step) (requests : List Request) (rows :
           not_all = λ log.
               let answers = whole-answers system steps requests last.before audit.auditor last.auditing kept last.all_came last.next
               (subst (IsWholeLog system steps requests) last.rows_are log) in
-              none answers.opened (operators-answer steps audit.auditor.rerun.master.history answers);
+              none last.auditing.again.keeps answers.opened (operators-answer steps audit.auditor.rerun.master.history answers);
         }
 
     -- all has

@@ -1,5 +1,5 @@
 -- A run that is done again, event by event, as the rows of a log ask for it.
-use Rattle.std.specs.Prelude.{◌≡◌, ℕ, ◌<◌, List, [], ◌∷◌, ◌++◌, sum_by}
+use Rattle.std.specs.Prelude.{◌≡◌, ℕ, ◌<◌, true, List, [], ◌∷◌, ◌++◌, sum_by}
 use Rattle.can_frame.specs.declared.data_frame.TimedFrame.{TimedFrame}
 use Rattle.async_window.specs.declared.request.Request.{Request}
 use Rattle.change_protocol.specs.declared.operations.Act.TheVariants as act
@@ -22,11 +22,13 @@ use Rattle.trace_audit.specs.Reading.{IsNextAct}
 use Rattle.trace_audit.specs.States.{KeepsStates}
 use Rattle.trace_audit.specs.declared.rerun.Rerun.{Rerun}
 
--- master and nodes are those of a run of the system with this trace, and the states of its plan are kept
+-- master and nodes are those of a run of the system with this trace, all events are kept, and so are the states of its
+-- plan
 pub record IsAgain (system : System) (requests : List Request) (trace : List TimedFrame) (rerun : Rerun) : Type 0 where
   pub same_rules : rerun.master.rules ≡ system.rules
+  pub keeps : rerun.master.keeps ≡ true
   pub way : IsOnTheWay (setting_of system requests) rerun.master.history trace rerun.nodes
-  pub states : KeepsStates rerun.master.rules rerun.master.history rerun.states
+  pub states : KeepsStates rerun.master.rules rerun.master.history rerun.master.placed rerun.states
 
 -- so it is for some system, requests and trace
 abbrev pub CanGoOn : Rerun → Type 0

@@ -153,17 +153,21 @@ impl Auditor {
         self.came == self.rows.len() && next == self.rerun.master.next()
     }
 
-    /// Whether all that the steps of a file ask for has happened.
+    /// Whether all that the steps of a file ask for has happened. All events are kept.
     pub fn is_whole(&self, steps: &[Step]) -> bool
         requires steps { AreLegalSteps steps.now }
         ensures opened { result ≡ true → next_of self.now.rerun.master.history ≡ sum_by count_of steps.now }
         ensures answered { result ≡ true → AnswersAllActs steps.now self.now.rerun.master.history }
-        ensures none { result ≡ false → next_of self.now.rerun.master.history ≡ sum_by count_of steps.now
+        ensures none { result ≡ false → self.now.rerun.master.keeps ≡ true
+            → next_of self.now.rerun.master.history ≡ sum_by count_of steps.now
             → AnswersAllActs steps.now self.now.rerun.master.history → ⊥ }
     {
         if self.rerun.master.next() != cycles_of(steps) {
             return false;
         }
-        answers_all(self.rerun.master.history(), steps)
+        match self.rerun.master.history() {
+            Some(history) => answers_all(history, steps),
+            None => false,
+        }
     }
 }

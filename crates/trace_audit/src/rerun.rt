@@ -37,12 +37,10 @@ use bus_trace::{Gathered, behind_event};
 use change_protocol::{Act, Change};
 use cycle_engine::{Nodes, Segment, run_cycle_in};
 use kept_run::laws::{
-    beginning, calls_between, cycles_run, one_call_more, orders, requests_of_owners,
-    triggers_count_cycles,
+    beginning, calls_between, cycles_run, orders, requests_of_owners, triggers_count_cycles,
 };
 use log_reader::LogRow;
-use master_core::laws::legal_histories;
-use master_core::{Event, Master, plan_apart};
+use master_core::{Event, LeanMaster};
 use replay_run::laws::legal_runs;
 use replay_run::{count_plain_calls, fresh_nodes};
 use std::alloc::{AllocError, Global};
@@ -53,7 +51,7 @@ use system_file::System;
 #[derive(Drop)]
 pub struct Rerun {
     /// The master, with all events.
-    pub master: Master,
+    pub master: LeanMaster,
     /// The nodes, with the requests that are not sent.
     pub nodes: Nodes,
     /// The states of the plan from which a change can be planned.
@@ -68,12 +66,14 @@ pub struct Rerun {
 
 /// A master that has answered no call. Memory for so many events is taken at once, where there is any: a hint, without
 /// which the history grows as it needs.
-fn fresh_master(alloc: Global, system: &System, events: usize) -> Result<Master, AllocError>
+fn fresh_master(alloc: Global, system: &System, events: usize) -> Result<LeanMaster, AllocError>
     requires system { IsSystem system.now }
     ensures rules { IfOk result (λ master. master.rules ≡ system.now.rules) }
     ensures history { IfOk result (λ master. master.history ≡ []) }
+    ensures placed { IfOk result (λ master. master.placed ≡ []) }
+    ensures keeps { IfOk result (λ master. master.keeps ≡ true) }
 {
-    let mut master = Master::new(alloc, system.rules)?;
+    let mut master = LeanMaster::new(alloc, system.rules, true)?;
     let _ = master.reserve(alloc, events);
     Ok(master)
 }
@@ -129,29 +129,32 @@ impl Rerun {
         from: u64,
     ) -> Result<bool, AllocError>
         requires caller { (1 ≤ caller) × (caller ≤ 8) }
-        requires states { KeepsStates self.old.master.rules self.old.master.history self.old.states }
+        requires states { let master = self.old.master in
+            KeepsStates master.rules master.history master.placed self.old.states }
         requires few { next_of self.old.master.history ≤ most_cycles }
         ensures rules { self.new.master.rules ≡ self.old.master.rules }
+        ensures keeps { self.new.master.keeps ≡ self.old.master.keeps }
         ensures nodes { self.new.nodes ≡ self.old.nodes }
         ensures ahead { self.new.ahead ≡ self.old.ahead }
         ensures legal { IfOk result (λ asked. asked ≡ true → IsLegal self.new.master.rules self.new.master.history) }
         ensures event { IfOk result (λ asked. asked ≡ true → (verdict : Verdict) × (trail : List ℕ)
             × (self.new.master.history
             ≡ self.old.master.history ++ Submit caller change.now from verdict trail ∷ [])) }
-        ensures states { IfOk result (λ asked. asked ≡ true
-            → KeepsStates self.new.master.rules self.new.master.history self.new.states) }
+        ensures states { let master = self.new.master in IfOk result (λ asked. asked ≡ true
+            → KeepsStates master.rules master.history master.placed self.new.states) }
         ensures none { IfOk result (λ asked. asked ≡ false → (verdict : Verdict) (trail : List ℕ)
             → IsRightAnswer self.old.master.rules self.old.master.history change.now from verdict trail → ⊥) }
     {
-        legal_histories();
-        one_call_more();
         let Some(state) = self.states.at(from) else {
             return Ok(false);
         };
-        let mut snapshot = self.master.snapshot(alloc)?;
-        snapshot.state = state;
-        let planned = plan_apart(alloc, &snapshot, change)?;
-        let verdict = self.master.settle(alloc, caller, change, planned)?;
+        let snapshot = self.master.kept_snapshot(alloc, &state)?;
+        let planned = match snapshot.plan(alloc, change) {
+            Ok(planned) => planned,
+            Err(_) => return Err(AllocError),
+        };
+        let verdict = self.master.settle_kept(alloc, caller, planned)?;
+        self.master.placed();
         keep_answered(&mut self.states, verdict, self.master.state())?;
         Ok(true)
     }
@@ -163,14 +166,17 @@ impl Rerun {
     /// Only where memory runs out.
     fn look(&mut self, alloc: Global, caller: u8) -> Result<(), AllocError>
         requires caller { (1 ≤ caller) × (caller ≤ 8) }
-        requires states { KeepsStates self.old.master.rules self.old.master.history self.old.states }
+        requires states { let master = self.old.master in
+            KeepsStates master.rules master.history master.placed self.old.states }
         ensures rules { self.new.master.rules ≡ self.old.master.rules }
+        ensures keeps { self.new.master.keeps ≡ self.old.master.keeps }
         ensures nodes { self.new.nodes ≡ self.old.nodes }
         ensures ahead { self.new.ahead ≡ self.old.ahead }
         ensures legal { IsLegal self.new.master.rules self.new.master.history }
         ensures event { OnOk result (self.new.master.history
             ≡ self.old.master.history ++ Look caller (next_of self.old.master.history) ∷ []) }
-        ensures states { OnOk result (KeepsStates self.new.master.rules self.new.master.history self.new.states) }
+        ensures states { let master = self.new.master in
+            OnOk result (KeepsStates master.rules master.history master.placed self.new.states) }
     {
         self.master.reserve(alloc, 1)?;
         self.master.look(caller);
@@ -209,8 +215,7 @@ impl Rerun {
         ensures last { (event : Event) → EndsIn self.now.master.history event → result.now ≡ event }
         ensures near { IsEventNear result.now }
     {
-        let history = self.master.history();
-        &history[history.len() - 1]
+        self.master.last()
     }
 
     /// The rows of the last event and of the frames of its cycle, where it opens one.

@@ -1,12 +1,18 @@
 //! The states of a plan from which a change can be planned.
 
 ghost use Rattle.std.specs.Prelude.{◌≡◌, ◌+◌, ◌-◌, ◌≤◌, ◌++◌, ◌∷◌, [], IfOk, IfSome, IfNone, List, OnOk};
-ghost use Rattle.std.specs.Prelude.{Some, length, slice_get, ℕ};
+ghost use Rattle.std.specs.Prelude.{Some, false, length, slice_get, ℕ};
+ghost use Rattle.requirement_table.specs.declared.entries.Placed.{Placed};
 ghost use Rattle.change_protocol.specs.declared.operations.Change.{Change};
+ghost use Rattle.planner_policies.specs.Plan.{IsValid};
 ghost use Rattle.admission_rules.specs.declared.Rules.{Rules};
+ghost use Rattle.admission.specs.Verdict.{is_accepted};
+ghost use Rattle.master_core.specs.Cores.{IsPrunedBefore};
 ghost use Rattle.master_core.specs.declared.event.Event.{Event};
 ghost use Rattle.master_core.specs.declared.event.Event.TheVariants.{Submit};
-ghost use Rattle.trace_audit.specs.States.{KeepsStates, state_of};
+ghost use Rattle.master_core.specs.History.{next_of, placed_of};
+ghost use Rattle.master_core.specs.Kept.{state_after};
+ghost use Rattle.trace_audit.specs.States.{KeepsStates};
 
 use admission::Verdict;
 use planner_policies::PlanState;
@@ -77,9 +83,13 @@ pub fn keep_answered(
     state: PlanState,
 ) -> Result<(), AllocError>
     ensures kept { OnOk result ((rules : Rules) (history : List Event) (caller : ℕ) (change : Change) (from : ℕ)
-        (trail : List ℕ) → KeepsStates rules history states.old
-        → state ≡ state_of rules (history ++ Submit caller change from verdict trail ∷ [])
-        → KeepsStates rules (history ++ Submit caller change from verdict trail ∷ []) states.new) }
+        (trail : List ℕ) (placed behind : List Placed) → KeepsStates rules history placed states.old
+        → (is_accepted verdict ≡ false → behind ≡ placed)
+        → state ≡ state_after rules (history ++ Submit caller change from verdict trail ∷ [])
+        → IsValid behind state.cycle state.pending
+        → IsPrunedBefore (next_of (history ++ Submit caller change from verdict trail ∷ []))
+        (placed_of (history ++ Submit caller change from verdict trail ∷ [])) behind
+        → KeepsStates rules (history ++ Submit caller change from verdict trail ∷ []) behind states.new) }
 {
     if !verdict.is_accepted() {
         return Ok(());

@@ -1,11 +1,11 @@
 -- The trigger frames of a cycle, however many there are.
-use Rattle.std.proofs.Common.{◌≡◌, ◌≢◌, ℕ, zero, suc, ◌*◌, ◌<◌, ◌≤◌, List, [], ◌∷◌, length, map, All, AllPairs, Contains, refl, sym, ap, subst, arith}
+use Rattle.std.proofs.Common.{◌≡◌, ◌≢◌, ℕ, zero, suc, ◌*◌, ◌<◌, ◌≤◌, List, [], ◌∷◌, length, map, All, AllPairs, refl, sym, ap, subst, arith}
 use Rattle.std.proofs.lemmas.List.Elements.{All-cons, All-head, All-nil, All-tail}
 use Rattle.can_frame.specs.DataFrame.{DataFrame}
 use Rattle.can_frame.specs.declared.data_frame.TimedFrame.{TimedFrame}
 use Rattle.trigger_kind.specs.declared.Triggers.{Triggers}
 use Rattle.trigger_kind.specs.declared.Triggers.TheVariants.{One, Two}
-use Rattle.trigger_kind.specs.Kind.{opening_of, opening_identifier, part_of, triggers_of}
+use Rattle.trigger_kind.specs.Kind.{greatest_trigger, opening_of, opening_identifier, part_of, triggers_of}
 use Rattle.trigger_codec.specs.Bytes.{later_frames, second_frame, trigger_frame, triggers_with}
 
 -- what holds of the first frame, and of each one behind it
@@ -31,10 +31,16 @@ pairs_of : (R : DataFrame → DataFrame → Type 0) (triggers : Triggers) (cycle
 pairs_of R One cycle mask first both = one-alone R first (second_frame cycle mask)
 pairs_of R Two cycle mask first both = two-in_order R first (second_frame cycle mask) (both refl)
 
+-- the last of some frames has this identifier, and those before it have lower ones
+abbrev pub OpensByLast : ℕ → List DataFrame → Type 0
+OpensByLast id [] = ⊥
+OpensByLast id (frame ∷ []) = frame.identifier ≡ id
+OpensByLast id (frame ∷ next ∷ more) = (frame.identifier < id) × OpensByLast id (next ∷ more)
+
 module _ (slots cycle l mask : ℕ) where
   -- their identifiers are below those of all other frames, and rise
-  pub low_ids : All (λ frame. frame.identifier ≤ 1) (triggers_with slots cycle l mask)
-  low_ids = of_frames (λ frame. frame.identifier ≤ 1) (triggers_of slots) cycle mask (trigger_frame cycle l mask) (omega arith) (omega arith)
+  pub low_ids : All (λ frame. frame.identifier ≤ greatest_trigger) (triggers_with slots cycle l mask)
+  low_ids = of_frames (λ frame. frame.identifier ≤ greatest_trigger) (triggers_of slots) cycle mask (trigger_frame cycle l mask) (omega arith) (omega arith)
 
   pub rising : AllPairs (λ one other. one.identifier < other.identifier) (triggers_with slots cycle l mask)
   rising = pairs_of (λ one other. one.identifier < other.identifier) (triggers_of slots) cycle mask (trigger_frame cycle l mask) (λ two. omega arith)
@@ -56,20 +62,13 @@ module _ (slots cycle l mask : ℕ) where
       by One = refl
       by Two = refl
 
-  -- there are at most two
-  pub few_frames : length (triggers_with slots cycle l mask) ≤ 2
-  few_frames = by (triggers_of slots)
+  -- the last one of them opens the cycle
+  pub last_opens : OpensByLast (opening_identifier slots) (triggers_with slots cycle l mask)
+  last_opens = by (triggers_of slots)
     where
-      by : (triggers : Triggers) → length (trigger_frame cycle l mask ∷ later_frames triggers cycle mask) ≤ 2
-      by One = omega arith
-      by Two = omega arith
-
--- where a frame stands behind the first one, the trigger part has room for both
-pub later-room : (triggers : Triggers) (cycle mask : ℕ) (frame : DataFrame) → Contains (later_frames triggers cycle mask) frame
-    → (length frame.bytes ≡ 8) × (270 ≤ part_of triggers)
-later-room One cycle mask frame (k, within, is) = absurd (omega (arith, within))
-later-room Two cycle mask frame (zero, within, is) = (ap (λ f. length f.bytes) (sym is), omega arith)
-later-room Two cycle mask frame (suc k, within, is) = absurd (omega (arith, within))
+      by : (triggers : Triggers) → OpensByLast (opening_of triggers) (trigger_frame cycle l mask ∷ later_frames triggers cycle mask)
+      by One = refl
+      by Two = (omega arith, refl)
 
 -- Trigger frames that were sent
 
@@ -83,22 +82,19 @@ sent-all P (one ∷ more) all =
     (sent-all P more (All-tail P one.frame (map (λ s. s.frame) more) all))
 
 module _ (slots cycle l mask : ℕ) where
-  -- those behind the first one
-  pub sent-behind : (first : DataFrame) (behind : List DataFrame) → first ∷ behind ≡ triggers_with slots cycle l mask
-      → behind ≡ later_frames (triggers_of slots) cycle mask
-  sent-behind first behind are = tail-same first (trigger_frame cycle l mask) behind (later_frames (triggers_of slots) cycle mask) are
+  later : (triggers : Triggers) → All (λ f. 0 < f.identifier) (later_frames triggers cycle mask)
+  later One = All-nil (λ f. 0 < f.identifier)
+  later Two = All-cons (λ f. 0 < f.identifier) (second_frame cycle mask) [] (omega arith) (All-nil (λ f. 0 < f.identifier))
 
-  ones : (triggers : Triggers) → All (λ f. f.identifier ≡ 1) (later_frames triggers cycle mask)
-  ones One = All-nil (λ f. f.identifier ≡ 1)
-  ones Two = All-cons (λ f. f.identifier ≡ 1) (second_frame cycle mask) [] refl (All-nil (λ f. f.identifier ≡ 1))
-
-  -- they have the identifier 1
+  -- those behind the first one have identifiers above its own
   pub behind-ids : (first : TimedFrame) (behind : List TimedFrame) → map (λ s. s.frame) (first ∷ behind) ≡ triggers_with slots cycle l mask
-      → All (λ s. s.frame.identifier ≡ 1) behind
+      → All (λ s. 0 < s.frame.identifier) behind
   behind-ids first behind are =
-      sent-all (λ f. f.identifier ≡ 1) behind
-      (subst (All (λ f. f.identifier ≡ 1)) (sym (sent-behind first.frame (map (λ s. s.frame) behind) are)) (ones (triggers_of slots)))
+      let same : map (λ s. s.frame) behind ≡ later_frames (triggers_of slots) cycle mask =
+      tail-same first.frame (trigger_frame cycle l mask) (map (λ s. s.frame) behind) (later_frames (triggers_of slots) cycle mask) are in
+      sent-all (λ f. 0 < f.identifier) behind (subst (All (λ f. 0 < f.identifier)) (sym same) (later (triggers_of slots)))
 
   -- all have identifiers below those of other frames
-  pub sent-low : (sent : List TimedFrame) → map (λ s. s.frame) sent ≡ triggers_with slots cycle l mask → All (λ s. s.frame.identifier ≤ 1) sent
-  sent-low sent are = sent-all (λ f. f.identifier ≤ 1) sent (subst (All (λ f. f.identifier ≤ 1)) (sym are) (low_ids slots cycle l mask))
+  pub sent-low : (sent : List TimedFrame) → map (λ s. s.frame) sent ≡ triggers_with slots cycle l mask → All (λ s. s.frame.identifier ≤ greatest_trigger) sent
+  sent-low sent are =
+      sent-all (λ f. f.identifier ≤ greatest_trigger) sent (subst (All (λ f. f.identifier ≤ greatest_trigger)) (sym are) (low_ids slots cycle l mask))

@@ -3,6 +3,7 @@
 use Rattle.std.specs.Prelude.{ℕ, ◌+◌, ◌*◌, ◌/◌, ◌%◌, ◌^◌, List, [], ◌∷◌}
 use Rattle.std.specs.Prelude.{length, slice_index, nat_eq, nat_le, ◌&&◌, ◌||◌, if◌then◌else◌, Option, Some, None}
 use Rattle.std.specs.Int.{byte_at}
+use Rattle.std.specs.List.{cons_option}
 use Rattle.profile.specs.Limits.{first_slots, longest_window}
 use Rattle.trigger_kind.specs.declared.Triggers.{Triggers}
 use Rattle.trigger_kind.specs.declared.Triggers.TheVariants.{One, Two}
@@ -11,6 +12,7 @@ use Rattle.can_frame.specs.DataFrame.{DataFrame}
 use Rattle.bit_sets.specs.Sets.{has_bit, most_slots, set_of}
 use Rattle.trigger_codec.specs.declared.message.Trigger.{Trigger}
 use Rattle.trigger_codec.specs.declared.message.Second.{Second}
+use Rattle.trigger_codec.specs.declared.message.TriggerFrames.{TriggerFrames}
 
 -- the slots of a set that the first frame flags, and those that the second one flags: those from 40 on
 abbrev pub low_slots : ℕ → ℕ
@@ -49,6 +51,10 @@ later_frames Two cycle mask = second_frame cycle mask ∷ []
 -- the trigger frames of a cycle of a table with so many slots, in the order in which they are sent
 abbrev pub triggers_with : ℕ → ℕ → ℕ → ℕ → List DataFrame
 triggers_with slots cycle l mask = trigger_frame cycle l mask ∷ later_frames (triggers_of slots) cycle mask
+
+-- the trigger frames that are still to be sent, in their order
+abbrev pub frames_left : TriggerFrames → List DataFrame
+frames_left frames = frames.next ∷ cons_option frames.second []
 
 -- the slots that two trigger frames flag, where the first one and the second one flag these
 abbrev pub flags_of_both : ℕ → ℕ → ℕ

@@ -1,5 +1,5 @@
--- Why a frame is no first trigger frame, or no second one.
-use Rattle.std.specs.Prelude.{◌≡◌, ◌≢◌, ◌<◌, length}
+-- Why a frame is no first trigger frame, or none behind it.
+use Rattle.std.specs.Prelude.{◌≡◌, ◌≢◌, ℕ, ◌<◌, length}
 use Rattle.profile.specs.Limits.{longest_window}
 use Rattle.can_frame.specs.DataFrame.{DataFrame}
 use Rattle.trigger_codec.specs.declared.trigger_fault.TriggerFault.{TriggerFault}
@@ -16,9 +16,9 @@ RefusesFirst frame (Window l) =
     (l ≡ width_told frame.bytes) × (frame.identifier ≡ 0) × (length frame.bytes ≡ 8)
     × (longest_window < width_told frame.bytes)
 
--- the same for the second frame, whose identifier is 1 and which says no window
-abbrev pub RefusesSecond : DataFrame → TriggerFault → Type 0
-RefusesSecond frame (WrongId id) = (id ≡ frame.identifier) × (frame.identifier ≢ 1)
-RefusesSecond frame (WrongLength dlc) =
-    (dlc ≡ length frame.bytes) × (frame.identifier ≡ 1) × (length frame.bytes ≢ 8)
-RefusesSecond frame (Window l) = ⊥
+-- the same for a frame behind the first one, which has this identifier and says no window
+abbrev pub RefusesLater : ℕ → DataFrame → TriggerFault → Type 0
+RefusesLater own frame (WrongId id) = (id ≡ frame.identifier) × (frame.identifier ≢ own)
+RefusesLater own frame (WrongLength dlc) =
+    (dlc ≡ length frame.bytes) × (frame.identifier ≡ own) × (length frame.bytes ≢ 8)
+RefusesLater own frame (Window l) = ⊥

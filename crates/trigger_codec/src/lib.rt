@@ -18,7 +18,7 @@ mod trigger_fault;
 
 pub use heard::{Heard, Noted, first_heard, hear, last_heard};
 pub use message::{
-    SECOND_IDENTIFIER, Second, TRIGGER_IDENTIFIER, Trigger, decode, decode_second, encode,
-    encode_later, encode_second, flags_of_both,
+    SECOND_IDENTIFIER, Second, TRIGGER_IDENTIFIER, Trigger, TriggerFrames, decode, decode_second,
+    encode, encode_all, encode_later, encode_second, flags_of_both, frames_behind,
 };
 pub use trigger_fault::TriggerFault;

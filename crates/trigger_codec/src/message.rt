@@ -1,14 +1,15 @@
 //! What the trigger frames of a cycle say, and these frames.
 
-ghost use Rattle.std.specs.Prelude.{◌≡◌, ℕ, ◌%◌, ◌^◌, ◌<◌, ◌≤◌, [], Ok, IfOk, IfErr, length};
+ghost use Rattle.std.specs.Prelude.{◌≡◌, ℕ, ◌%◌, ◌^◌, ◌<◌, ◌≤◌, [], ◌∷◌, Ok, IfOk, IfErr, drop, length};
 ghost use Rattle.std.specs.List.{cons_option};
+ghost use Rattle.std.specs.Option.{option_map_or};
 ghost use Rattle.std.specs.Result.{result_ok};
 ghost use Rattle.profile.specs.Limits.{first_slots, longest_window};
 ghost use Rattle.bit_sets.specs.Sets.{most_slots};
-ghost use Rattle.trigger_codec.specs.Bytes.{flags_of_both, later_frames, low_slots, high_slots};
+ghost use Rattle.trigger_codec.specs.Bytes.{flags_of_both, frames_left, later_frames, low_slots, high_slots};
 ghost use Rattle.trigger_codec.specs.Bytes.{trigger_frame, trigger_of, flags_in};
 ghost use Rattle.trigger_codec.specs.Bytes.{second_frame, second_of, second_flags_in};
-ghost use Rattle.trigger_codec.specs.Refusal.{RefusesFirst, RefusesSecond};
+ghost use Rattle.trigger_codec.specs.Refusal.{RefusesFirst, RefusesLater};
 
 use crate::trigger_fault::TriggerFault;
 use bit_sets::union;
@@ -42,6 +43,16 @@ pub struct Second {
     pub low: u8,
     /// The flagged slots from 40 on.
     pub mask: Mask,
+}
+
+/// The trigger frames of a cycle that are still to be sent, in their order: one, and the one behind it, where there are
+/// two.
+#[derive(Clone, Copy)]
+pub struct TriggerFrames {
+    /// The frame that is sent next.
+    pub next: Frame,
+    /// The frame behind that one.
+    pub second: Option<Frame>,
 }
 
 /// The first trigger frame of a cycle: `l` is the length of its synchronous window in bit times, and
@@ -100,6 +111,28 @@ pub fn encode_later(triggers: Triggers, cycle: u64, mask: Mask) -> Option<Frame>
     }
 }
 
+/// The trigger frames of a cycle: `l` is the length of its synchronous window in bit times, and `mask` are its flagged
+/// slots.
+pub fn encode_all(triggers: Triggers, cycle: u64, l: u32, mask: Mask) -> TriggerFrames
+    requires window { l ≤ longest_window }
+    ensures frames { frames_left result ≡ trigger_frame cycle l mask ∷ later_frames triggers cycle mask }
+{
+    TriggerFrames {
+        next: encode(cycle, l, mask),
+        second: encode_later(triggers, cycle, mask),
+    }
+}
+
+/// The trigger frames that are left once the first of these was sent.
+pub fn frames_behind(frames: &TriggerFrames) -> Option<TriggerFrames>
+    ensures left { option_map_or frames_left result [] ≡ drop 1 (frames_left frames.now) }
+{
+    match frames.second {
+        Some(next) => Some(TriggerFrames { next, second: None }),
+        None => None,
+    }
+}
+
 /// What a frame says as a first trigger frame. It does not compare the window with the flags.
 pub fn decode(frame: &Frame) -> Result<Trigger, TriggerFault>
     ensures trigger { IfOk result
@@ -137,7 +170,7 @@ pub fn decode_second(frame: &Frame) -> Result<Second, TriggerFault>
     ensures flags { IfOk result (λ t. t.mask ≡ high_slots t.mask) }
     ensures every { (cycle mask : ℕ) → mask < 2 ^ most_slots → frame.now ≡ second_frame cycle mask
         → result ≡ Ok (record { low = cycle % 256; mask = high_slots mask }) }
-    ensures fault { IfErr result (RefusesSecond frame.now) }
+    ensures fault { IfErr result (RefusesLater 1 frame.now) }
     ensures reading { result_ok result ≡ second_of frame.now }
 {
     let id = frame.id();

@@ -35,3 +35,7 @@ opening_of Two = 1
 -- the same of a bus with so many slots
 abbrev pub opening_identifier : ℕ → ℕ
 opening_identifier slots = opening_of (triggers_of slots)
+
+-- the greatest identifier of a trigger frame, of whatever kind: those of slots and of requests are above it
+abbrev pub greatest_trigger : ℕ
+greatest_trigger = 1

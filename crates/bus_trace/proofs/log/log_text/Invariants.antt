@@ -4,5 +4,5 @@ use Rattle.bus_trace.proofs.log.log_text.Given as goal
 
 abbrev pub invariant-loop-event : goal.invariant-loop-event
 invariant-loop-event l =
-    IsWritten l.trace (take l.event-index l.history) l.rows.text.items l.entries.placed.items l.entries.left.items l.next l.left
+    IsWritten l.trace (take l.event-index l.history) l.rows.text.items l.entries.kept.items l.next l.left
     × (l.next ≤ l.event-index)

@@ -2,11 +2,11 @@ use Rattle.std.proofs.Common.{◌≡◌, ◌∙◌, ap, subst, sym}
 use Rattle.clap.specs.Words.{found_of, is_simple_and_free, rows_of}
 use Rattle.command_words.specs.Words.{IsOfRow, command_meant, verb_app}
 use Rattle.command_words.specs.WordsRead.{command_read}
-use Rattle.command_words.proofs.WordLemmas.{asked_for, meant-verb, refused, verb_is_simple}
+use Rattle.command_words.proofs.WordLemmas.{asked_for, meant-verb, refused}
 use Rattle.command_words.proofs.words.command_named.Goals as goal
 
 pub parsed-requires : goal.parsed-requires
-parsed-requires c = record { simple = ap is_simple_and_free c.in_ok-command.ensures.app ∙ verb_is_simple c.args.verb }
+parsed-requires c = record { simple = ap is_simple_and_free c.in_ok-command.ensures.app ∙ c.requires.simple }
 
 pub returns : goal.returns
 returns c =

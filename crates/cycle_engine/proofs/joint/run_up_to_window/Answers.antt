@@ -1,7 +1,7 @@
 use Rattle.std.proofs.Common.{◌≡◌, ◌*◌, ◌∷◌, [], refl, sym, ap, ◌∙◌, subst}
-use Rattle.std.specs.List.{cons_option}
 use Rattle.cycle_layout.specs.Layout.{IsLayout, sync_start}
-use Rattle.trigger_codec.specs.Bytes.{triggers_with}
+use Rattle.trigger_kind.specs.declared.Triggers.{Triggers}
+use Rattle.trigger_codec.specs.Bytes.{frames_left, later_frames, trigger_frame, triggers_with}
 use Rattle.node_model.specs.Node.{NodeState}
 use Rattle.cycle_engine.specs.Stations.{AreDueTriggers, StationsView, announced, due_from, stationed}
 use Rattle.cycle_engine.specs.SyncWindow.{IsBeforeWindow}
@@ -16,9 +16,9 @@ pub announce-requires-clause-due : goal.announce-requires-clause-due
 announce-requires-clause-due c =
     let order = c.args.order.now in
     let layout = c.layout.result.now in
-    let triggers : c.encode-first.result ∷ cons_option c.later_trigger-later.result [] ≡ triggers_with layout.slots order.cycle order.l order.mask =
-    ap (λ frame. frame ∷ cons_option c.later_trigger-later.result []) c.encode-first.ensures.frame ∙ c.later_trigger-later.ensures.frames order.l in
-    subst (λ l. AreDueTriggers l (due_from (order.cycle * c.from.result) (c.encode-first.result ∷ cons_option c.later_trigger-later.result []))) c.layout.ensures.layout
+    let triggers : frames_left c.encode_all-frames_due.result ≡ triggers_with layout.slots order.cycle order.l order.mask =
+    c.encode_all-frames_due.ensures.frames ∙ ap (λ (t : Triggers). trigger_frame order.cycle order.l order.mask ∷ later_frames t order.cycle order.mask) c.triggers.ensures.kind in
+    subst (λ l. AreDueTriggers l (due_from (order.cycle * c.from.result) (frames_left c.encode_all-frames_due.result))) c.layout.ensures.layout
     (subst (λ fs. AreDueTriggers layout (due_from (order.cycle * c.from.result) fs)) (sym triggers)
     (AreDue-triggers layout (order.cycle * c.from.result) order.cycle order.l order.mask))
 
@@ -36,9 +36,9 @@ returns-clause-before_window c =
     let start : order.cycle * c.from.result ≡ order.cycle * layout.cycle = ap (λ n. order.cycle * n) length in
     let window : c.sync_start-window.result ≡ sync_start layout order.cycle order.l =
     c.sync_start-window.ensures.value ∙ ap (λ l. sync_start l order.cycle order.l) c.layout.ensures.layout in
-    let triggers : c.encode-first.result ∷ cons_option c.later_trigger-later.result [] ≡ triggers_with layout.slots order.cycle order.l order.mask =
-    ap (λ frame. frame ∷ cons_option c.later_trigger-later.result []) c.encode-first.ensures.frame
-    ∙ c.later_trigger-later.ensures.frames order.l ∙ ap (λ l. triggers_with l.slots order.cycle order.l order.mask) c.layout.ensures.layout in
+    let triggers : frames_left c.encode_all-frames_due.result ≡ triggers_with layout.slots order.cycle order.l order.mask =
+    c.encode_all-frames_due.ensures.frames ∙ ap (λ (t : Triggers). trigger_frame order.cycle order.l order.mask ∷ later_frames t order.cycle order.mask) c.triggers.ensures.kind
+    ∙ ap (λ l. triggers_with l.slots order.cycle order.l order.mask) c.layout.ensures.layout in
     let before : stationed c.announce.new.self ≡ announced layout (order.cycle * layout.cycle) (triggers_with layout.slots order.cycle order.l order.mask) nodes =
     ap stationed c.announce.ensures.announced
     ∙ announced-same layout layout _ _ _ _ nodes nodes refl start triggers refl in

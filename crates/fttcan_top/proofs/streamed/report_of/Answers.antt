@@ -8,13 +8,13 @@ use Rattle.fttcan_top.proofs.streamed.report_of.Goals as goal
 pub returns-in-None : goal.returns-in-None
 returns-in-None c = record { report = λ trace kept. rw c.in-None.is c.new.ensures.items }
 
-pub returns-in-Some-2 : goal.returns-in-Some-2
-returns-in-Some-2 c =
+pub returns-in-Some-into_master : goal.returns-in-Some-into_master
+returns-in-Some-into_master c =
     let run = c.args.run in
     let owners = c.args.owners.now in
     let requests = c.args.requests.now in
-    let master = c.in-Some-2.master in
-    let history = rw c.in-Some-2.is at c.in_ok-master-in-Some.ensures.history in
+    let master = c.in-Some-into_master.master in
+    let history = rw c.in-Some-into_master.is at c.into_master.ensures.history in
     record {
       report = IfOk-weaker c.report.result (λ text. text.items ≡ report_text master.history c.as_slice.result.now owners requests)
           (λ text. IsOfReport run owners requests (λ report. text.items ≡ report))

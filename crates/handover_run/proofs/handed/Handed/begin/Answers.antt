@@ -15,5 +15,5 @@ returns c = record {
   begun = c.hand_over.ensures.still (setting_of c.args.system.now c.args.requests.now) [] []
       (begins-handed (setting_of c.args.system.now c.args.requests.now)
       (record { bus = c.in_ok-begin.field-0; standby = Some c.in_ok-new.field-0; at = c.args.at; quiet = true }) c.in_ok-new.field-0
-      c.in_ok-begin.ensures.going c.in_ok-begin.ensures.empty refl c.in_ok-new.ensures.rules c.in_ok-new.ensures.history refl);
+      c.in_ok-begin.ensures.going c.in_ok-begin.ensures.kept c.in_ok-begin.ensures.empty refl c.in_ok-new.ensures.rules c.in_ok-new.ensures.history refl);
 }

@@ -19,7 +19,7 @@ returns-in-Some-clause-still c = λ setting whole trace is.
     })
     run c.in-Some.standby c.of.result (sym c.take.ensures.value ∙ c.in-Some.is) (c.of.ensures.rules ∙ c.take_over.ensures.rules)
     (c.of.ensures.history ∙ c.take_over.ensures.history) (rw (c.of.ensures.rules, c.of.ensures.history) c.take_over.ensures.plain)
-    (c.of.ensures.keeps ∙ c.keeps-keeps.ensures.keeps) setting whole trace is)
+    c.of.ensures.keeps setting whole trace is)
 
 pub returns-in-Some-clause-next : goal.returns-in-Some-clause-next
 returns-in-Some-clause-next c =

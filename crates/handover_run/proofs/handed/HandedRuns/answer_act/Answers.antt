@@ -51,6 +51,6 @@ returns-clause-on c =
       standby = c.follow_answer.new.standby;
       quiet = c.args.self.now.quiet && c.refuses_nothing.result;
     })
-    [] is on c.args.caller c.args.act.now c.in_ok-answer.ensures.calls
+    [] is on c.args.caller c.args.act.now c.in_ok-answer.ensures.kept c.in_ok-answer.ensures.calls
     (subst (λ event. IsStillFollowing setting.rules (whole ++ event ∷ []) c.follow_answer.new.standby) last (follow setting.rules whole is.followed))
     (ap (λ b. c.args.self.now.quiet && b) (c.refuses_nothing.ensures.test ∙ ap refuses_nothing last)))

@@ -54,5 +54,5 @@ returns-clause-on c =
     })
     (record { plain = c.goes_on.ensures.plain }) setting whole trace (record c.args.self.now { bus = c.make_ready.new.self })
     (record c.args.self.now { bus = c.run_next.new.self; standby = c.follow_opening.new.standby }) c.run_next.new.self.segment handed
-    (c.run_next.ensures.on setting trace handed.going) c.run_next.ensures.calls
+    (c.run_next.ensures.on setting trace handed.going) c.run_next.ensures.kept c.run_next.ensures.calls
     (λ cycle mask right. follow setting.rules whole cycle mask is.followed right) refl)

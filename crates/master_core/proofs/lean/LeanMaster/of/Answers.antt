@@ -1,4 +1,4 @@
-use Rattle.std.proofs.Common.{◌∙◌, Bool, ap, subst}
+use Rattle.std.proofs.Common.{◌∙◌, Bool, ap, refl, subst}
 use Rattle.master_core.specs.Cores.{CoreView, IsStateAs}
 use Rattle.master_core.specs.Keeping.{MasterView}
 use Rattle.master_core.proofs.States.{state-pruned}
@@ -8,9 +8,10 @@ pub invariant_of-result : goal.invariant_of-result
 invariant_of-result c =
     let whole =
     subst (λ (b : Bool). IsStateAs b c.master.inside.history.items c.master.inside.core) c.master.invariant.1 c.master.invariant.0 in
-    rw c.of.ensures.history (
+    rw (c.of.ensures.history, c.of.ensures.keeps) (
       state-pruned _ _ _ whole c.pruned.ensures.pruned,
       ap (λ (v : CoreView). v.forgets) c.pruned.ensures.pruned.is ∙ c.master.invariant.1,
+      refl,
     )
 
 pub returns-clause-rules : goal.returns-clause-rules

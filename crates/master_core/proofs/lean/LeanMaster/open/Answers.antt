@@ -1,15 +1,20 @@
-use Rattle.std.proofs.Common.{refl, subst, sym}
+use Rattle.std.proofs.Common.{◌∙◌, refl, subst, sym}
+use Rattle.master_core.specs.declared.event.Event.TheVariants.{Open}
 use Rattle.master_core.specs.History.{IsPlainlyLegal, next_of, placed_of}
 use Rattle.master_core.specs.Journals.{LeanView}
 use Rattle.master_core.specs.Orders.{IsOrderFor, IsOrderWith, StandsFor}
+use Rattle.master_core.proofs.Growing.{all-same}
 use Rattle.master_core.proofs.States.{stands-next, state-opened, state-order-with}
 use Rattle.master_core.proofs.Whole.{plain-more}
 use Rattle.master_core.proofs.lean.LeanMaster.open.Goals as goal
 
 pub invariant_of-self : goal.invariant_of-self
 invariant_of-self c =
-    rw (c.put.ensures.history, c.open-order.ensures.state, c.open-order.ensures.order.cycle)
-    (state-opened _ _ _ c.known.ensures.core c.self.invariant.0 _ c.open-order.ensures.order.mask, c.self.invariant.1)
+    rw (c.put.ensures.history, c.put.ensures.keeps, c.open-order.ensures.state, c.open-order.ensures.order.cycle) (
+      state-opened _ _ _ c.known.ensures.core c.self.invariant.0 _ c.open-order.ensures.order.mask,
+      c.self.invariant.1,
+      c.self.invariant.2 ∙ all-same c.self.inside.journal.keeps c.self.inside.journal.history (Open c.self.inside.core.cycle c.open-order.result.mask) refl,
+    )
 
 pub returns-clause-order : goal.returns-clause-order
 returns-clause-order c =

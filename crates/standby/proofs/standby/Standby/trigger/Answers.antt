@@ -30,16 +30,17 @@ returns-then-ne-clause-due c due =
     let cycle = ap (λ (n : ℕ). heard_of c.self.inside.master.rules.slots n c.args.frames.now) c.next-cycle.ensures.next in
     let heard = sym cycle ∙ sym slots ∙ sym c.hear.ensures.heard ∙ c.in-Some.is in
     let here = subst (λ (v : StandbyView). c.args.frames.now ≡ due_frames v) (sym c.self.view_is) due in
-    let said = due-heard c.self.inside.master.rules c.self.inside.master.history c.upcoming-upcoming.result c.args.frames.now c.self.invariant
+    let said = due-heard c.self.inside.master.rules c.self.inside.master.history c.upcoming-upcoming.result c.args.frames.now c.self.invariant.0
     c.upcoming-upcoming.ensures.upcoming here in
     let same = ap (λ (h : Heard). h.mask) (heard-is _ c.in-Some.heard _ heard said) in
     absurd (let ne = c.if-ne.ensures in grind (arith, common_steps))
 
 pub invariant_of-self-2 : goal.invariant_of-self-2
 invariant_of-self-2 c =
-    let rules = c.open_upcoming.ensures.rules ∙ c.in_ok-reserve.ensures.rules in
-    rw rules
-    (standby-opened c.self.inside.master.rules c.self.inside.master.history c.open_upcoming.result.cycle c.open_upcoming.result.mask
-    c.open_upcoming.new.self.history c.self.invariant
-    (c.open_upcoming.ensures.event ∙ ap (λ (h : List Event). h ++ Open c.open_upcoming.result.cycle c.open_upcoming.result.mask ∷ []) c.in_ok-reserve.ensures.history)
-    (subst (λ (r : Rules). IsLegal r c.open_upcoming.new.self.history) rules c.open_upcoming.ensures.legal))
+    let rules = c.pass.ensures.rules ∙ c.in_ok-reserve.ensures.rules in
+    let own = c.self.inside.master.history in
+    let mask = c.upcoming-upcoming.result.mask in
+    let standby = standby-opened c.self.inside.master.rules own (next_of own) mask c.pass.new.self.history c.self.invariant.0
+    (c.pass.ensures.event ∙ ap (λ (h : List Event). h ++ Open (next_of h) mask ∷ []) c.in_ok-reserve.ensures.history)
+    (subst (λ (r : Rules). IsLegal r c.pass.new.self.history) rules c.pass.ensures.legal) in
+    (rw rules standby, c.pass.ensures.keeps ∙ c.in_ok-reserve.ensures.keeps ∙ c.self.invariant.1)

@@ -28,7 +28,7 @@ returns-in-Some-Ask-clause-on c = λ system requests trace told again.
     ok-three (λ asked. asked ≡ true → IsLegal new.master.rules new.master.history)
     (λ asked. asked ≡ true → (verdict : Verdict) × (trail : List ℕ)
     × (new.master.history ≡ history ++ Submit c.args.caller change c.args.from verdict trail ∷ []))
-    (λ asked. asked ≡ true → KeepsStates new.master.rules new.master.history new.states)
+    (λ asked. asked ≡ true → KeepsStates new.master.rules new.master.history new.master.placed new.states)
     (λ followed. followed ≡ true → IsRerunBroughtOn system c.args.steps.now requests trace old (row.Submit c.args.caller c.args.from told) new)
     (λ asked legal event states yes.
     let (verdict, trail, is) = event yes in
@@ -41,7 +41,7 @@ returns-in-Some-Ask-clause-on c = λ system requests trace told again.
     let near : c.args.from < 2 ^ 63 = omega (arith, early, few, cycles) in
     called-on system c.args.steps.now requests trace old new (row.Submit c.args.caller c.args.from told) again
     (record { under_way = c.calls_between.ensures.under_way; ready = c.calls_between.ensures.ready })
-    submit refl near (refl, refl, next) c.ask.ensures.rules c.ask.ensures.nodes is (legal yes) (states yes)
+    submit refl near (refl, refl, next) c.ask.ensures.rules c.ask.ensures.keeps c.ask.ensures.nodes is (legal yes) (states yes)
     (subst (AreStepsAhead c.args.steps.now (history ++ submit ∷ [])) (sym c.ask.ensures.ahead) ahead))
     c.ask.result c.ask.ensures.legal c.ask.ensures.event c.ask.ensures.states
 

@@ -22,7 +22,7 @@ returns-in_ok-look-in-Some-Look-clause-on c = λ system requests trace next agai
     let ahead = c.take-place.ensures.ahead old.master.history event c.requires.ahead (ap is_some found) (λ caller. refl) in
     called-on system c.args.steps.now requests trace old new (row.Look c.args.caller next) again
     (record { under_way = c.calls_between.ensures.under_way; ready = c.calls_between.ensures.ready })
-    event refl tt (refl, taken) c.look.ensures.rules c.look.ensures.nodes c.in_ok-look-in-Some-Look.ensures.event c.look.ensures.legal
+    event refl tt (refl, taken) c.look.ensures.rules c.look.ensures.keeps c.look.ensures.nodes c.in_ok-look-in-Some-Look.ensures.event c.look.ensures.legal
     c.in_ok-look-in-Some-Look.ensures.states
     (subst (AreStepsAhead c.args.steps.now (old.master.history ++ event ∷ [])) (sym c.look.ensures.ahead) ahead)
 
