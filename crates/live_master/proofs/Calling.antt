@@ -6,6 +6,7 @@ use Rattle.turn_lock.specs.History.{own}
 use Rattle.turn_lock.specs.Passes.{Facts, Known, knowing, granted, committed, refused}
 use Rattle.turn_lock.proofs.Shared.{prefix_trans}
 use Rattle.requirement_table.specs.declared.entries.Order.{Order}
+use Rattle.requirement_table.specs.declared.entries.Placed.{Placed}
 use Rattle.change_protocol.specs.declared.operations.Change.{Change}
 use Rattle.admission.specs.declared.verdict.Verdict.{Verdict}
 use Rattle.admission_rules.specs.declared.Rules.{Rules}
@@ -13,10 +14,12 @@ use Rattle.master_core.specs.declared.apart.Snapshot.{Snapshot}
 use Rattle.master_core.specs.declared.event.Event.{Event}
 use Rattle.master_core.specs.declared.event.Event.TheVariants.{Submit, Open}
 use Rattle.master_core.specs.Apart.{CanSettle, IsPlanOf, PlannedView, from_of, snapshot_of}
-use Rattle.master_core.specs.History.{placed_of}
-use Rattle.master_core.specs.Orders.{IsOrder}
+use Rattle.master_core.specs.CorePlans.{CorePlannedView}
+use Rattle.master_core.specs.Kept.{kept_from, kept_of}
+use Rattle.master_core.specs.Orders.{IsOrder, IsOrderFor, learned_as}
 use Rattle.live_master.specs.Callers.{number_of}
 use Rattle.live_master.specs.Calls.{AfterWaiting, AtOnce, GaveBack, InTurn, IsAnsweredInTurn, IsOpenedInTurn, IsPlannedIn, IsTurnRefused, Settled, Snapped, Submitted, Waited}
+use Rattle.live_master.specs.Kept.{KeptSettled}
 use Rattle.live_master.specs.Within.{IsOpenedWithin}
 use Rattle.live_master.proofs.Openings.{none_between}
 use Rattle.live_master.proofs.Rooms.{few-learned}
@@ -68,18 +71,41 @@ opened rules old new order found begins is ordered zeroth facts owned =
     zeroth facts
     (ap (λ (l : List Event). own number_of old.view.number l) split ∙ owned)
 
--- and with no more entries in it than there was room for
-pub opened_within : (rules : Rules) (old new : Known Event Rules) (order : Order) (entries : ℕ) (found : List Event) → IsPrefix old.view.seen found
+opened_within_at : (rules : Rules) (old new : Known Event Rules) (order : Order) (entries : ℕ) (between : List Event)
+    → new ≡ knowing old (committed ((old.view.seen ++ between) ++ Open order.cycle order.mask ∷ []) (granted (old.view.seen ++ between) old.view))
+    → IsOrderFor rules (old.view.seen ++ between) order → order.learned ≡ learned_as (old.view.seen ++ between) (kept_of (old.view.seen ++ between))
+    → length (kept_of (old.view.seen ++ between)) ≤ entries
+    → old.view.number ≡ 0 → Facts number_of old.view → own number_of old.view.number (old.view.seen ++ between) ≡ old.view.mine
+    → IsOpenedWithin rules entries old new order
+unfolding answered
+opened_within_at rules old new order entries between is ordered learned few zeroth facts owned = record {
+  answered = answered old new (Open order.cycle order.mask) between is;
+  is_order = ordered;
+  learned = learned;
+  alone =
+      let at : own number_of 0 old.view.seen ≡ old.view.mine = ap (λ n. own number_of n old.view.seen) (sym zeroth) ∙ facts.own_are in
+      let after : own number_of 0 (old.view.seen ++ between) ≡ old.view.mine = ap (λ n. own number_of n (old.view.seen ++ between)) (sym zeroth) ∙ owned in
+      none_between old.view.seen between old.view.mine at after;
+  kept = few;
+  few = few-learned (old.view.seen ++ between) (kept_of (old.view.seen ++ between)) order entries learned few;
+}
+
+-- and so it did with an order by which the nodes learn the entries that are kept, no more than there was room for
+pub opened_within : (rules : Rules) (old new : Known Event Rules) (order : Order) (entries : ℕ) (placed : List Placed) (found : List Event)
+    → IsPrefix old.view.seen found
     → new ≡ knowing old (committed (found ++ Open order.cycle order.mask ∷ []) (granted found old.view))
-    → IsOrder rules found order → length (placed_of found) ≤ entries
+    → IsOrderFor rules found order → order.learned ≡ learned_as found placed → placed ≡ kept_of found → length placed ≤ entries
     → old.view.number ≡ 0 → Facts number_of old.view → own number_of old.view.number found ≡ old.view.mine
     → IsOpenedWithin rules entries old new order
-unfolding answered opened opened_at
-opened_within rules old new order entries found begins is ordered few zeroth facts owned = record {
-  opened = opened rules old new order found begins is ordered zeroth facts owned;
-  placed = subst (λ (l : List Event). length (placed_of l) ≤ entries) (sym begins.1) few;
-  few = few-learned rules found order entries ordered few;
-}
+opened_within rules old new order entries placed found begins is ordered learned kept few zeroth facts owned =
+    let split = begins.1 in
+    opened_within_at rules old new order entries begins.0
+    (is ∙ ap (λ (l : List Event). knowing old (committed (l ++ Open order.cycle order.mask ∷ []) (granted l old.view))) (sym split))
+    (subst (λ (l : List Event). IsOrderFor rules l order) (sym split) ordered)
+    (subst (λ (l : List Event). order.learned ≡ learned_as l (kept_of l)) (sym split) (learned ∙ ap (λ (l : List Placed). learned_as found l) kept))
+    (subst (λ (l : List Event). length (kept_of l) ≤ entries) (sym split) (subst (λ (l : List Placed). length l ≤ entries) kept few))
+    zeroth facts
+    (ap (λ (l : List Event). own number_of old.view.number l) split ∙ owned)
 
 settled_at : (old new : Known Event Rules) (change : Change) (planned : PlannedView) (verdict : Verdict) (trail : List ℕ) (between : List Event)
     → new ≡ knowing old (committed ((old.view.seen ++ between) ++ Submit old.view.number change (from_of (old.view.seen ++ between) planned) verdict trail ∷ [])
@@ -101,6 +127,28 @@ pub settled : (old new : Known Event Rules) (change : Change) (planned : Planned
 settled old new change planned verdict trail found begins is =
     settled_at old new change planned verdict trail begins.0
     (is ∙ ap (λ (l : List Event). knowing old (committed (l ++ Submit old.view.number change (from_of l planned) verdict trail ∷ []) (granted l old.view)))
+    (sym begins.1))
+
+settled-kept-at : (old new : Known Event Rules) (planned : CorePlannedView) (verdict : Verdict) (trail : List ℕ) (between : List Event)
+    → new ≡ knowing old (committed ((old.view.seen ++ between) ++ Submit old.view.number planned.change (kept_from (old.view.seen ++ between) planned) verdict trail ∷ [])
+    (granted (old.view.seen ++ between) old.view))
+    → KeptSettled old new planned verdict
+unfolding answered
+settled-kept-at old new planned verdict trail between is = record {
+  from = kept_from (old.view.seen ++ between) planned;
+  trail = trail;
+  answered = answered old new (Submit old.view.number planned.change (kept_from (old.view.seen ++ between) planned) verdict trail) between is;
+  planned_from = refl;
+}
+
+-- and so it did with a change that was planned from the kept entries
+pub settled-kept : (old new : Known Event Rules) (planned : CorePlannedView) (verdict : Verdict) (trail : List ℕ) (found : List Event)
+    → IsPrefix old.view.seen found
+    → new ≡ knowing old (committed (found ++ Submit old.view.number planned.change (kept_from found planned) verdict trail ∷ []) (granted found old.view))
+    → KeptSettled old new planned verdict
+settled-kept old new planned verdict trail found begins is =
+    settled-kept-at old new planned verdict trail begins.0
+    (is ∙ ap (λ (l : List Event). knowing old (committed (l ++ Submit old.view.number planned.change (kept_from l planned) verdict trail ∷ []) (granted l old.view)))
     (sym begins.1))
 
 -- what was planned from a snapshot of what was seen can be settled where the turn is got

@@ -1,4 +1,5 @@
 mod Calling
+mod Keeping
 mod Openings
 mod Standing
 mod Rooms

@@ -1,4 +1,5 @@
 pub mod Callers
 pub mod Calls
+pub mod Kept
 pub mod Passes
 pub mod Within

@@ -4,23 +4,31 @@ use Rattle.turn_lock.specs.Passes.{Known}
 use Rattle.requirement_table.specs.declared.entries.Order.{Order}
 use Rattle.admission_rules.specs.declared.Rules.{Rules}
 use Rattle.master_core.specs.declared.event.Event.{Event}
-use Rattle.master_core.specs.History.{next_of, placed_of}
-use Rattle.live_master.specs.Calls.{GaveBack, IsOpenedInTurn}
+use Rattle.master_core.specs.declared.event.Event.TheVariants.{Open}
+use Rattle.master_core.specs.History.{next_of}
+use Rattle.master_core.specs.Kept.{kept_of}
+use Rattle.master_core.specs.Orders.{IsOrderFor, learned_as}
+use Rattle.live_master.specs.Calls.{GaveBack, IsAnsweredInTurn}
 use Rattle.live_master.specs.declared.within.FoundOpening.{FoundOpening}
 use Rattle.live_master.specs.declared.within.FoundOpening.TheVariants as opening
 
--- a cycle was opened by this order. No more entries are placed, and the list that is learnt with it, where there is one,
--- has no more
+-- a cycle was opened by this order, which is one of the history before the opening. What the nodes learn with it are
+-- the entries that are kept, which stand for all placed ones, and there are no more of these. No other cycle was opened
+-- in between
 pub record IsOpenedWithin (rules : Rules) (entries : ℕ) (old new : Known Event Rules) (order : Order) : Type 0 where
-  pub opened : IsOpenedInTurn rules old new order
-  pub placed : length (placed_of (old.view.seen ++ opened.answered.between)) ≤ entries
+  pub answered : IsAnsweredInTurn old new (Open order.cycle order.mask)
+  pub is_order : IsOrderFor rules (old.view.seen ++ answered.between) order
+  pub learned : order.learned
+      ≡ learned_as (old.view.seen ++ answered.between) (kept_of (old.view.seen ++ answered.between))
+  pub alone : next_of answered.between ≡ 0
+  pub kept : length (kept_of (old.view.seen ++ answered.between)) ≤ entries
   pub few : IfSome order.learned (λ placed. length placed ≤ entries)
 
--- the turn was got and let go with no event added: so many entries are placed, and these are more. No cycle was opened
--- in between
+-- the turn was got and let go with no event added: so many entries are kept, and these are more. No cycle was opened in
+-- between
 pub record IsShort (entries : ℕ) (old new : Known Event Rules) (needed : ℕ) : Type 0 where
   pub gave_back : GaveBack old new
-  pub placed : needed ≡ length (placed_of (old.view.seen ++ gave_back.between))
+  pub kept : needed ≡ length (kept_of (old.view.seen ++ gave_back.between))
   pub more : entries < needed
   pub alone : next_of gave_back.between ≡ 0
 

@@ -1,18 +1,23 @@
 //! What lies behind the turn.
 
-ghost use Rattle.std.specs.Prelude.{◌≡◌, ◌<◌, ◌^◌, [], length, IfOk};
+ghost use Rattle.std.specs.Prelude.{◌≡◌, ◌<◌, ◌^◌, [], length, true, IfOk};
 ghost use Rattle.admission.specs.Verdict.{IsRules};
+ghost use Rattle.master_core.specs.Kept.{kept_of};
+ghost use Rattle.live_master.specs.Kept.{kept_snapshot_of};
 
 use admission_rules::Rules;
-use master_core::{Event, Master};
+use master_core::{CoreSnapshot, Event, LeanMaster};
 use std::alloc::{AllocError, Global};
 use turn_lock::Stands;
 
 /// A master behind the turn. It stands for its history, and its rules are the same at every turn.
 #[derive(Drop)]
 pub struct Desk {
-    pub master: Master,
+    /// It keeps all events.
+    pub master: LeanMaster,
     ghost few: { length master.history < 2 ^ 62 },
+    ghost keeps: { master.keeps ≡ true },
+    ghost kept: { master.placed ≡ kept_of master.history },
 }
 
 impl Stands for Desk {
@@ -38,7 +43,21 @@ impl Desk {
         ensures rules { IfOk result (λ desk. desk.master.rules ≡ rules) }
         ensures history { IfOk result (λ desk. desk.master.history ≡ []) }
     {
-        let master = Master::new(alloc, rules)?;
+        let master = LeanMaster::new(alloc, rules, true)?;
         Ok(Desk { master })
+    }
+
+    /// What a change is planned from, apart from the master: the entries that it keeps, and the state before its next
+    /// cycle.
+    ///
+    /// # Errors
+    ///
+    /// Only where memory runs out.
+    pub fn kept_snapshot(&self, alloc: Global) -> Result<CoreSnapshot, AllocError>
+        ensures snapshot { IfOk result (λ snapshot.
+            snapshot ≡ kept_snapshot_of self.now.master.rules self.now.master.history) }
+    {
+        let state = self.master.state();
+        self.master.kept_snapshot(alloc, &state)
     }
 }

@@ -7,6 +7,7 @@
 
 mod desk;
 mod fault;
+mod kept;
 pub mod laws;
 mod live;
 mod operators;

@@ -60,6 +60,9 @@ impl LiveMaster {
         let LiveMaster { turn } = self;
         let DispatcherPass { pass, cycles: _ } = pass;
         let Desk { master } = turn.close(pass);
-        master
+        match master.into_master() {
+            Some(master) => master,
+            None => unreachable!(),
+        }
     }
 }

@@ -130,9 +130,8 @@ pub fn open_once(turn: &Turn<Desk>, alloc: Global, pass: &mut Pass<Desk>) -> Res
     match pass.try_turn(turn) {
         Ok(mut held) => {
             let desk = held.value_mut();
-            match desk.master.reserve(alloc, 1) {
-                Ok(()) => {
-                    let order = desk.master.open();
+            match desk.master.open_all(alloc) {
+                Ok(order) => {
                     held.commit();
                     Ok(order)
                 }

@@ -24,11 +24,11 @@ use turn_lock::{Pass, Turn};
 pub enum FoundOpening {
     /// There is room: the cycle was opened by this order.
     Opened { order: Order },
-    /// So many entries are placed, more than there is room for. No cycle was opened.
+    /// So many entries are kept, more than there is room for. No cycle was opened.
     Short { needed: usize },
 }
 
-/// Tries once to open the next cycle where no more than so many entries are placed, for the dispatcher, which opened
+/// Tries once to open the next cycle where no more than so many entries are kept, for the dispatcher, which opened
 /// fewer than 2^41.
 fn open_within_once(
     turn: &Turn<Desk>,
@@ -70,8 +70,8 @@ fn open_within_once(
 }
 
 impl LiveMaster {
-    /// Tries once to open the next cycle where no more than `entries` entries are placed. The pass opened fewer than
-    /// 2^41 so far.
+    /// Tries once to open the next cycle where the master keeps no more than `entries` entries. The nodes learn these
+    /// with it, and they stand for all that are placed. The pass opened fewer than 2^41 so far.
     ///
     /// # Errors
     ///

@@ -6,11 +6,11 @@ use Rattle.turn_lock.specs.Passes.{Lock}
 use Rattle.admission_rules.specs.declared.Rules.{Rules}
 use Rattle.master_core.specs.declared.event.Event.{Event}
 use Rattle.master_core.specs.declared.event.Event.TheVariants.{Open}
-use Rattle.master_core.specs.Orders.{IsOrder}
+use Rattle.master_core.specs.Orders.{IsOrderFor}
 use Rattle.master_core.specs.History.{IsLegal}
 use Rattle.kept_run.specs.Progress.{IsOnTheWay}
 use Rattle.kept_run.specs.Setting.{Setting}
-use Rattle.kept_run.proofs.Shared.{CallsBetween, CyclesRun, RanOrder, order-whole, way-called, way-run}
+use Rattle.kept_run.proofs.Shared.{CallsBetween, CyclesRun, RanOrder, way-called, way-run}
 use Rattle.live_run.specs.declared.dispatching.LiveBus.{LiveBus}
 use Rattle.live_run.specs.Running.{CanDispatch, HasOpened, IsBeforeOrder, IsRunning}
 
@@ -21,7 +21,7 @@ found laws setting shared old new order bus opened running =
     let legal = subst (λ r. IsLegal r (old ++ opened.calls)) running.same_rules opened.legal in
     record {
       way = way-called laws setting old opened.calls bus.trace.items bus.nodes opened.closed legal running.way;
-      ordered = order-whole setting.rules (old ++ opened.calls) order legal (subst (λ r. IsOrder r (old ++ opened.calls) order) running.same_rules opened.ordered);
+      ordered = subst (λ r. IsOrderFor r (old ++ opened.calls) order) running.same_rules opened.ordered;
     }
 
 -- so in some setting a cycle of it can be run

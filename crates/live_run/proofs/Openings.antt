@@ -9,7 +9,7 @@ use Rattle.requirement_table.specs.declared.entries.Order.{Order}
 use Rattle.master_core.specs.declared.event.Event.{Event}
 use Rattle.master_core.specs.declared.event.Event.TheVariants.{Open}
 use Rattle.master_core.specs.History.{IsLegal, is_open, next_of}
-use Rattle.master_core.specs.Orders.{IsOrder}
+use Rattle.master_core.specs.Orders.{IsOrderFor}
 use Rattle.kept_run.proofs.Shared.{CallsBetween, way-called, way-same}
 use Rattle.kept_run.specs.Progress.{IsOnTheWay}
 use Rattle.kept_run.specs.Setting.{Setting}
@@ -78,7 +78,7 @@ pub opened-on : (rules : Rules) (start : List Event) (entries : ℕ) (order : Or
     → AfterWaiting (λ one other. OpenedWithin rules entries one other (opening.Opened order)) old new → IsLegal rules new.view.seen
     → HasSeen rules start old.view.seen → HasOpened rules start new.view.seen order
 opened-on rules start entries order old new front found legal so_far =
-    let made = found.made.opened in
+    let made = found.made in
     let between = made.answered.between in
     let event = Open order.cycle order.mask in
     let calls = so_far.calls ++ between in
@@ -90,7 +90,7 @@ opened-on rules start entries order old new front found legal so_far =
       calls = calls;
       closed = All-append (λ call. is_open call ≡ false) so_far.calls between so_far.closed (closed-none between made.alone);
       seen = seen;
-      ordered = subst (λ (h : List Event). IsOrder rules h order) split made.is_order;
+      ordered = subst (λ (h : List Event). IsOrderFor rules h order) split made.is_order;
       legal = front (start ++ calls) (event ∷ []) (subst (λ (h : List Event). IsLegal rules h) seen legal);
     }
 

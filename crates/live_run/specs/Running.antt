@@ -9,7 +9,7 @@ use Rattle.cycle_engine.specs.Nodes.{states_of}
 use Rattle.master_core.specs.declared.event.Event.{Event}
 use Rattle.master_core.specs.declared.event.Event.TheVariants.{Open}
 use Rattle.master_core.specs.History.{IsLegal, is_open}
-use Rattle.master_core.specs.Orders.{IsOrder, IsOrderFor}
+use Rattle.master_core.specs.Orders.{IsOrderFor}
 use Rattle.kept_run.specs.Progress.{IsOnTheWay}
 use Rattle.kept_run.specs.Setting.{Setting}
 use Rattle.live_run.specs.declared.dispatching.LiveBus.{LiveBus}
@@ -28,13 +28,13 @@ pub record IsRunning (setting : Setting) (shared : Lock Rules) (seen : List Even
 abbrev pub CanDispatch : Lock Rules → List Event → LiveBus → Type 0
 CanDispatch shared seen bus = (setting : Setting) × IsRunning setting shared seen bus
 
--- behind what a dispatcher had seen, others made calls that open no cycle, and then it opened one, by the order of the
+-- behind what a dispatcher had seen, others made calls that open no cycle, and then it opened one, by an order of the
 -- history so far
 pub record HasOpened (rules : Rules) (old new : List Event) (order : Order) : Type 0 where
   pub calls : List Event
   pub closed : All (λ call. is_open call ≡ false) calls
   pub seen : new ≡ (old ++ calls) ++ Open order.cycle order.mask ∷ []
-  pub ordered : IsOrder rules (old ++ calls) order
+  pub ordered : IsOrderFor rules (old ++ calls) order
   pub legal : IsLegal rules (old ++ calls)
 
 -- behind what a dispatcher had seen, others made calls that open no cycle, and nothing else

@@ -9,11 +9,11 @@ ghost use Rattle.master_core.specs.Calls.{asked, call_of};
 use crate::points::{Gate, Point};
 use change_protocol::{Act, Change};
 use live_master::{LiveMaster, OperatorPass};
-use master_core::plan_apart;
 use std::alloc::{AllocError, Global};
 use std::sync::Wait;
 
-/// Has a change answered. It is planned with no turn held, behind a point of the gate.
+/// Has a change answered. It is planned from the entries that the master keeps, with no turn held, behind a point of
+/// the gate.
 fn ask<R: Wait, G: Gate>(
     rt: &R,
     alloc: Global,
@@ -28,12 +28,15 @@ fn ask<R: Wait, G: Gate>(
     ensures number { pass.new.view.number ≡ pass.old.view.number }
     ensures standing { IsPassOf shared.now pass.new }
 {
-    let snapshot = shared.snapshot(rt, alloc, pass)?;
+    let snapshot = shared.kept_snapshot(rt, alloc, pass)?;
     gate.pass(Point::Planning {
         caller: pass.caller(),
     });
-    let planned = plan_apart(alloc, &snapshot, change)?;
-    shared.settle(rt, alloc, pass, change, planned)?;
+    let planned = match snapshot.plan(alloc, change) {
+        Ok(planned) => planned,
+        Err(_full) => return Err(AllocError),
+    };
+    shared.settle_kept(rt, alloc, pass, planned)?;
     Ok(())
 }
 

@@ -17,6 +17,10 @@ impl Model for Past {
     ghost also_owns = { λ _. ftrue };
 }
 
+unsafe impl Send for Past {}
+
+unsafe impl Sync for Past {}
+
 impl Past {
     /// No event.
     pub(crate) fn new() -> Past

@@ -4,13 +4,13 @@ use Rattle.live_master.proofs.Calling.{opened}
 use Rattle.live_master.proofs.Openings.{next_found}
 use Rattle.live_master.proofs.turns.open_once.Goals as goal
 
-pub open-order-requires-clause-next : goal.open-order-requires-clause-next
-open-order-requires-clause-next c =
+pub open_all-requires-clause-next : goal.open_all-requires-clause-next
+open_all-requires-clause-next c =
     let same = next_found _ _ _ c.requires.dispatcher c.in-Ok.ensures.own in
-    rw (c.reserve.ensures.history, c.value_mut-desk.ensures.value) (subst (λ n. n < 2 ^ 41) (sym same) c.requires.cycles)
+    rw c.value_mut-desk.ensures.value (subst (λ n. n < 2 ^ 41) (sym same) c.requires.cycles)
 
-pub returns-in-Ok-reserve-clause-opened : goal.returns-in-Ok-reserve-clause-opened
-returns-in-Ok-reserve-clause-opened c =
+pub returns-in-Ok-open_all-clause-opened : goal.returns-in-Ok-open_all-clause-opened
+returns-in-Ok-open_all-clause-opened c =
     opened _ _ _ _ c.in-Ok.held.value.master.history c.in-Ok.ensures.begins (search rules) (search rules) c.requires.dispatcher c.requires.standing.facts c.in-Ok.ensures.own
 
 pub returns-in-Err-clause-facts : goal.returns-in-Err-clause-facts

@@ -2,7 +2,6 @@ use Rattle.std.proofs.Common.{rules, ◌≡◌, ◌<◌, ◌≤◌, ◌^◌, len
 use Rattle.turn_lock.specs.Passes.{knowing, refused}
 use Rattle.requirement_table.specs.declared.entries.Placed.{Placed}
 use Rattle.master_core.specs.declared.event.Event.{Event}
-use Rattle.master_core.specs.History.{placed_of}
 use Rattle.live_master.proofs.Calling.{opened_within}
 use Rattle.live_master.proofs.Openings.{next_found}
 use Rattle.live_master.proofs.Rooms.{short}
@@ -19,9 +18,10 @@ open-order-requires-clause-next c =
 
 pub returns-in-Ok-reserve-clause-within : goal.returns-in-Ok-reserve-clause-within
 returns-in-Ok-reserve-clause-within c =
-    let few : length (placed_of c.value_mut-desk.result.now.master.history) ≤ c.args.entries =
+    let few : length c.value_mut-desk.result.now.master.placed ≤ c.args.entries =
     subst (λ (ps : List Placed). length ps ≤ c.args.entries) c.placed-needed.ensures.list (omega arith) in
-    opened_within _ _ _ _ c.args.entries c.in-Ok.held.value.master.history c.in-Ok.ensures.begins (search rules) (search rules)
+    opened_within _ _ _ _ c.args.entries c.in-Ok.held.value.master.placed c.in-Ok.held.value.master.history c.in-Ok.ensures.begins
+    (search rules) (search rules) (search rules) (search rules)
     (rw c.value_mut-desk.ensures.value at few) c.requires.dispatcher c.requires.standing.facts c.in-Ok.ensures.own
 
 pub returns-in-Err-clause-facts : goal.returns-in-Err-clause-facts

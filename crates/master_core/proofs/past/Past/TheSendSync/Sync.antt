@@ -1,0 +1,6 @@
+use denote.Param.Send.{IsSync, part_keyless}
+use Rattle.master_core.specs.contracts.past.Past.{the_row}
+use Rattle.master_core.proofs.past.Past.TheSendSync.Send.{send}
+
+pub sync : IsSync the_row
+sync = record { shared = λ d b o κ q. part_keyless the_row send q d b o }
