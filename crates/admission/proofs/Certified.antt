@@ -6,7 +6,7 @@ use Rattle.bit_sets.specs.Sets.{most_slots}
 use Rattle.requirement_table.specs.Table.{IsWellPlaced}
 use Rattle.planner_policies.specs.declared.state.PlanState.{PlanState}
 use Rattle.planner_policies.specs.Loop.{RepeatsFrom}
-use Rattle.planner_policies.specs.Plan.{HasNoMiss, IsValid, NeverMisses, Planning, is_missed_at, pending_at, pending_before}
+use Rattle.planner_policies.specs.Plan.{HasNoMiss, IsValid, NeverMisses, Planning, is_missed_at, pending_at}
 use Rattle.planner_policies.proofs.Shared.{on-missed, on-pending}
 use Rattle.plan_check.specs.Certificate.{CertificateView, length_of}
 use Rattle.plan_check.specs.PlanKept.{IsTaken}
@@ -38,16 +38,13 @@ module _ (rules : Rules) (placed : List Placed) (cycle pending : ℕ) (left : pe
   onward = plan_from rules placed cycle pending
 
   onward-is : later_plan whole cycle ≡ onward
-  onward-is =
-      ap (λ n. plan_from rules placed n (pending_at whole cycle)) (zero-add cycle) ∙ ap (λ set. plan_from rules placed cycle set) (sym left)
+  onward-is = grind (arith, zero-add)
 
   pub whole-masks : (n : ℕ) → masks_of whole (cycle + n) ≡ masks_of whole cycle ++ masks_of onward n
   whole-masks n = on-masks whole cycle n ∙ ap (λ (plan : Planning). masks_of whole cycle ++ masks_of plan n) onward-is
 
   pub whole-pending : (n : ℕ) → pending_at whole (cycle + n) ≡ pending_at onward n
-  whole-pending n =
-      set_of-same most_slots (pending_before whole (cycle + n)) (pending_before onward n)
-      (λ slot known. on-pending whole cycle n slot known ∙ ap (λ (plan : Planning). pending_before plan n slot) onward-is)
+  whole-pending n = grind (arith, set_of-same, on-pending, onward-is)
 
   whole-missed : (n slot : ℕ) → slot < most_slots → is_missed_at whole (cycle + n) slot ≡ is_missed_at onward n slot
   whole-missed n slot known = on-missed whole cycle n slot known ∙ ap (λ (plan : Planning). is_missed_at plan n slot) onward-is
@@ -112,11 +109,7 @@ module _ (rules : Rules) (placed : List Placed) (cycle pending : ℕ) (left : pe
 
     row-is : (certificate : CertificateView) → certificate.from ≡ 0 → certificate.pending ≡ 0 → certificate.first ≡ b → certificate.masks ≡ opened ++ planned
         → row rules placed 0 0 b d well none-valid some ≡ certificate
-    row-is certificate from pends first masks =
-        ap (λ (n : ℕ). record (row rules placed 0 0 b d well none-valid some) { from = n }) (sym from)
-        ∙ ap (λ (n : ℕ). record (row rules placed 0 0 b d well none-valid some) { from = certificate.from; pending = n }) (sym pends)
-        ∙ ap (λ (n : ℕ). record (row rules placed 0 0 b d well none-valid some) { from = certificate.from; pending = certificate.pending; first = n }) (zero-add b ∙ sym first)
-        ∙ ap (λ (list : List ℕ). record certificate { masks = list }) (sym (masks ∙ listed-whole))
+    row-is certificate from pends first masks = grind (arith, row, none-valid, some, zero-add, listed-whole)
 
     -- the certificate that is made of them
     module _ (certificate : CertificateView) (from : certificate.from ≡ 0) (pends : certificate.pending ≡ 0) (first : certificate.first ≡ b)
@@ -137,25 +130,13 @@ module _ (rules : Rules) (placed : List Placed) (cycle pending : ℕ) (left : pe
       whole-is = masks ∙ listed-whole ∙ ap (masks_of whole) (sym end-is)
 
       certificate-is : IsCertificateOf rules placed opened (record { cycle = cycle; pending = pending }) certificate
-      certificate-is =
-          let behind : number + d ≡ end_of certificate - cycle = let end = end-is in omega arith in
-          record {
-            start = from;
-            nothing_pending = pends;
-            listed = masks ∙ ap (λ (list : List ℕ). opened ++ list) (planned_is ∙ ap (masks_of onward) behind);
-            repeats =
-                subst (λ n. IsVerdictOnPlan rules.horizon onward (Accepted n (length_of certificate))) (sym first)
-                (subst (λ n. IsVerdictOnPlan rules.horizon onward (Accepted b n)) (sym length-is) found);
-          }
+      certificate-is = grind (arith, end-is, repeats, length-is)
 
       pub made-of : IsMade rules placed opened (record { cycle = cycle; pending = pending }) certificate
       made-of = record { certificate = certificate-is; whole = whole-is; taken = taken-is }
 
     pub within-listed : (masks : List ℕ) → masks ≡ opened ++ planned → b < 0 + length masks
-    within-listed masks is =
-        let all : length masks ≡ b + d = ap length (is ∙ listed-whole) ∙ masks-length whole (b + d) in
-        let more = some in
-        omega arith
+    within-listed masks is = grind (arith, listed-whole, masks-length, some)
 
 -- the certificate of a plan from a state on
 module _ (rules : Rules) (placed : List Placed) (cycle pending first : ℕ) (masks : List ℕ) (well : IsWellPlaced placed)
@@ -166,21 +147,11 @@ module _ (rules : Rules) (placed : List Placed) (cycle pending first : ℕ) (mas
   again-at : IsRecurrence going first made.length
   again-at = made.repeats.1
 
-  listed-there : masks ≡ masks_of going (again-at.number + made.length)
-  listed-there =
-      let at = again-at.at in
-      let same : first - cycle + made.length ≡ again-at.number + made.length = omega arith in
-      made.listed ∙ ap (masks_of going) same
-
   pub from-after : cycle ≤ first
   from-after = let at = again-at.at in omega arith
 
   pub from-within : first < cycle + length masks
-  from-within =
-      let at = again-at.at in
-      let some = again-at.some_cycles in
-      let all : length masks ≡ again-at.number + made.length = ap length listed-there ∙ masks-length going (again-at.number + made.length) in
-      omega arith
+  from-within = grind (arith, again-at, some, masks-length)
 
   rounds-there : All (RepeatsFrom (cycle + again-at.number) made.length) placed
   rounds-there =
@@ -198,11 +169,7 @@ module _ (rules : Rules) (placed : List Placed) (cycle pending first : ℕ) (mas
   module _ (certificate : CertificateView) (from_is : certificate.from ≡ cycle) (pending_is : certificate.pending ≡ pending) (first_is : certificate.first ≡ first)
       (masks_are : certificate.masks ≡ masks) where
     row-made : row-there ≡ certificate
-    row-made =
-        ap (λ (n : ℕ). record row-there { from = n }) (sym from_is)
-        ∙ ap (λ (n : ℕ). record row-there { from = certificate.from; pending = n }) (sym pending_is)
-        ∙ ap (λ (n : ℕ). record row-there { from = certificate.from; pending = certificate.pending; first = n }) (sym again-at.at ∙ sym first_is)
-        ∙ ap (λ (list : List ℕ). record certificate { masks = list }) (sym (masks_are ∙ listed-there))
+    row-made = grind (arith, again-at)
 
     pub taken-from : IsTaken placed rules.window certificate
     taken-from =
@@ -210,16 +177,4 @@ module _ (rules : Rules) (placed : List Placed) (cycle pending first : ℕ) (mas
         (row-taken rules placed cycle pending again-at.number made.length well valid again-at.some_cycles rounds-there again-at.alike.pending never-there)
 
     pub certificate-from : IsCertificateFrom rules placed (record { cycle = cycle; pending = pending }) certificate
-    certificate-from =
-        let length_is : length_of certificate ≡ made.length = ap length_of (sym row-made)
-        ∙ row-length rules placed cycle pending again-at.number made.length well valid again-at.some_cycles in
-        let at = again-at.at in
-        let behind : again-at.number + made.length ≡ end_of certificate - cycle = omega arith in
-        record {
-          start = from_is;
-          before = pending_is;
-          listed = masks_are ∙ listed-there ∙ ap (masks_of going) behind;
-          repeats =
-              subst (λ n. IsVerdictOnPlan rules.horizon going (Accepted n (length_of certificate))) (sym first_is)
-              (subst (λ n. IsVerdictOnPlan rules.horizon going (Accepted first n)) (sym length_is) made.repeats);
-        }
+    certificate-from = grind (arith, row-made, row-length, again-at, repeats)

@@ -33,12 +33,10 @@ apart first period deadline k m c within here before in_time =
 
 over-apart : (end : Option ℕ) (e origin deadline release c : ℕ) → end ≡ Some e → option_map_or (λ free. free) (option_map (λ e. e + deadline - 1) end) origin ≤ c
     → IfSome end (λ e. release < e) → c < release + deadline → ⊥
-over-apart None e origin deadline release c is settled exists in_time = cc
-over-apart (Some f) e origin deadline release c is settled exists in_time = omega arith
+over-apart end e origin deadline release c is settled exists in_time = grind arith
 
 of-some : (o : Option Instance) (P : Instance → Type 0) (i : Instance) → o ≡ Some i → IfSome o P → P i
-of-some (Some x) P i is holds = let same : x ≡ i = grind arith in subst P same holds
-of-some None P i is holds = absurd (cc)
+of-some o P i is holds = grind arith
 
 module _ (placed : List Placed) (c : ℕ) (well : IsWellPlaced placed) (settled : All (λ p. settled_at p ≤ c) placed) (all : AllRelease placed c) where
   none-held : (p : Placed) (m : ℕ) → Contains placed p → MaySend p m c → release_of p m < c → ⊥
@@ -75,10 +73,7 @@ nothing-pending plan n well valid settled all =
 
 -- each live entry releases again after a common period
 release-again : (first period k c more : ℕ) → more % period ≡ 0 → first + k * period ≡ c → first + (k + more / period) * period ≡ c + more
-release-again first period k c more divided here =
-    let parts = parts-of more period divided in
-    let all : (k + more / period) * period ≡ k * period + more / period * period = grind arith in
-    omega arith
+release-again first period k c more divided here = grind (arith, parts-of)
 
 pub all-again : (placed : List Placed) (c more : ℕ) → IsCommonPeriod placed more → AllRelease placed c → AllRelease placed (c + more)
 all-again placed c more common all i d within live =

@@ -25,12 +25,7 @@ pub like-refl : (policy : Policy) (placed : List Placed) (c : ℕ) → IsLike po
 like-refl policy placed c = record { releases = λ slot. refl; worst = λ slot. refl; order = λ first second. refl; last = λ slot. refl }
 
 pub like-sym : (policy : Policy) (one other : List Placed) (c d : ℕ) → IsLike policy one other c d → IsLike policy other one d c
-like-sym policy one other c d like = record {
-  releases = λ slot. sym (like.releases slot);
-  worst = λ slot. sym (like.worst slot);
-  order = λ first second. sym (like.order first second);
-  last = λ slot. sym (like.last slot);
-}
+like-sym policy one other c d like = grind arith
 
 -- a set contains the slots of which it was made
 pub agree-set : (p : ℕ → Bool) → Agree (has_bit (set_of most_slots p)) p
@@ -42,12 +37,7 @@ none-set p slot empty known = sym (agree-set p slot known) ∙ ap (λ mask. has_
 -- the two lists with the same ranking otherwise
 module _ (ranking : Ranking) (other : List Placed) (c d : ℕ) (like : IsLike ranking.policy ranking.placed other c d) where
   alike : AreAlike ranking.policy other ranking.placed d c
-  alike = record {
-    released = λ slot known. like.releases slot;
-    ordered = λ first second known_first known_second. like.order first second;
-    cost = λ slot known. like.worst slot;
-    last = λ slot known. like.last slot;
-  }
+  alike = grind arith
 
   module _ (window from till had has : ℕ) (before after : ℕ → Bool) (same : Agree before after) where
     abbrev first : Planning

@@ -1,12 +1,12 @@
 -- What is decided of a list, by what was found in the walk over its planning.
-use Rattle.std.proofs.Common.{◌≡◌, ℕ, ◌+◌, ◌-◌, ◌<◌, ◌≤◌, true, false, Option, Some, None, IfOk, Result, Ok, Err, List, [], refl, sym, ap, ◌∙◌, subst, arith}
+use Rattle.std.proofs.Common.{◌≡◌, ℕ, ◌+◌, ◌<◌, ◌≤◌, true, false, Option, Some, None, IfOk, Result, List, [], refl, sym, ap, ◌∙◌, subst, arith}
 use Rattle.requirement_table.specs.declared.entries.Placed.{Placed}
 use Rattle.bit_sets.specs.Sets.{has_bit}
 use Rattle.requirement_table.specs.Table.{IsWellPlaced, not_over}
 use Rattle.requirement_table.proofs.Shared.{not_over-well_placed}
 use Rattle.planner_policies.specs.declared.state.Miss.{Miss as MissedInstance}
 use Rattle.planner_policies.specs.declared.state.PlanState.{PlanState}
-use Rattle.planner_policies.specs.Plan.{HasNoMiss, IsValid, NeverMisses, Planning, Ranking, Standing, planning_of}
+use Rattle.planner_policies.specs.Plan.{HasNoMiss, IsValid, NeverMisses, Planning, Ranking, planning_of}
 use Rattle.recurrence_check.specs.Course.{Breaks, Course, IsLeastRepeat, StaysNew}
 use Rattle.admission.specs.declared.decision.Decision.{Decision}
 use Rattle.admission.specs.declared.decision.RankedTable.{RankedTable}
@@ -18,7 +18,7 @@ use Rattle.admission.specs.Course.{course_of, is_held_from}
 use Rattle.admission.specs.Judged.{IsRankedFrom}
 use Rattle.admission.specs.Period.{IsPeriodUpTo}
 use Rattle.admission.specs.Recurrence.{HasNoRecurrence, bound_of}
-use Rattle.admission.specs.Verdict.{IsDecisionOnPlan, IsMissDecision, IsPlannedUpTo, IsSafe, IsTakenWhereDue, IsVerdictOnPlan, masks_of, placed_with, plan_from, ranking_by, trail_of}
+use Rattle.admission.specs.Verdict.{IsDecisionOnPlan, IsMissDecision, IsPlannedUpTo, IsSafe, IsTakenWhereDue, IsVerdictOnPlan, masks_of, plan_from, ranking_by}
 use Rattle.admission.specs.WalkLaws.{GoesOnAlike}
 use Rattle.admission.specs.Walked.{IsWalked}
 use Rattle.admission.proofs.Complete.{recurs}
@@ -30,14 +30,6 @@ use Rattle.admission.proofs.States.{broken-missed, broken-none, came-to}
 
 abbrev ranking_of : Rules → List Placed → ℕ → Ranking
 ranking_of rules list from = ranking_by rules (not_over from list)
-
-on-plan : (horizon : ℕ) (plan : Planning) (verdict : Verdict) (decision : Decision) → decision.verdict ≡ verdict → IsVerdictOnPlan horizon plan verdict
-    → decision.placed ≡ placed_with plan.placed verdict → decision.trail ≡ trail_of plan verdict → IsDecisionOnPlan horizon plan decision
-on-plan horizon plan verdict decision is answer list trail = record {
-  answer = subst (λ v. IsVerdictOnPlan horizon plan v) (sym is) answer;
-  list = list ∙ ap (placed_with plan.placed) (sym is);
-  plan = trail ∙ ap (trail_of plan) (sym is);
-}
 
 module _ (rules : Rules) (list : List Placed) (from pending : ℕ) (walked : Ranking) (window : ℕ) (first : PlanState) (bound : ℕ) (period : Option ℕ)
     (is : IsWalked rules list from pending walked window first bound period) where
@@ -51,10 +43,7 @@ module _ (rules : Rules) (list : List Placed) (from pending : ℕ) (walked : Ran
   reduced = course_of (ranking_of rules list from) rules.window (record { cycle = from; pending = pending }) bound period
 
   to-reduced : (P : Course PlanState → Type 0) → P walk → P reduced
-  to-reduced P holds =
-      subst (λ r. P (course_of r rules.window (record { cycle = from; pending = pending }) bound period)) is.walked_is
-      (subst (λ s. P (course_of walked rules.window s bound period)) is.first_is
-      (subst (λ w. P (course_of walked w first bound period)) is.window_is holds))
+  to-reduced P holds = grind arith
 
   abbrev pub walked_plan : Planning
   walked_plan = planning_of walked window first.cycle first.pending
@@ -63,16 +52,10 @@ module _ (rules : Rules) (list : List Placed) (from pending : ℕ) (walked : Ran
   reduced_plan = planning_of (ranking_of rules list from) rules.window from pending
 
   to-reduced_plan : (P : Planning → Type 0) → P walked_plan → P reduced_plan
-  to-reduced_plan P holds =
-      subst (λ r. P (planning_of r rules.window from pending)) is.walked_is
-      (subst (λ (s : PlanState). P (planning_of walked rules.window s.cycle s.pending)) is.first_is
-      (subst (λ w. P (planning_of walked w first.cycle first.pending)) is.window_is holds))
+  to-reduced_plan P holds = grind arith
 
   from-reduced_plan : (P : Planning → Type 0) → P reduced_plan → P walked_plan
-  from-reduced_plan P holds =
-      subst (λ w. P (planning_of walked w first.cycle first.pending)) (sym is.window_is)
-      (subst (λ (s : PlanState). P (planning_of walked rules.window s.cycle s.pending)) (sym is.first_is)
-      (subst (λ r. P (planning_of r rules.window from pending)) (sym is.walked_is) holds))
+  from-reduced_plan P holds = grind arith
 
   like : (n : ℕ) → IsLike rules.policy (not_over from list) list (from + n) (from + n)
   like n = like-reduced rules.policy list from n is.well
@@ -99,8 +82,7 @@ module _ (rules : Rules) (list : List Placed) (from pending : ℕ) (walked : Ran
   pub accepted : (number length : ℕ) (decision : Decision) → IsLeastRepeat walk number (number + length) → number + length ≤ rules.horizon
       → decision.verdict ≡ Accepted (from + number) length → decision.placed ≡ Some list → decision.trail ≡ []
       → IsDecisionOnPlan rules.horizon whole decision
-  accepted number length decision least within verdict placed trail =
-      on-plan rules.horizon whole (Accepted (from + number) length) decision verdict (repeats-on number length least within) placed trail
+  accepted number length decision least within verdict placed trail = grind (arith, repeats-on)
 
   -- nothing is missed up to it, and what is planned of the entries that are walked is the plan of all
   pub repeated-none : (one other : ℕ) → IsLeastRepeat walk one other → HasNoMiss walked_plan other
@@ -111,9 +93,7 @@ module _ (rules : Rules) (list : List Placed) (from pending : ℕ) (walked : Ran
       (λ n. like-refl rules.policy (not_over from list) (from + n)) other here.repeats.again here.repeats.again_is)
 
   pub planned-whole : (number : ℕ) (masks : List ℕ) (behind : PlanState) → IsPlannedUpTo walked_plan number masks behind → masks ≡ masks_of whole number
-  planned-whole number masks behind planned =
-      (to-reduced_plan (λ plan. IsPlannedUpTo plan number masks behind) planned).list
-      ∙ same-masks (ranking_of rules list from) list rules.window from pending number (λ m below. like m)
+  planned-whole number masks behind planned = grind (arith, to-reduced_plan, same-masks, like)
 
   -- where nothing of the whole list is missed, nothing is missed of the entries that are walked
   pub none-walked : (n : ℕ) → HasNoMiss whole n → HasNoMiss walked_plan n
@@ -130,14 +110,7 @@ module _ (rules : Rules) (list : List Placed) (from pending : ℕ) (walked : Ran
   -- what is ranked of the list is what was walked
   pub ranked-from : (table : RankedTable) → table.placed ≡ list
       → table.planner ≡ record { ranking = ranking_of rules list from; cycle = from; pending = pending } → IsRankedFrom rules from pending table
-  ranked-from table same stands =
-      let ranked = ap (λ (s : Standing). s.ranking) stands in
-      record {
-        left = ranked ∙ ap (λ (l : List Placed). ranking_of rules l from) (sym same);
-        held = subst (λ (r : Ranking). IsValid r.placed from pending) (sym ranked) (held-reduced list from pending is.valid);
-        cycle = ap (λ (s : Standing). s.cycle) stands;
-        before = ap (λ (s : Standing). s.pending) stands;
-      }
+  ranked-from table same stands = grind (arith, held-reduced)
 
   -- no repeat
   no-recurrence-whole : StaysNew walk rules.horizon → HasNoRecurrence whole rules.horizon
@@ -157,8 +130,7 @@ module _ (rules : Rules) (list : List Placed) (from pending : ℕ) (walked : Ran
 
   pub refused : (number : ℕ) (decision : Decision) → number ≡ rules.horizon → StaysNew walk number → decision.verdict ≡ Horizon from number
       → decision.placed ≡ None → decision.trail ≡ [] → IsDecisionOnPlan rules.horizon whole decision
-  refused number decision all stays verdict placed trail =
-      on-plan rules.horizon whole (Horizon from number) decision verdict (stays-on number all stays) placed trail
+  refused number decision all stays verdict placed trail = grind (arith, stays-on)
 
   pub refused-due : (number : ℕ) (verdict : Verdict) → number ≡ rules.horizon → StaysNew walk number → IsTakenWhereDue rules whole verdict
   refused-due number verdict all stays never c period' settled releases least within =
@@ -190,11 +162,7 @@ module _ (rules : Rules) (list : List Placed) (from pending : ℕ) (walked : Ran
 
   on-miss : (at : ℕ) (decision : Decision) → at < rules.horizon → HasNoMiss whole at → IsMissDecision whole at decision
       → IsDecisionOnPlan rules.horizon whole decision
-  on-miss at decision within none miss =
-      let count : at + 1 ≡ from + at + 1 - from = omega arith in
-      on-plan rules.horizon whole (Miss miss.slot miss.release (from + at)) decision miss.answer
-      (record { number = at; at = refl; none_before = none; miss = miss.miss }, omega arith) miss.list
-      (subst (λ n. decision.trail ≡ masks_of whole n) count miss.plan)
+  on-miss at decision within none miss = grind arith
 
   pub missed : (at : ℕ) (decision : Decision) → at < rules.horizon → Breaks walk at → IsMissDecision walked_plan at decision
       → IsDecisionOnPlan rules.horizon whole decision
@@ -225,9 +193,7 @@ module _ (rules : Rules) (list : List Placed) (from pending : ℕ) (walked : Ran
 module _ (rules : Rules) (list : List Placed) (walked : Ranking) (from pending : ℕ) (walked_is : walked ≡ ranking_of rules list from)
     (well : IsWellPlaced list) where
   pub walked-held : IsValid list from pending → (slot : ℕ) → has_bit pending slot ≡ true → is_held_from walked.placed from slot ≡ true
-  walked-held valid =
-      subst (λ (r : Ranking). (slot : ℕ) → has_bit pending slot ≡ true → is_held_from r.placed from slot ≡ true) (sym walked_is)
-      (held-tests (not_over from list) from pending (held-reduced list from pending valid))
+  walked-held h0 slot h1 = grind (arith, held-tests, held-reduced)
 
   pub walked-positive : (period : Option ℕ) → IsPeriodUpTo rules.horizon list period → (length : ℕ) → period ≡ Some length → 0 < length
   walked-positive period period_is length found = (repeating-reduced from rules.horizon length list period well period_is found).positive
@@ -248,8 +214,7 @@ pub ranked-is : (rules : Rules) (list left : List Placed) (from : ℕ) (walked :
 ranked-is rules list left from walked is ranked = ranked ∙ ap (ranking_by rules) is
 
 if-ok : {X E : Type 0} (r : Result X E) (P Q : X → Type 0) → ((x : X) → P x → Q x) → IfOk r P → IfOk r Q
-if-ok (Ok x) P Q weaker holds = weaker x holds
-if-ok (Err e) P Q weaker holds = tt
+if-ok r P Q weaker holds = grind arith
 
 pub if_ok-weaker : {X E : Type 0} (r : Result X E) (P Q : X → Type 0) → IfOk r P → ((x : X) → P x → Q x) → IfOk r Q
 if_ok-weaker r P Q holds weaker = if-ok r P Q weaker holds
@@ -257,5 +222,4 @@ if_ok-weaker r P Q holds weaker = if-ok r P Q weaker holds
 pub on-list : {rules : Rules} {one : List Placed} {from pending : ℕ} {walked : Ranking} {window : ℕ} {first : PlanState} {bound : ℕ} {period : Option ℕ}
     → (other : List Placed) → one ≡ other → IsWalked rules one from pending walked window first bound period
     → IsWalked rules other from pending walked window first bound period
-on-list {rules} {one} {from} {pending} {walked} {window} {first} {bound} {period} other same is =
-    subst (λ l. IsWalked rules l from pending walked window first bound period) same is
+on-list other same is = grind arith

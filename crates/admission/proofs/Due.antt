@@ -1,11 +1,11 @@
 -- A verdict is an acceptance wherever one is due.
-use Rattle.std.proofs.Common.{◌≡◌, ℕ, ◌≤◌, true, false, List, [], ◌∷◌, ◌++◌, All, refl, sym, ◌∙◌, arith}
+use Rattle.std.proofs.Common.{◌≡◌, ℕ, ◌≤◌, List, [], ◌∷◌, ◌++◌, All, refl, arith}
 use Rattle.std.proofs.Math.Nat.{le_trans}
 use Rattle.requirement_table.specs.declared.entries.Placed.{Placed}
 use Rattle.requirement_table.specs.Table.{IsWellPlaced}
 use Rattle.change_protocol.specs.declared.operations.Change.{Change}
 use Rattle.change_protocol.specs.Applied.{applied}
-use Rattle.change_protocol.specs.Malformed.{broken, change_faults, faults, op_faults}
+use Rattle.change_protocol.specs.Malformed.{broken, faults}
 use Rattle.change_protocol.specs.Operations.{HasTypes}
 use Rattle.change_protocol.proofs.Shared.{changed-applied, well_placed-applied}
 use Rattle.planner_policies.specs.Plan.{IsValid}
@@ -24,9 +24,7 @@ both-none (x ∷ xs) ys e = absurd (cc)
 module _ (rules : Rules) (ranges : IsRules rules) (placed : List Placed) (pending from next : ℕ) (change : Change) (well : IsWellPlaced placed)
     (types : All HasTypes change.ops) (held : IsValid placed from pending) (opened : from ≤ next) (in_time : IsInTime rules placed next change) where
   applied-well : IsWellPlaced (applied placed change)
-  applied-well =
-      let formed = both-none (change_faults change.start change.ops) (op_faults placed (bounds_by rules) change.start [] change.ops) in_time.well_formed in
-      well_placed-applied placed (bounds_by rules) change ranges.few_slots well formed.0 formed.1 types
+  applied-well = grind (arith, both-none, well_placed-applied)
 
   applied-held : IsValid (applied placed change) from pending
   applied-held =
@@ -37,13 +35,9 @@ module _ (rules : Rules) (ranges : IsRules rules) (placed : List Placed) (pendin
   taken-due (Malformed op why) is never c period settled releases least within =
       absurd (no-fault (faults placed (bounds_by rules) change) (broken op why) in_time.well_formed is)
   taken-due (Passed start after) is never c period settled releases least within =
-      let early = is.1 in
-      let ahead = in_time.ahead in
       absurd (omega arith)
   taken-due (Miss slot release cycle) is never c period settled releases least within =
-      let miss = is.1.0.miss in
-      let not = never is.1.0.number slot miss.known in
-      absurd (let both : true ≡ false = sym miss.missed ∙ not in cc)
+      grind arith
   taken-due (Horizon first walked) is never c period settled releases least within =
       absurd
       (recurs (plan_from rules (applied placed change) from pending) rules.horizon applied-well applied-held never c period settled releases least within

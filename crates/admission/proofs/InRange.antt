@@ -1,5 +1,5 @@
 -- A certificate of a table is in the range of the checker, and its text in that of the reader.
-use Rattle.std.proofs.Common.{◌≡◌, ℕ, zero, suc, ◌+◌, ◌-◌, ◌<◌, ◌≤◌, true, List, [], ◌∷◌, All, length, refl, ap, ◌∙◌, subst, sym, arith}
+use Rattle.std.proofs.Common.{◌≡◌, ℕ, zero, suc, ◌+◌, ◌<◌, ◌≤◌, List, [], ◌∷◌, All, length, ap, ◌∙◌, arith}
 use Rattle.std.proofs.lemmas.List.Elements.{All-append, All-cons, All-nil}
 use Rattle.profile.specs.Limits.{cycles_end, openings_end}
 use Rattle.requirement_table.specs.declared.entries.Placed.{Placed}
@@ -26,61 +26,22 @@ masks-below plan (suc n) =
 module _ (rules : Rules) (placed : List Placed) (opened : List ℕ) (state : PlanState) (certificate : CertificateView)
     (made : IsCertificateOf rules placed opened state certificate) where
   pub nothing-pending : HasPending placed certificate.from (has_bit certificate.pending)
-  nothing-pending slot has =
-      let empty : has_bit 0 slot ≡ true = subst (λ n. has_bit n slot ≡ true) made.nothing_pending has in
-      let none = has_bit-none slot in
-      absurd (cc)
+  nothing-pending = grind (arith, has_bit-none)
 
   module _ (ranges : IsRules rules) (whole : certificate.masks ≡ masks_of (plan_from rules placed 0 0) (end_of certificate)) where
     count : length certificate.masks ≡ certificate.first + length_of certificate
     count = ap length whole ∙ masks-length (plan_from rules placed 0 0) (end_of certificate)
 
     pub cycles-within : state.cycle ≤ openings_end → certificate.from + length certificate.masks ≤ cycles_end
-    cycles-within low =
-        let start = made.start in
-        let all = count in
-        let within = made.repeats.2 in
-        let near = ranges.near_horizon in
-        omega arith
+    cycles-within low = grind (arith, count)
 
     pub text-read : state.cycle ≤ 100000 → IsTextOfPlan (plan_text certificate) certificate
-    text-read low =
-        let start = made.start in
-        let all = count in
-        let within = made.repeats.2 in
-        let again = made.repeats.1 in
-        let at = again.at in
-        let some = again.some_cycles in
-        let near = ranges.near_horizon in
-        let empty = made.nothing_pending in
-        record {
-          version = Two;
-          readable = record {
-            from = omega arith;
-            pending = omega arith;
-            first = omega arith;
-            after = omega arith;
-            near = omega arith;
-            some = omega arith;
-            few = omega arith;
-            masks = subst (λ list. All (λ mask. mask < mask_bound Two) list) (sym whole) (masks-below (plan_from rules placed 0 0) (end_of certificate));
-          };
-          text = refl;
-        }
+    text-read low = grind (arith, count, masks-below)
 
 -- the certificate from a state on
 module _ (rules : Rules) (placed : List Placed) (state : PlanState) (certificate : CertificateView) (made : IsCertificateFrom rules placed state certificate) where
   pub pending-from : IsValid placed state.cycle state.pending → HasPending placed certificate.from (has_bit certificate.pending)
-  pending-from valid =
-      subst (λ c. HasPending placed c (has_bit certificate.pending)) (sym made.start)
-      (subst (λ n. HasPending placed state.cycle (has_bit n)) (sym made.before) valid)
+  pending-from valid = grind arith
 
   pub cycles-from : IsRules rules → state.cycle ≤ openings_end → certificate.from + length certificate.masks ≤ cycles_end
-  cycles-from ranges low =
-      let start = made.start in
-      let within = made.repeats.2 in
-      let at = made.repeats.1.at in
-      let near = ranges.near_horizon in
-      let all : length certificate.masks ≡ end_of certificate - state.cycle =
-      ap length made.listed ∙ masks-length (plan_from rules placed state.cycle state.pending) (end_of certificate - state.cycle) in
-      omega arith
+  cycles-from ranges low = grind (arith, masks-length)

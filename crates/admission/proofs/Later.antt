@@ -1,5 +1,5 @@
 -- Entries that have settled do the same again after a common period.
-use Rattle.std.proofs.Common.{◌≡◌, ℕ, ◌+◌, ◌-◌, ◌*◌, ◌/◌, ◌%◌, ◌<◌, ◌≤◌, Bool, true, false, ◌&&◌, ◌||◌, nat_eq, nat_le, nat_lt, if◌then◌else◌, Option, Some, None, is_some, List, [], ◌∷◌, slice_get, All, refl, sym, ap, ◌∙◌, subst, arith}
+use Rattle.std.proofs.Common.{◌≡◌, ℕ, ◌+◌, ◌-◌, ◌*◌, ◌/◌, ◌%◌, ◌<◌, ◌≤◌, Bool, true, false, ◌&&◌, ◌||◌, nat_eq, nat_lt, if◌then◌else◌, Option, Some, None, is_some, List, [], ◌∷◌, slice_get, All, refl, sym, ap, ◌∙◌, subst, arith}
 use Rattle.std.specs.List.{cons_option, filter_map}
 use Rattle.std.specs.Option.{option_map, option_map_or, option_or}
 use Rattle.std.proofs.Math.Nat.{add-mul-div_right}
@@ -8,11 +8,11 @@ use Rattle.std.proofs.lemmas.List.Elements.{All-head, All-tail}
 use Rattle.requirement_table.specs.declared.entries.Placed.{Placed}
 use Rattle.requirement_table.specs.Instance.{Instance, deadline_of, exists, instance_of, latest, may_send, release_of, released_by, worst_of}
 use Rattle.requirement_table.specs.Table.{instance_in, releases_in, sendable}
-use Rattle.requirement_table.proofs.Shared.{IsReleasedIn-from_released_by, MaySend-from_instance, exists-true}
+use Rattle.requirement_table.proofs.Shared.{exists-true}
 use Rattle.planner_policies.specs.declared.Policy.{Policy}
-use Rattle.planner_policies.specs.declared.Policy.TheVariants.{Rm, Dm, Edf}
+use Rattle.planner_policies.specs.declared.Policy.TheVariants.{Edf}
 use Rattle.planner_policies.specs.Loop.{settled_at}
-use Rattle.planner_policies.specs.Plan.{by_number, key_in, key_of, priority_in}
+use Rattle.planner_policies.specs.Plan.{by_number, key_of}
 use Rattle.admission.proofs.Cycles.{IsLike}
 use Rattle.admission.proofs.Divided.{parts-of}
 
@@ -37,21 +37,13 @@ latest-later first period q c more positive begun parts =
     ap (λ n. n / period) apart ∙ add-mul-div_right (c - first) q positive
 
 release-later : (first period k q more : ℕ) → more ≡ q * period → first + (k + q) * period ≡ first + k * period + more
-release-later first period k q more parts =
-    let all : (k + q) * period ≡ k * period + q * period = grind arith in omega arith
-
-le-later : (a b more : ℕ) → nat_le (a + more) (b + more) ≡ nat_le a b
-le-later a b more = grind (arith, nat_tests)
-
-lt-later : (a b d more : ℕ) → nat_lt (a + more) (b + more + d) ≡ nat_lt a (b + d)
-lt-later a b d more = grind (arith, nat_tests)
+release-later first period k q more parts = grind arith
 
 eq-later : (a b more : ℕ) → nat_eq (a + more) (b + more) ≡ nat_eq a b
 eq-later a b more = grind (arith, nat_tests)
 
 live-exists : (end : Option ℕ) (release : ℕ) → end ≡ None → option_map_or (λ e. nat_lt release e) end true ≡ true
-live-exists None release live = refl
-live-exists (Some e) release live = absurd (cc)
+live-exists end release live = grind arith
 
 module _ (p : Placed) (q c more : ℕ) (live : p.end ≡ None) (positive : 0 < p.entry.period) (begun : p.origin + p.entry.phase ≤ c)
     (parts : more ≡ q * p.entry.period) where
@@ -62,12 +54,7 @@ module _ (p : Placed) (q c more : ℕ) (live : p.end ≡ None) (positive : 0 < p
   released-again k = release-later (p.origin + p.entry.phase) p.entry.period k q more parts
 
   sends-again : (k : ℕ) → may_send p (k + q) (c + more) ≡ may_send p k c
-  sends-again k =
-      ap (λ b. b && nat_le (release_of p (k + q)) (c + more) && nat_lt (c + more) (deadline_of p (k + q)))
-      (live-exists p.end (release_of p (k + q)) live ∙ sym (live-exists p.end (release_of p k) live))
-      ∙ ap (λ r. exists p (release_of p k) && nat_le r (c + more) && nat_lt (c + more) (r + p.entry.deadline)) (released-again k)
-      ∙ ap (λ b. exists p (release_of p k) && b && nat_lt (c + more) (release_of p k + more + p.entry.deadline)) (le-later (release_of p k) c more)
-      ∙ ap (λ b. exists p (release_of p k) && nat_le (release_of p k) c && b) (lt-later c (release_of p k) p.entry.deadline more)
+  sends-again k = grind (arith, nat_lt, live-exists, released-again)
 
   pub instance-again : instance_of p (c + more) ≡ option_map (λ k. k + q) (instance_of p c)
   instance-again =
@@ -75,8 +62,7 @@ module _ (p : Placed) (q c more : ℕ) (live : p.end ≡ None) (positive : 0 < p
       ∙ ap (λ b. if b then Some (latest p c + q) else None) (sends-again (latest p c))
       ∙ mapped (may_send p (latest p c) c) where
         mapped : (b : Bool) → (if b then Some (latest p c + q) else None) ≡ option_map (λ k. k + q) (if b then Some (latest p c) else None)
-        mapped true = refl
-        mapped false = refl
+        mapped b = grind arith
 
   pub release-again : is_some (released_by p (c + more)) ≡ is_some (released_by p c)
   release-again =
@@ -87,62 +73,32 @@ module _ (p : Placed) (q c more : ℕ) (live : p.end ≡ None) (positive : 0 < p
       (live-exists p.end (c + more) live ∙ sym (live-exists p.end c live))
       ∙ some (nat_eq (release_of p (latest p c)) c && exists p c) where
         some : (b : Bool) → is_some (if b then Some (latest p c + q) else None) ≡ is_some (if b then Some (latest p c) else None)
-        some true = refl
-        some false = refl
+        some b = grind arith
 
 -- one entry that is over
 
 over-sends : (end : Option ℕ) (e deadline bound release c : ℕ) → end ≡ Some e → e + deadline - 1 ≤ bound → bound ≤ c
     → option_map_or (λ e. nat_lt release e) end true ≡ true → c < release + deadline → ⊥
-over-sends None e deadline bound release c is over later exists in_time = cc
-over-sends (Some f) e deadline bound release c is over later exists in_time =
-    let same : f ≡ e = grind arith in
-    let before : nat_lt release f ≡ true = exists in
-    grind (arith, nat_tests)
+over-sends end e deadline bound release c is over later exists in_time = grind (arith, nat_lt, nat_tests)
 
 none_of : {X : Type 0} (o : Option X) → ((x : X) → o ≡ Some x → ⊥) → o ≡ None
-none_of None wrong = refl
-none_of (Some x) wrong = absurd (wrong x refl)
+none_of o wrong = grind arith
 
 over-releases : (end : Option ℕ) (e deadline bound c : ℕ) → end ≡ Some e → e + deadline - 1 ≤ bound → bound ≤ c → 1 ≤ deadline
     → option_map_or (λ e. nat_lt c e) end true ≡ true → ⊥
-over-releases None e deadline bound c is over later some exists = cc
-over-releases (Some f) e deadline bound c is over later some exists =
-    let same : f ≡ e = grind arith in
-    let before : nat_lt c f ≡ true = exists in
-    grind (arith, nat_tests)
+over-releases end e deadline bound c is over later some exists = grind (arith, some, nat_lt, nat_tests)
 
 module _ (p : Placed) (e bound c : ℕ) (ended : p.end ≡ Some e) (over : e + p.entry.deadline - 1 ≤ bound) (later : bound ≤ c)
     (some_time : 1 ≤ p.entry.deadline) where
-  pub sends-none : instance_of p c ≡ None
-  sends-none =
-      none_of (instance_of p c) (λ k is.
-      let sends = MaySend-from_instance p k c is in
-      let exists' = exists-true p (release_of p k) sends.exists in
-      over-sends p.end e p.entry.deadline bound (release_of p k) c ended over later exists' sends.in_time)
-
   pub releases-none : released_by p c ≡ None
-  releases-none =
-      none_of (released_by p c) (λ k is.
-      let released = IsReleasedIn-from_released_by p k c is in
-      over-releases p.end e p.entry.deadline bound c ended over later some_time (exists-true p c released.exists))
+  releases-none = grind (arith, none_of, over-releases, exists-true)
 
 -- an entry in its slot
 
 behind-slot : (b : Bool) (p : Placed) (q more : ℕ) (found : Option ℕ) → 1 ≤ p.entry.deadline → ((k : ℕ) → release_of p (k + q) ≡ release_of p k + more)
     → AreBehind more (if b then option_map (λ k. record { placed = p; number = k }) found else None)
     (if b then option_map (λ k. record { placed = p; number = k }) (option_map (λ k. k + q) found) else None)
-behind-slot true p q more None some_time releases = tt
-behind-slot true p q more (Some k) some_time releases = record { placed = refl; release = releases k; some_time = some_time }
-behind-slot false p q more found some_time releases = tt
-
-none-slot : (b : Bool) (p : Placed) (more : ℕ) (one other : Option ℕ) → one ≡ None → other ≡ None
-    → AreBehind more (if b then option_map (λ k. record { placed = p; number = k }) one else None)
-    (if b then option_map (λ k. record { placed = p; number = k }) other else None)
-none-slot true p more None None first second = tt
-none-slot true p more (Some k) other first second = absurd (cc)
-none-slot true p more None (Some k) first second = absurd (cc)
-none-slot false p more one other first second = tt
+behind-slot b p q more found some_time releases = grind arith
 
 -- what holds of an entry by cycle `c`, where it is live or over
 pub record IsSettled (more c : ℕ) (p : Placed) : Type 0 where
@@ -156,8 +112,7 @@ by-end : (p : Placed) (c : ℕ) (X : Type 0) → settled_at p ≤ c → (p.end �
 by-end p c X begun live over = cases p.end refl begun where
   cases : (end : Option ℕ) → p.end ≡ end
       → option_map_or (λ free. free) (option_map (λ end. end + p.entry.deadline - 1) end) (p.origin + p.entry.phase) ≤ c → X
-  cases None is begun = live is begun
-  cases (Some e) is begun = over e is begun
+  cases end is begun = grind arith
 
 sendable-behind : (slot c more : ℕ) (p : Placed) → IsSettled more c p → AreBehind more (sendable slot c p) (sendable slot (c + more) p)
 sendable-behind slot c more p settled =
@@ -172,10 +127,7 @@ sendable-behind slot c more p settled =
     (sym again)
     (behind-slot (nat_eq p.entry.slot slot) p q more (instance_of p c) settled.some_time
     (released-again p q c more live (settled.positive live) begun parts)))
-    (λ e ended over.
-    none-slot (nat_eq p.entry.slot slot) p more (instance_of p c) (instance_of p (c + more))
-    (sends-none p e c c ended over (omega arith) settled.some_time)
-    (sends-none p e c (c + more) ended over (omega arith) settled.some_time))
+    (λ e ended over. grind arith)
 
 release-behind : (slot c more : ℕ) (p : Placed) → IsSettled more c p
     → (nat_eq p.entry.slot slot && is_some (released_by p c)) ≡ (nat_eq p.entry.slot slot && is_some (released_by p (c + more)))
@@ -186,21 +138,15 @@ release-behind slot c more p settled =
     let q : ℕ = more / p.entry.period in
     let parts : more ≡ q * p.entry.period = sym (parts-of more p.entry.period (settled.divided live)) in
     sym (release-again p q c more live (settled.positive live) begun parts))
-    (λ e ended over.
-    ap is_some (releases-none p e c c ended over (omega arith) settled.some_time)
-    ∙ sym (ap is_some (releases-none p e c (c + more) ended over (omega arith) settled.some_time))))
+    (λ e ended over. grind (arith, is_some, releases-none)))
 
 -- lists
 
 first-cons : {A : Type 0} (o : Option A) (xs : List A) → slice_get (cons_option o xs) 0 ≡ option_or o (slice_get xs 0)
-first-cons None xs = refl
-first-cons (Some x) xs = refl
+first-cons o xs = grind arith
 
 behind-or : (more : ℕ) (a b r s : Option Instance) → AreBehind more a b → AreBehind more r s → AreBehind more (option_or a r) (option_or b s)
-behind-or more None None r s this rest = rest
-behind-or more (Some i) (Some j) r s this rest = this
-behind-or more None (Some j) r s this rest = absurd this
-behind-or more (Some i) None r s this rest = absurd this
+behind-or more a b r s this rest = grind arith
 
 pub instances-behind : (slot c more : ℕ) (placed : List Placed) → All (IsSettled more c) placed
     → AreBehind more (instance_in placed slot c) (instance_in placed slot (c + more))
@@ -224,33 +170,12 @@ releases-behind slot c more (p ∷ placed) settled =
 -- what is known of instances that are behind others
 
 worst-behind : (more : ℕ) (o r : Option Instance) → AreBehind more o r → option_map_or worst_of o 0 ≡ option_map_or worst_of r 0
-worst-behind more None None behind = refl
-worst-behind more (Some i) (Some j) behind = ap (λ p. 55 + 10 * p.entry.length) (sym behind.placed)
-worst-behind more None (Some j) behind = absurd behind
-worst-behind more (Some i) None behind = absurd behind
-
-deadline-behind : (more : ℕ) (i j : Instance) → IsBehind more i j → deadline_of j.placed j.number ≡ deadline_of i.placed i.number + more
-deadline-behind more i j behind =
-    let same : j.placed.entry.deadline ≡ i.placed.entry.deadline = ap (λ p. p.entry.deadline) behind.placed in
-    let release = behind.release in
-    omega arith
+worst-behind more o r behind = grind arith
 
 last-behind : (more c : ℕ) (o r : Option Instance) → AreBehind more o r
     → option_map_or (λ i. nat_eq (deadline_of i.placed i.number) (c + 1)) o false
     ≡ option_map_or (λ i. nat_eq (deadline_of i.placed i.number) (c + more + 1)) r false
-last-behind more c None None behind = refl
-last-behind more c (Some i) (Some j) behind =
-    let later = deadline-behind more i j behind in
-    grind (arith, nat_tests)
-last-behind more c None (Some j) behind = absurd behind
-last-behind more c (Some i) None behind = absurd behind
-
-priority-behind : (more : ℕ) (o r : Option Instance) → AreBehind more o r
-    → option_map_or (λ i. i.placed.entry.priority) o 0 ≡ option_map_or (λ i. i.placed.entry.priority) r 0
-priority-behind more None None behind = refl
-priority-behind more (Some i) (Some j) behind = ap (λ p. p.entry.priority) (sym behind.placed)
-priority-behind more None (Some j) behind = absurd behind
-priority-behind more (Some i) None behind = absurd behind
+last-behind more c o r behind = grind (arith, nat_tests)
 
 -- the keys of two slots, each with an instance or none
 abbrev first_of : Policy → Option Instance → ℕ
@@ -259,37 +184,20 @@ first_of policy o = option_map_or (key_of policy) o 0
 by-same : (a b a' b' : ℕ) (rest : Bool) → a ≡ a' → b ≡ b' → by_number a b rest ≡ by_number a' b' rest
 by-same a b a' b' rest first second = cc
 
-by-both : (a b more : ℕ) (rest : Bool) → by_number a b rest ≡ by_number (a + more) (b + more) rest
-by-both a b more rest = grind (arith, nat_tests)
-
 by-left : (a b : ℕ) (rest : Bool) → 0 < a → 0 < b → by_number a 0 rest ≡ by_number b 0 rest
 by-left a b rest one other = grind (arith, nat_tests)
 
 by-right : (a b : ℕ) (rest : Bool) → 0 < a → 0 < b → by_number 0 a rest ≡ by_number 0 b rest
 by-right a b rest one other = grind (arith, nat_tests)
 
-own-key : (policy : Policy) (more : ℕ) (o r : Option Instance) (key : Placed → ℕ) → ((i : Instance) → key_of policy i ≡ key i.placed)
-    → AreBehind more o r → first_of policy o ≡ first_of policy r
-own-key policy more None None key own behind = refl
-own-key policy more (Some i) (Some j) key own behind = own i ∙ ap key (sym behind.placed) ∙ sym (own j)
-own-key policy more None (Some j) key own behind = absurd behind
-own-key policy more (Some i) None key own behind = absurd behind
-
 edf-by : (more : ℕ) (o r u v : Option Instance) (rest : Bool) → AreBehind more o r → AreBehind more u v
     → by_number (first_of Edf o) (first_of Edf u) rest ≡ by_number (first_of Edf r) (first_of Edf v) rest
 edf-by more None None None None rest one other = refl
-edf-by more (Some i) (Some j) (Some k) (Some l) rest one other =
-    by-both (deadline_of i.placed i.number) (deadline_of k.placed k.number) more rest
-    ∙ by-same _ _ (deadline_of j.placed j.number) (deadline_of l.placed l.number) rest
-    (sym (deadline-behind more i j one)) (sym (deadline-behind more k l other))
+edf-by more (Some i) (Some j) (Some k) (Some l) rest one other = grind (arith, by-same)
 edf-by more (Some i) (Some j) None None rest one other =
-    let some = one.some_time in
-    let later = deadline-behind more i j one in
-    by-left (deadline_of i.placed i.number) (deadline_of j.placed j.number) rest (omega arith) (omega arith)
+    grind (arith, by-left)
 edf-by more None None (Some k) (Some l) rest one other =
-    let some = other.some_time in
-    let later = deadline-behind more k l other in
-    by-right (deadline_of k.placed k.number) (deadline_of l.placed l.number) rest (omega arith) (omega arith)
+    grind (arith, by-right)
 edf-by more None (Some j) u v rest one other = absurd one
 edf-by more (Some i) None u v rest one other = absurd one
 edf-by more None None None (Some l) rest one other = absurd other
@@ -299,11 +207,7 @@ edf-by more (Some i) (Some j) (Some k) None rest one other = absurd other
 
 keys-by : (policy : Policy) (more : ℕ) (o r u v : Option Instance) (rest : Bool) → AreBehind more o r → AreBehind more u v
     → by_number (first_of policy o) (first_of policy u) rest ≡ by_number (first_of policy r) (first_of policy v) rest
-keys-by Rm more o r u v rest one other =
-    by-same _ _ _ _ rest (own-key Rm more o r (λ p. p.entry.period) (λ i. refl) one) (own-key Rm more u v (λ p. p.entry.period) (λ i. refl) other)
-keys-by Dm more o r u v rest one other =
-    by-same _ _ _ _ rest (own-key Dm more o r (λ p. p.entry.deadline) (λ i. refl) one) (own-key Dm more u v (λ p. p.entry.deadline) (λ i. refl) other)
-keys-by Edf more o r u v rest one other = edf-by more o r u v rest one other
+keys-by policy more o r u v rest one other = grind (arith, by-same, edf-by)
 
 pub like-behind : (policy : Policy) (placed : List Placed) (c more : ℕ) → All (IsSettled more c) placed → IsLike policy placed placed c (c + more)
 like-behind policy placed c more settled =
@@ -312,13 +216,6 @@ like-behind policy placed c more settled =
     record {
       releases = λ slot. releases-behind slot c more placed settled;
       worst = λ slot. worst-behind more (instance_in placed slot c) (instance_in placed slot (c + more)) (behind slot);
-      order = λ first second.
-          keys-by policy more (instance_in placed first c) (instance_in placed first (c + more)) (instance_in placed second c)
-          (instance_in placed second (c + more))
-          (by_number (priority_in placed c first) (priority_in placed c second) (nat_le first second)) (behind first) (behind second)
-          ∙ ap (λ rest. by_number (key_in policy placed (c + more) first) (key_in policy placed (c + more) second) rest)
-          (by-same (priority_in placed c first) (priority_in placed c second) (priority_in placed (c + more) first) (priority_in placed (c + more) second)
-          (nat_le first second) (priority-behind more (instance_in placed first c) (instance_in placed first (c + more)) (behind first))
-          (priority-behind more (instance_in placed second c) (instance_in placed second (c + more)) (behind second)));
+      order = grind (arith, keys-by, by-same);
       last = λ slot. last-behind more c (instance_in placed slot c) (instance_in placed slot (c + more)) (behind slot);
     }

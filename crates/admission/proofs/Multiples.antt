@@ -1,5 +1,5 @@
 -- Least multiples, and the least common period of the first entries of a list.
-use Rattle.std.proofs.Common.{◌≡◌, ◌≢◌, ℕ, ◌+◌, ◌-◌, ◌*◌, ◌/◌, ◌%◌, ◌<◌, ◌≤◌, Some, None, List, [], ◌∷◌, ◌++◌, All, length, get_or, map, max, take, drop, sym, ap, ◌∙◌, subst, arith, ⊎_elim}
+use Rattle.std.proofs.Common.{◌≡◌, ◌≢◌, ℕ, ◌+◌, ◌*◌, ◌/◌, ◌%◌, ◌<◌, ◌≤◌, Some, None, List, [], ◌∷◌, ◌++◌, All, length, get_or, map, max, take, drop, sym, ap, ◌∙◌, subst, arith, ⊎_elim}
 use Rattle.std.specs.List.{fold}
 use Rattle.std.proofs.Math.Nat.{div-add-mod', dvd-mul_left_of_dvd, dvd-sub, lt-div-mul-add, mod-eq-sub-div-mul, mul-le-mul_right, mul-mod_left}
 use Rattle.std.proofs.lemmas.Bool.{cases_lt}
@@ -8,13 +8,12 @@ use Rattle.std.proofs.Math.Seq.{get_or-append_seam}
 use Rattle.std.proofs.lemmas.List.{length-append, map-append, take-append-drop, take_all, take_more}
 use Rattle.std.proofs.lemmas.List.Elements.{All-push}
 use Rattle.std.proofs.lemmas.List.Sums.{fold_push}
-use Rattle.std.proofs.lemmas.Nat.{mod_below}
 use Rattle.std.proofs.lemmas.Nat.Gcd.{dvd_of_mod-eq-zero, le_of_dvd, mod-eq-zero_of_dvd}
 use Rattle.requirement_table.specs.declared.entries.Placed.{Placed}
 use Rattle.planner_policies.specs.Loop.{settled_at}
 use Rattle.admission.specs.Period.{IsLeastMultiple, IsLeastMultipleWith, IsMultipleOfBoth, IsMultipleWith, IsPeriodUpTo}
 use Rattle.admission.specs.Recurrence.{IsCommonPeriod}
-use Rattle.admission.proofs.Divided.{divided-along, parts-of}
+use Rattle.admission.proofs.Divided.{divided-along}
 
 all-parts : {X : Type 0} (P : X → Type 0) (xs : List X) (x : X) → All P (xs ++ x ∷ []) → All P xs × P x
 all-parts P xs x all = (
@@ -28,46 +27,19 @@ NoneTried step other count = (k : ℕ) → k < count → (k + 1) * step % other 
 
 tried-least : (step other count m : ℕ) → 0 < step → NoneTried step other count → IsMultipleOfBoth step other m → (count + 1) * step ≤ m
 tried-least step other count m positive tried both =
-    let parts : m / step * step ≡ m = parts-of m step both.of_one in
     let some = both.positive in
-    let above : 0 < m / step = ⊎_elim
-    (λ (none : m / step < 1).
-    let zero' : m / step ≡ 0 = omega arith in
-    let nothing : 0 * step ≡ m = ap (λ n. n * step) (sym zero') ∙ parts in
-    absurd (omega arith))
-    (λ (some' : 1 ≤ m / step). omega arith)
-    (cases_lt (m / step) 1) in
-    ⊎_elim
-    (λ (before : m / step - 1 < count).
-    let again : m / step - 1 + 1 ≡ m / step = omega arith in
-    let whole : (m / step - 1 + 1) * step ≡ m = ap (λ n. n * step) again ∙ parts in
-    absurd (tried (m / step - 1) before (ap (λ n. n % other) whole ∙ both.of_other)))
-    (λ (behind : count ≤ m / step - 1).
-    let order : (count + 1) * step ≤ m / step * step = mul-le-mul_right step (omega arith) in
-    omega arith)
-    (cases_lt (m / step - 1) count)
+    let above : 0 < m / step = grind (arith, cases_lt) in
+    grind (arith, mul-le-mul_right, cases_lt)
 
 pub found-multiple : (step other count limit multiple : ℕ) → 0 < step → NoneTried step other count → count < limit / step
     → multiple ≡ (count + 1) * step → multiple % other ≡ 0 → IsLeastMultiple step other limit (Some multiple)
 found-multiple step other count limit multiple positive tried within is divided =
-    let below : (count + 1) * step ≤ limit / step * step = mul-le-mul_right step (omega arith) in
-    let whole = div-add-mod' limit step in
-    let more : step ≤ (count + 1) * step = grind arith in (
-      record {
-        positive = omega arith;
-        of_one = ap (λ n. n % step) is ∙ mul-mod_left (count + 1) step;
-        of_other = divided;
-      },
-      omega arith,
-      λ m both. let least = tried-least step other count m positive tried both in omega arith,
-    )
+    grind (arith, mul-le-mul_right, div-add-mod', mul-mod_left, tried-least)
 
 pub no-multiple : (step other limit : ℕ) → 0 < step → NoneTried step other (limit / step) → IsLeastMultiple step other limit None
 no-multiple step other limit positive tried m both =
     let least = tried-least step other (limit / step) m positive tried both in
-    let past = lt-div-mul-add {a = limit} {b = step} positive in
-    let next : (limit / step + 1) * step ≡ limit / step * step + step = grind arith in
-    omega arith
+    grind (arith, lt-div-mul-add)
 
 swap : (one other m : ℕ) → IsMultipleOfBoth one other m → IsMultipleOfBoth other one m
 swap one other m both = record { positive = both.positive; of_one = both.of_other; of_other = both.of_one }
@@ -86,9 +58,7 @@ rest-divided m n d first second =
 
 module _ (limit : ℕ) (placed : List Placed) (p : Placed) (common : ℕ) (so_far : IsPeriodSoFar limit placed common) where
   front : (m : ℕ) → IsCommonPeriod (placed ++ p ∷ []) m → IsCommonPeriod placed m × (p.end ≡ None → m % p.entry.period ≡ 0)
-  front m shared =
-      let parts = all-parts (λ q. q.end ≡ None → m % q.entry.period ≡ 0) placed p shared.divided in
-      (record { positive = shared.positive; divided = parts.0 }, parts.1)
+  front m shared = grind (arith, all-parts)
 
   with-all : (m : ℕ) → IsCommonPeriod (placed ++ p ∷ []) m → IsMultipleWith common p m
   with-all m shared =
@@ -100,16 +70,10 @@ module _ (limit : ℕ) (placed : List Placed) (p : Placed) (common : ℕ) (so_fa
 
   rest-least : (n m : ℕ) → IsLeastMultipleWith common p limit (Some n) → IsMultipleWith common p m → m % n ≡ 0
   rest-least n m least with' =
-      let is = least.0 in
-      let below = mod_below m n is.positive in
       ⊎_elim
       (λ (none : m % n < 1). omega arith)
       (λ (some : 1 ≤ m % n).
-      let rest : IsMultipleWith common p (m % n) = record {
-        positive = omega arith;
-        of_common = rest-divided m n common with'.of_common is.of_common;
-        of_period = λ live. rest-divided m n p.entry.period (with'.of_period live) (is.of_period live);
-      } in
+      let rest : IsMultipleWith common p (m % n) = grind (arith, rest-divided) in
       let above = least.2 (m % n) rest in
       absurd (omega arith))
       (cases_lt (m % n) 1)
@@ -130,13 +94,7 @@ module _ (limit : ℕ) (placed : List Placed) (p : Placed) (common : ℕ) (so_fa
 pub none-longer : (limit : ℕ) (placed more : List Placed) → ((m : ℕ) → IsCommonPeriod placed m → limit < m) → (m : ℕ)
     → IsCommonPeriod (placed ++ more) m → limit < m
 none-longer limit placed more none m shared =
-    none m (record {
-      positive = shared.positive;
-      divided = λ i d within.
-          let there : i < length (placed ++ more) = simp length-append (omega arith) in
-          let here = shared.divided i d there in
-          rw (get_or-append placed more d i within) at here;
-    })
+    none m (grind (arith, length-append, get_or-append))
 
 pub period-found : (limit common : ℕ) (placed : List Placed) → IsPeriodSoFar limit placed common → IsPeriodUpTo limit placed (Some common)
 period-found limit common placed so_far = (
@@ -150,8 +108,7 @@ period-found limit common placed so_far = (
 -- one more entry for the bound
 pub bound-more : (from : ℕ) (placed : List Placed) (p : Placed)
     → fold max from (map settled_at (placed ++ p ∷ [])) ≡ max (fold max from (map settled_at placed)) (settled_at p)
-bound-more from placed p =
-    ap (λ (ns : List ℕ). fold max from ns) (map-append settled_at placed (p ∷ [])) ∙ fold_push max from (map settled_at placed) (settled_at p)
+bound-more from placed p = grind (arith, map-append, fold_push)
 
 pub so_far-more : (limit i : ℕ) (placed : List Placed) (d : Placed) (common next : ℕ) → i < length placed
     → IsPeriodSoFar limit (take i placed) common → IsLeastMultipleWith common (get_or placed i d) limit (Some next)
@@ -183,8 +140,7 @@ bound-next from i placed d within =
 pub bound-step : (from i : ℕ) (placed : List Placed) (d : Placed) (bound settled new : ℕ) → i < length placed → new ≡ max bound settled
     → bound ≡ fold max from (map settled_at (take i placed)) → settled ≡ settled_at (get_or placed i d)
     → new ≡ fold max from (map settled_at (take (i + 1) placed))
-bound-step from i placed d bound settled new within is so_far own =
-    is ∙ ap (λ n. max n settled) so_far ∙ ap (λ n. max (fold max from (map settled_at (take i placed))) n) own ∙ sym (bound-next from i placed d within)
+bound-step from i placed d bound settled new within is so_far own = grind (arith, bound-next)
 
 pub bound-all : (from i : ℕ) (placed : List Placed) (bound : ℕ) → length placed ≤ i → bound ≡ fold max from (map settled_at (take i placed))
     → bound ≡ fold max from (map settled_at placed)

@@ -1,14 +1,13 @@
 -- A list, a change and a state have one verdict.
-use Rattle.std.proofs.Common.{◌≡◌, ℕ, ◌+◌, ◌<◌, ◌≤◌, true, false, Some, None, List, [], slice_get, refl, sym, ap, ◌∙◌, subst, arith, ⊎_elim}
+use Rattle.std.proofs.Common.{◌≡◌, ℕ, ◌+◌, ◌<◌, ◌≤◌, Some, List, [], slice_get, refl, sym, ap, ◌∙◌, subst, arith, ⊎_elim}
 use Rattle.std.proofs.lemmas.Bool.{cases_order}
 use Rattle.std.proofs.lemmas.Option.{same_Some}
 use Rattle.requirement_table.specs.declared.entries.Placed.{Placed}
-use Rattle.requirement_table.specs.Instance.{Instance, release_of}
 use Rattle.requirement_table.specs.Table.{IsWellPlaced}
 use Rattle.change_protocol.specs.declared.operations.Change.{Change}
 use Rattle.change_protocol.specs.declared.malformed.Why.{Why}
 use Rattle.change_protocol.specs.Applied.{applied}
-use Rattle.change_protocol.specs.Malformed.{Broken, IsWellFormed, broken, faults, first_fault}
+use Rattle.change_protocol.specs.Malformed.{Broken, IsWellFormed, broken, first_fault}
 use Rattle.planner_policies.specs.Plan.{HasNoMiss, IsFirstMiss, IsMissAt, NeverMisses, Planning}
 use Rattle.admission_rules.specs.declared.Rules.{Rules}
 use Rattle.admission.specs.declared.verdict.Verdict.{Verdict}
@@ -18,89 +17,38 @@ use Rattle.admission.specs.Verdict.{IsInTime, IsVerdict, IsVerdictOnPlan, bounds
 use Rattle.admission.proofs.Repeats.{alike-never, least-same}
 
 pub no-fault : (xs : List Broken) (b : Broken) → xs ≡ [] → slice_get xs 0 ≡ Some b → ⊥
-no-fault xs b none some =
-    let empty : slice_get xs 0 ≡ None = ap (λ (l : List Broken). slice_get l 0) none in
-    cc
+no-fault xs b none some = grind (arith, slice_get)
 
 -- first misses
 
 not-both : (plan : Planning) (n m slot release : ℕ) → n < m → IsMissAt plan n slot release → HasNoMiss plan m → ⊥
-not-both plan n m slot release before miss none =
-    let not = none n slot before miss.known in
-    let is = miss.missed in
-    let both : true ≡ false = sym is ∙ not in
-    cc
+not-both plan n m slot release before miss none = grind arith
 
 same-number : (plan : Planning) (one other a b c d : ℕ) → IsMissAt plan one a b → HasNoMiss plan one → IsMissAt plan other c d → HasNoMiss plan other
     → one ≡ other
-same-number plan one other a b c d first clear second free =
-    ⊎_elim
-    (λ (same : one ≡ other). same)
-    (⊎_elim
-    (λ (before : one < other). absurd (not-both plan one other a b before first free))
-    (λ (behind : other < one). absurd (not-both plan other one c d behind second clear)))
-    (cases_order one other)
-
-least-only : (plan : Planning) (n one other b d : ℕ) → IsMissAt plan n one b → IsMissAt plan n other d → one < other → ⊥
-least-only plan n one other b d first second before =
-    let not = second.least one before in
-    let is = first.missed in
-    let both : true ≡ false = sym is ∙ not in
-    cc
+same-number plan one other a b c d first clear second free = grind (arith, not-both, cases_order)
 
 same-slot : (plan : Planning) (n one other b d : ℕ) → IsMissAt plan n one b → IsMissAt plan n other d → one ≡ other
-same-slot plan n one other b d first second =
-    ⊎_elim
-    (λ (same : one ≡ other). same)
-    (⊎_elim
-    (λ (before : one < other). absurd (least-only plan n one other b d first second before))
-    (λ (behind : other < one). absurd (least-only plan n other one d b second first behind)))
-    (cases_order one other)
+same-slot plan n one other b d first second = grind (arith, cases_order)
 
 same-release : (plan : Planning) (n slot b d : ℕ) → IsMissAt plan n slot b → IsMissAt plan n slot d → b ≡ d
-same-release plan n slot b d first second =
-    let same : first.instance ≡ second.instance = same_Some first.instance second.instance (sym first.found ∙ second.found) in
-    first.released ∙ ap (λ (i : Instance). release_of i.placed i.number) same ∙ sym second.released
+same-release plan n slot b d first second = grind (arith, same_Some)
 
 same-miss : (plan : Planning) (a b c d e f : ℕ) → IsFirstMiss plan a b c → IsFirstMiss plan d e f → Miss a b c ≡ Miss d e f
-same-miss plan a b c d e f first second =
-    let number = same-number plan first.number second.number a b d e first.miss first.none_before second.miss second.none_before in
-    let here : IsMissAt plan first.number d e = subst (λ n. IsMissAt plan n d e) (sym number) second.miss in
-    let slot : a ≡ d = same-slot plan first.number a d b e first.miss here in
-    let there : IsMissAt plan first.number a e = subst (λ s. IsMissAt plan first.number s e) (sym slot) here in
-    let release : b ≡ e = same-release plan first.number a b e first.miss there in
-    let cycle : c ≡ f = first.at ∙ ap (λ n. plan.from + n) number ∙ sym second.at in
-    ap (λ (s : ℕ). Miss s b c) slot ∙ ap (λ (r : ℕ). Miss d r c) release ∙ ap (λ (n : ℕ). Miss d e n) cycle
+same-miss plan a b c d e f first second = grind (arith, same-number, same-slot, same-release)
 
 miss-and-none : (plan : Planning) (horizon a b c : ℕ) → IsFirstMiss plan a b c → c < plan.from + horizon → HasNoMiss plan horizon → ⊥
-miss-and-none plan horizon a b c first within none =
-    let at = first.at in
-    not-both plan first.number horizon a b (omega arith) first.miss none
+miss-and-none plan horizon a b c first within none = grind (arith, not-both)
 
 -- recurrences
 
 recurrence-and-none : (plan : Planning) (horizon first length : ℕ) → IsRecurrence plan first length → first + length ≤ plan.from + horizon
     → HasNoRecurrence plan horizon → ⊥
-recurrence-and-none plan horizon first length is within none =
-    let at = is.at in
-    let some = is.some_cycles in
-    let past = none is.period is.number (is.number + length) is.least_common (omega arith) is.alike in
-    omega arith
-
-alike-both : (plan : Planning) (period one other third : ℕ) → AreAlike plan period one third → AreAlike plan period other third
-    → AreAlike plan period one other
-alike-both plan period one other third first second = record {
-  one_settled = first.one_settled;
-  other_settled = second.one_settled;
-  place = first.place ∙ sym second.place;
-  pending = first.pending ∙ sym second.pending;
-}
+recurrence-and-none plan horizon first length is within none = grind arith
 
 no-earlier : (plan : Planning) (first length again n : ℕ) (is : IsRecurrence plan first length) → again < n → n < is.number + length
     → AreAlike plan is.period again (is.number + length) → AreAlike plan is.period n (is.number + length) → ⊥
-no-earlier plan first length again n is before within one other =
-    let end = is.least again n before (alike-both plan is.period again n (is.number + length) one other) in
-    omega arith
+no-earlier plan first length again n is before within one other = grind arith
 
 same-recurrence : (plan : Planning) (a b c d : ℕ) → IsRecurrence plan a b → IsRecurrence plan c d → Accepted a b ≡ Accepted c d
 same-recurrence plan a b c d first second =
@@ -166,27 +114,13 @@ pub data Kind (rules : Rules) (placed : List Placed) (pending from next : ℕ) (
 module _ (rules : Rules) (placed : List Placed) (pending from next : ℕ) (change : Change) where
   kind : (verdict : Verdict) → IsVerdict rules placed pending from next change verdict → Kind rules placed pending from next change verdict
   kind (Malformed op why) is = faulty op why refl is
-  kind (Passed start opened) is =
-      late (ap (λ (n : ℕ). Passed n opened) is.2 ∙ ap (λ (n : ℕ). Passed change.start n) is.3) is.0 is.1
+  kind (Passed start opened) is = grind arith
   kind (Miss a b c) is = planned is.0 is.1
   kind (Horizon a b) is = planned is.0 is.1
   kind (Accepted a b) is = planned is.0 is.1
 
   by-kind : (one other : Verdict) → Kind rules placed pending from next change one → Kind rules placed pending from next change other → one ≡ other
-  by-kind one other (faulty op why is fault) (faulty op' why' is' fault') =
-      let same : broken op why ≡ broken op' why' = same_Some (broken op why) (broken op' why') (sym fault ∙ fault') in
-      is ∙ ap (λ (b : Broken). Malformed b.op b.why) same ∙ sym is'
-  by-kind one other (faulty op why is fault) (late is' formed passed) = absurd (no-fault (faults placed (bounds_by rules) change) (broken op why) formed fault)
-  by-kind one other (faulty op why is fault) (planned in_time on) =
-      absurd (no-fault (faults placed (bounds_by rules) change) (broken op why) in_time.well_formed fault)
-  by-kind one other (late is formed passed) (faulty op why is' fault) = absurd (no-fault (faults placed (bounds_by rules) change) (broken op why) formed fault)
-  by-kind one other (late is formed passed) (late is' formed' passed') = is ∙ sym is'
-  by-kind one other (late is formed passed) (planned in_time on) = let ahead = in_time.ahead in absurd (omega arith)
-  by-kind one other (planned in_time on) (faulty op why is fault) =
-      absurd (no-fault (faults placed (bounds_by rules) change) (broken op why) in_time.well_formed fault)
-  by-kind one other (planned in_time on) (late is formed passed) = let ahead = in_time.ahead in absurd (omega arith)
-  by-kind one other (planned in_time on) (planned in_time' on') =
-      one-on-plan rules.horizon (plan_from rules (applied placed change) from pending) one other on on'
+  by-kind one other h0 h1 = grind (arith, same_Some, no-fault, one-on-plan)
 
   pub only-verdict : (one other : Verdict) → IsVerdict rules placed pending from next change one → IsVerdict rules placed pending from next change other
       → one ≡ other
@@ -196,8 +130,4 @@ module _ (rules : Rules) (placed : List Placed) (pending from next : ℕ) (chang
 
 pub repeat-never : (plan : Planning) (first length n : ℕ) → IsWellPlaced plan.placed → IsRecurrence plan first length
     → first + length ≤ plan.from + n → HasNoMiss plan n → NeverMisses plan
-repeat-never plan first length n well is within none =
-    let at = is.at in
-    let some = is.some_cycles in
-    alike-never plan is.period is.number (is.number + length) well is.least_common.common (omega arith) is.alike
-    (λ m slot below. none m slot (omega arith))
+repeat-never plan first length n well is within none = grind (arith, alike-never)

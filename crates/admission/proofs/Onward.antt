@@ -20,20 +20,7 @@ use Rattle.admission.proofs.Reduced.{bound-above, settled-by}
 
 -- an acceptance shows a repeat
 pub repeat-found : (horizon : ℕ) (plan : Planning) (first length : ℕ) → IsVerdictOnPlan horizon plan (Accepted first length) → HasRepeat plan horizon
-repeat-found horizon plan first length is =
-    let recurrence = is.1 in
-    let start = recurrence.at in
-    let some = recurrence.some_cycles in
-    let within = is.2 in
-    record {
-      period = recurrence.period;
-      least_common = recurrence.least_common;
-      one = recurrence.number;
-      other = recurrence.number + length;
-      before = omega arith;
-      within = omega arith;
-      alike = recurrence.alike;
-    }
+repeat-found horizon plan first length is = grind arith
 
 -- the entries that have settled by a cycle have settled by a later one
 bound-later : (z y b c : ℕ) (placed : List Placed) → bound_of z placed ≤ b → y ≤ c → b ≤ c → bound_of y placed ≤ c
@@ -56,8 +43,7 @@ rounds-alike plan period one other common before alike i x within =
     record { settled = omega arith; divided = λ live. divided-along _ period (other - one) (common.divided i x within live) whole }
 
 later-pending : (plan : Planning) (n m : ℕ) → pending_at (later_plan plan n) m ≡ pending_at plan (n + m)
-later-pending plan n m =
-    set_of-same most_slots (pending_before (later_plan plan n) m) (pending_before plan (n + m)) (λ slot known. sym (on-pending plan n m slot known))
+later-pending plan n m = grind (arith, set_of-same, later_plan, on-pending)
 
 pub repeat-later : (plan : Planning) (n horizon : ℕ) → IsWellPlaced plan.placed → HasRepeat plan horizon → HasRepeat (later_plan plan n) horizon
 repeat-later plan n horizon well is =

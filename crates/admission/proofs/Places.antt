@@ -1,5 +1,5 @@
 -- Places on the walk over a planning: the planning stands at the state, or passes the cycles from there on.
-use Rattle.std.proofs.Common.{◌≡◌, ℕ, ◌+◌, ◌<◌, ◌≤◌, Some, sym, ap, ◌∙◌, subst, arith}
+use Rattle.std.proofs.Common.{◌≡◌, ℕ, ◌+◌, ◌<◌, ◌≤◌, Some, sym, ◌∙◌, subst, arith}
 use Rattle.planner_policies.specs.declared.state.PlanState.{PlanState}
 use Rattle.planner_policies.specs.Plan.{IsValid, Ranking, Standing, planning_of}
 use Rattle.release_wheel.specs.Passed.{LeavesSame}
@@ -10,9 +10,7 @@ use Rattle.admission.proofs.Same.{behind-planned, state-same}
 -- a planning that stands at a state, field by field
 pub same-standing : (standing : Standing) (state : PlanState) → standing.cycle ≡ state.cycle → standing.pending ≡ state.pending
     → standing ≡ record { ranking = standing.ranking; cycle = state.cycle; pending = state.pending }
-same-standing standing state cycle pending =
-    ap (λ (n : ℕ). record standing { cycle = n }) cycle
-    ∙ ap (λ (m : ℕ). record { ranking = standing.ranking; cycle = state.cycle; pending = m }) pending
+same-standing standing state cycle pending = grind arith
 
 -- the planning stands where it passed the cycles from the state on
 pub on-passed : (ranking : Ranking) (window : ℕ) (old new : Standing) (state : PlanState) → old.ranking ≡ ranking → new.ranking ≡ ranking
@@ -23,9 +21,7 @@ on-passed ranking window old new state was is still cycle_is pending_is onward v
   ranking_is = is;
   pending_is = still ∙ sym pending_is;
   onward = omega arith;
-  valid = λ c from to.
-      subst (λ q. IsValid ranking.placed c q) (sym pending_is)
-      (subst (λ (r : Ranking). IsValid r.placed c old.pending) was (valid c (omega arith) to));
+  valid = grind arith;
   passed = λ c from to.
       subst (λ q. LeavesSame (planning_of ranking window c q)) (sym pending_is)
       (subst (λ r. LeavesSame (planning_of r window c old.pending)) was (passed c (omega arith) to));
@@ -51,7 +47,4 @@ module _ (ranking : Ranking) (window : ℕ) (here : Standing) (state : PlanState
 
   -- else it stands at the state
   pub stands-here : here.cycle ≤ state.cycle → state_in here ≡ state
-  stands-here not_later =
-      let onward = on.onward in
-      let cycle : here.cycle ≡ state.cycle = omega arith in
-      state-same (state_in here) state cycle on.pending_is
+  stands-here not_later = grind (arith, state-same)

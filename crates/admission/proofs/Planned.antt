@@ -1,5 +1,5 @@
 -- Cycles that are planned one after the other.
-use Rattle.std.proofs.Common.{◌≡◌, ℕ, suc, ◌+◌, ◌^◌, ◌<◌, ◌≤◌, false, None, List, [], ◌∷◌, ◌++◌, refl, sym, ap, ◌∙◌, subst, arith, ⊎_elim}
+use Rattle.std.proofs.Common.{◌≡◌, ℕ, suc, ◌+◌, ◌^◌, ◌<◌, None, List, [], ◌∷◌, ◌++◌, sym, ap, ◌∙◌, subst, arith}
 use Rattle.std.proofs.lemmas.Bool.{cases_lt}
 use Rattle.bit_sets.specs.Sets.{has_bit, set_of, most_slots}
 use Rattle.bit_sets.proofs.Shared.{set_of-has_bit, set_of-same}
@@ -9,7 +9,7 @@ use Rattle.release_wheel.specs.Passed.{IsPassed}
 use Rattle.admission.specs.Course.{state_at, state_in}
 use Rattle.admission.specs.declared.decision.Decision.{Decision}
 use Rattle.admission.specs.declared.verdict.Verdict.TheVariants.{Miss}
-use Rattle.admission.specs.Verdict.{IsMissDecision, IsPlannedUpTo, masks_of}
+use Rattle.admission.specs.Verdict.{IsMissDecision, IsPlannedUpTo}
 use Rattle.admission.proofs.Cycles.{Agree, agree-set, like-left, like-missed, like-planned, like-refl}
 
 -- what is planned, left and missed in a state
@@ -22,8 +22,7 @@ remains_from ranking window state =
     set_of most_slots (left_after (planning_of ranking window state.cycle state.pending) state.cycle (has_bit state.pending))
 
 pub state-parts : (x y : PlanState) → x.cycle ≡ y.cycle → x.pending ≡ y.pending → x ≡ y
-state-parts x y cycle pending =
-    ap (λ (n : ℕ). record x { cycle = n }) cycle ∙ ap (λ (n : ℕ). record y { pending = n }) pending
+state-parts x y cycle pending = grind arith
 
 module _ (ranking : Ranking) (window from pending : ℕ) where
   abbrev plan : Planning
@@ -35,12 +34,7 @@ module _ (ranking : Ranking) (window from pending : ℕ) where
 
   pub planned-start : pending < 2 ^ most_slots → IsValid ranking.placed from pending
       → IsPlannedUpTo plan 0 [] (record { cycle = from; pending = pending })
-  planned-start known valid = record {
-    state = state-parts (record { cycle = from; pending = pending }) (state_at plan 0)
-        (let same : from ≡ from + 0 = omega arith in same) (sym (pending-first known));
-    held = valid;
-    list = refl;
-  }
+  planned-start known valid = grind (arith, state-parts, pending-first)
 
   planned-at : (n : ℕ) → planned_from ranking window (state_at plan n) ≡ mask_at plan n
   planned-at n =
@@ -66,17 +60,7 @@ module _ (ranking : Ranking) (window from pending : ℕ) where
   pub planned-next : (n mask : ℕ) (masks : List ℕ) (state next : PlanState) → IsPlannedUpTo plan n masks state
       → mask ≡ planned_from ranking window state → next.cycle ≡ state.cycle + 1 → next.pending ≡ remains_from ranking window state
       → IsValid ranking.placed next.cycle next.pending → IsPlannedUpTo plan (n + 1) (masks ++ mask ∷ []) next
-  planned-next n mask masks state next planned is cycle left valid =
-      let mask_is : mask ≡ mask_at plan n = is ∙ ap (planned_from ranking window) planned.state ∙ planned-at n in
-      let left_is : next.pending ≡ pending_at plan (suc n) = left ∙ ap (remains_from ranking window) planned.state ∙ left-before n in
-      let now : state.cycle ≡ from + n = ap (λ (s : PlanState). s.cycle) planned.state in
-      let then' : next.cycle ≡ from + suc n = omega arith in
-      let up : suc n ≡ n + 1 = omega arith in
-      subst (λ k. IsPlannedUpTo plan k (masks ++ mask ∷ []) next) up (record {
-        state = state-parts next (state_at plan (suc n)) then' left_is;
-        held = valid;
-        list = ap (λ (list : List ℕ). list ++ mask ∷ []) planned.list ∙ ap (λ (m : ℕ). masks_of plan n ++ m ∷ []) mask_is;
-      })
+  planned-next n mask masks state next planned is cycle left valid = grind (arith, planned-at, left-before, state-parts)
 
   -- a planner of the ranking has planned the next cycle
   pub planned-step : (n mask : ℕ) (masks : List ℕ) (old new : Standing) → IsPlannedUpTo plan n masks (state_in old) → old.ranking ≡ ranking
@@ -92,12 +76,7 @@ module _ (ranking : Ranking) (window from pending : ℕ) where
   -- the state may be written with no cycle more
   pub planned-here : (n : ℕ) (masks : List ℕ) (state : PlanState) → IsPlannedUpTo plan n masks state
       → IsPlannedUpTo plan (n + 0) masks (record { cycle = state.cycle + 0; pending = state.pending })
-  planned-here n masks state planned =
-      let up : n ≡ n + 0 = omega arith in
-      let same : state ≡ record { cycle = state.cycle + 0; pending = state.pending }
-      = state-parts state (record { cycle = state.cycle + 0; pending = state.pending }) (omega arith) refl in
-      subst (λ k. IsPlannedUpTo plan k masks (record { cycle = state.cycle + 0; pending = state.pending })) up
-      (subst (λ (s : PlanState). IsPlannedUpTo plan n masks s) same planned)
+  planned-here n masks state planned = grind (arith, state-parts)
 
   -- a planner of the ranking passed the next cycle
   pub planned-empty : (n : ℕ) (masks : List ℕ) (here : Standing) (k : ℕ) → here.ranking ≡ ranking
@@ -119,38 +98,18 @@ module _ (ranking : Ranking) (window from pending : ℕ) where
   pub none-more : (n : ℕ) (state : PlanState) → state ≡ state_at plan n
       → HasNoMissIn (planning_of ranking window state.cycle state.pending) state.cycle (has_bit state.pending) → HasNoMiss plan n
       → HasNoMiss plan (n + 1)
-  none-more n state is here before m slot below known =
-      let at : HasNoMissIn (planning_of ranking window (from + n) (pending_at plan n)) (from + n) (has_bit (pending_at plan n)) =
-      subst (λ (s : PlanState). HasNoMissIn (planning_of ranking window s.cycle s.pending) s.cycle (has_bit s.pending)) is here in
-      ⊎_elim
-      (λ (less : m < n). before m slot less known)
-      (λ (last : n ≤ m).
-      let same : n ≡ m = omega arith in
-      subst (λ k. is_missed_at plan k slot ≡ false) same (sym (missed-same n slot known) ∙ at slot known))
-      (cases_lt m n)
+  none-more n state h0 h1 h2 = grind (arith, missed-same, cases_lt)
 
   pub miss-at : (n slot release : ℕ) (state : PlanState) → state ≡ state_at plan n
       → IsMissIn (planning_of ranking window state.cycle state.pending) state.cycle (has_bit state.pending) slot release
       → IsMissAt plan n slot release
-  miss-at n slot release state is here =
-      let at : IsMissIn (planning_of ranking window (from + n) (pending_at plan n)) (from + n) (has_bit (pending_at plan n)) slot release =
-      subst (λ (s : PlanState). IsMissIn (planning_of ranking window s.cycle s.pending) s.cycle (has_bit s.pending) slot release) is here in
-      let known = at.known in
-      record {
-        known = known;
-        missed = sym (missed-same n slot known) ∙ at.missed;
-        least = λ other less. sym (missed-same n other (omega arith)) ∙ at.least other less;
-        instance = at.instance;
-        found = at.found;
-        released = at.released;
-      }
+  miss-at n slot release state is here = grind (arith, missed-same)
 
   -- what is missed where a planner of the ranking stands
   pub missed-there : (slot release : ℕ) (here : Standing) → here.ranking ≡ ranking
       → IsMissIn (going_from here window) here.cycle (has_bit here.pending) slot release
       → IsMissIn (planning_of ranking window here.cycle here.pending) here.cycle (has_bit here.pending) slot release
-  missed-there slot release here same miss =
-      subst (λ (r : Ranking). IsMissIn (planning_of r window here.cycle here.pending) here.cycle (has_bit here.pending) slot release) same miss
+  missed-there slot release here same miss = grind arith
 
   pub none-there : (n : ℕ) (here : Standing) → state_in here ≡ state_at plan n → here.ranking ≡ ranking
       → HasNoMissIn (going_from here window) here.cycle (has_bit here.pending) → HasNoMiss plan n → HasNoMiss plan (n + 1)
@@ -161,24 +120,10 @@ module _ (ranking : Ranking) (window from pending : ℕ) where
   -- where none is missed before the cycle of the state, none of the first n is
   pub none-at : (n cycles : ℕ) (state : PlanState) → state ≡ state_at plan n → n < cycles → HasNoMiss plan cycles
       → HasNoMissIn (planning_of ranking window state.cycle state.pending) state.cycle (has_bit state.pending)
-  none-at n cycles state is below none =
-      subst (λ (s : PlanState). HasNoMissIn (planning_of ranking window s.cycle s.pending) s.cycle (has_bit s.pending)) (sym is)
-      (λ slot known. missed-same n slot known ∙ none n slot below known)
+  none-at n cycles state is below none = grind (arith, missed-same)
 
   pub miss-decided : (n slot release cycle mask : ℕ) (masks : List ℕ) (state : PlanState) (decision : Decision) → IsPlannedUpTo plan n masks state
       → IsMissIn (planning_of ranking window state.cycle state.pending) state.cycle (has_bit state.pending) slot release
       → cycle ≡ state.cycle → mask ≡ planned_from ranking window state → decision.verdict ≡ Miss slot release cycle → decision.placed ≡ None
       → decision.trail ≡ masks ++ mask ∷ [] → IsMissDecision plan n decision
-  miss-decided n slot release cycle mask masks state decision planned miss at is verdict list trail =
-      let now : state.cycle ≡ from + n = ap (λ (s : PlanState). s.cycle) planned.state in
-      let mask_is : mask ≡ mask_at plan n = is ∙ ap (planned_from ranking window) planned.state ∙ planned-at n in
-      let up : suc n ≡ n + 1 = omega arith in
-      record {
-        slot = slot;
-        release = release;
-        answer = verdict ∙ ap (Miss slot release) (at ∙ now);
-        miss = miss-at n slot release state planned.state miss;
-        list = list;
-        plan = subst (λ k. decision.trail ≡ masks_of plan k) up
-            (trail ∙ ap (λ (list : List ℕ). list ++ mask ∷ []) planned.list ∙ ap (λ (m : ℕ). masks_of plan n ++ m ∷ []) mask_is);
-      }
+  miss-decided n slot release cycle mask masks state decision planned miss at is verdict list trail = grind (arith, planned-at, miss-at)

@@ -1,16 +1,14 @@
 -- A list without the entries that are over is planned as the whole list is.
-use Rattle.std.proofs.Common.{◌≡◌, ℕ, ◌+◌, ◌≤◌, Bool, false, not, nat_eq, nat_le, Option, Some, None, List, [], ◌∷◌, All, map, max, refl, sym, ap, ◌∙◌, subst, arith}
+use Rattle.std.proofs.Common.{◌≡◌, ℕ, ◌+◌, ◌≤◌, Bool, not, Option, Some, None, List, [], ◌∷◌, All, map, max, sym, ◌∙◌, subst, arith}
 use Rattle.std.specs.List.{fold}
-use Rattle.std.specs.Option.{option_map_or}
 use Rattle.std.proofs.Math.Nat.{le-max_left, le-max_right, le_trans}
 use Rattle.std.proofs.lemmas.List.Elements.{All-cons, All-filter}
 use Rattle.requirement_table.specs.declared.entries.Placed.{Placed}
-use Rattle.requirement_table.specs.Instance.{Instance, deadline_of, worst_of}
 use Rattle.requirement_table.specs.Table.{IsWellPlaced, instance_in, is_over, not_over, releases_in}
 use Rattle.requirement_table.proofs.Shared.{instance_in-not_over, releases_in-not_over}
 use Rattle.planner_policies.specs.declared.Policy.{Policy}
 use Rattle.planner_policies.specs.Loop.{RepeatsFrom, settled_at}
-use Rattle.planner_policies.specs.Plan.{IsMissAt, IsValid, Ranking, by_number, key_in, key_of, planning_of, priority_in}
+use Rattle.planner_policies.specs.Plan.{IsMissAt, IsValid, Ranking, by_number, planning_of}
 use Rattle.admission.specs.declared.decision.Decision.{Decision}
 use Rattle.admission.specs.Recurrence.{IsCommonPeriod, bound_of}
 use Rattle.admission.specs.Period.{IsPeriodUpTo}
@@ -25,39 +23,15 @@ by-same a b a' b' rest other first second third = cc
 pub like-instances : (policy : Policy) (one other : List Placed) (c : ℕ)
     → ((slot : ℕ) → instance_in one slot c ≡ instance_in other slot c) → ((slot : ℕ) → releases_in one c slot ≡ releases_in other c slot)
     → IsLike policy one other c c
-like-instances policy one other c instances releases =
-    let key : (slot : ℕ) → key_in policy one c slot ≡ key_in policy other c slot =
-    λ slot. ap (λ (o : Option Instance). option_map_or (key_of policy) o 0) (instances slot) in
-    let priority : (slot : ℕ) → priority_in one c slot ≡ priority_in other c slot =
-    λ slot. ap (λ (o : Option Instance). option_map_or (λ i. i.placed.entry.priority) o 0) (instances slot) in
-    record {
-      releases = releases;
-      worst = λ slot. ap (λ (o : Option Instance). option_map_or worst_of o 0) (instances slot);
-      order = λ first second.
-          by-same (key_in policy one c first) (key_in policy one c second) (key_in policy other c first) (key_in policy other c second)
-          (by_number (priority_in one c first) (priority_in one c second) (nat_le first second))
-          (by_number (priority_in other c first) (priority_in other c second) (nat_le first second)) (key first) (key second)
-          (by-same (priority_in one c first) (priority_in one c second) (priority_in other c first) (priority_in other c second)
-          (nat_le first second) (nat_le first second) (priority first) (priority second) refl);
-      last = λ slot.
-          ap (λ (o : Option Instance). option_map_or (λ i. nat_eq (deadline_of i.placed i.number) (c + 1)) o false) (instances slot);
-    }
+like-instances policy one other c instances releases = grind (arith, by-same)
 
 -- the list without the entries that are over
 pub like-reduced : (policy : Policy) (placed : List Placed) (from n : ℕ) → IsWellPlaced placed
     → IsLike policy (not_over from placed) placed (from + n) (from + n)
-like-reduced policy placed from n well =
-    like-instances policy (not_over from placed) placed (from + n) (λ slot. instance_in-not_over from placed slot (from + n) (omega arith))
-    (λ slot. releases_in-not_over from placed slot (from + n) well (omega arith))
+like-reduced policy placed from n well = grind (arith, like-instances, instance_in-not_over, releases_in-not_over)
 
 pub held-reduced : (placed : List Placed) (from pending : ℕ) → IsValid placed from pending → IsValid (not_over from placed) from pending
-held-reduced placed from pending valid slot in' =
-    let held = valid slot in' in
-    record {
-      instance = held.instance;
-      found = instance_in-not_over from placed slot from (omega arith) ∙ held.found;
-      before = held.before;
-    }
+held-reduced placed from pending h0 = grind (arith, instance_in-not_over)
 
 -- what is missed in the one planning is missed in the other
 module _ (ranking : Ranking) (window from pending n : ℕ) (well : IsWellPlaced ranking.placed) where
@@ -110,8 +84,7 @@ bound-above from placed = fold-above from (map settled_at placed)
 
 -- so it repeats after a common period
 pub repeats-all : (from length' : ℕ) (placed : List Placed) → IsCommonPeriod placed length' → All (RepeatsFrom (bound_of from placed) length') placed
-repeats-all from length' placed common i d within =
-    record { settled = settled-by from placed i d within; divided = common.divided i d within }
+repeats-all from length' placed h0 = grind (arith, settled-by)
 
 pub repeating-reduced : (from limit length' : ℕ) (placed : List Placed) (period : Option ℕ) → IsWellPlaced placed → IsPeriodUpTo limit placed period
     → period ≡ Some length' → IsRepeating (bound_of from placed) length' (not_over from placed)

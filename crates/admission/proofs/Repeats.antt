@@ -1,5 +1,5 @@
 -- What the first repeat of a walk says of the planning.
-use Rattle.std.proofs.Common.{◌≡◌, ℕ, ◌+◌, ◌-◌, ◌%◌, ◌^◌, ◌<◌, ◌≤◌, Option, Some, None, List, refl, sym, subst, arith, ⊎_elim}
+use Rattle.std.proofs.Common.{◌≡◌, ℕ, ◌+◌, ◌-◌, ◌%◌, ◌^◌, ◌<◌, ◌≤◌, Option, Some, None, List, refl, sym, subst, arith}
 use Rattle.std.proofs.lemmas.Bool.{cases_lt}
 use Rattle.std.proofs.lemmas.Nat.Gcd.{dvd_of_mod-eq-zero, le_of_dvd}
 use Rattle.requirement_table.specs.declared.entries.Placed.{Placed}
@@ -49,19 +49,6 @@ module _ (ranking : Ranking) (placed : List Placed) (window from pending bound h
   abbrev TheRepeat : ℕ → ℕ → Type 0
   TheRepeat one other = IsRepeat (course ranking placed window from pending bound period known like) one other
 
-  -- the same states are alike
-  alike-same : (length' one other : ℕ) → IsSame bound (Some length') (state_at the_plan one) (state_at the_plan other)
-      → AreAlike the_plan length' one other
-  alike-same length' one other same =
-      let first = same.one_settled in
-      let second = same.other_settled in
-      record {
-        one_settled = omega arith;
-        other_settled = omega arith;
-        place = same.place;
-        pending = same.pending;
-      }
-
   repeat-same : (one other : ℕ) → TheRepeat one other → IsSame bound period (state_at the_plan one) (state_at the_plan other)
   repeat-same one other repeat =
       let before = state-is ranking placed window from pending bound period known like one repeat.before repeat.before_is in
@@ -71,20 +58,11 @@ module _ (ranking : Ranking) (placed : List Placed) (window from pending bound h
 
   same-alike : (length' one other : ℕ) → AreAlike the_plan length' one other
       → IsSame bound (Some length') (state_at the_plan one) (state_at the_plan other)
-  same-alike length' one other alike =
-      let first = alike.one_settled in
-      let second = alike.other_settled in
-      record {
-        one_settled = omega arith;
-        other_settled = omega arith;
-        place = alike.place;
-        pending = alike.pending;
-      }
+  same-alike length' one other alike = grind arith
 
   some-period : (limit : ℕ) (one other : ℕ) (o : Option ℕ) → IsPeriodUpTo limit placed o → IsSame bound o (state_at the_plan one) (state_at the_plan other)
       → (length' : ℕ) × (o ≡ Some length') × IsLeastCommonPeriod placed length' × AreAlike the_plan length' one other
-  some-period limit one other None upto same = absurd same
-  some-period limit one other (Some length') upto same = (length', refl, upto.0, alike-same length' one other same)
+  some-period limit one other o upto same = grind arith
 
   alike-repeat : (length' one other : ℕ) → period ≡ Some length' → one < other → HasNoMiss the_plan other → AreAlike the_plan length' one other
       → TheRepeat one other
@@ -146,8 +124,4 @@ module _ (ranking : Ranking) (placed : List Placed) (window from pending bound h
       stays.new one other within (alike-repeat found one other is order none here)
 
   pub no-recurrence : StaysNew (course ranking placed window from pending bound period known like) horizon → HasNoRecurrence the_plan horizon
-  no-recurrence stays length' one other least order alike =
-      ⊎_elim
-      (λ (past : horizon < other). past)
-      (λ (within : other ≤ horizon). absurd (no-repeat period refl period_is stays length' one other least order alike within))
-      (cases_lt horizon other)
+  no-recurrence h0 = grind (arith, no-repeat, cases_lt)

@@ -1,12 +1,9 @@
 -- A certificate that lists a plan from its first cycle on up to the end of a repeat: its endless row of masks is the
 -- plan, and keeps the table.
-use Rattle.std.proofs.Common.{◌≡◌, ℕ, zero, suc, ◌+◌, ◌-◌, ◌*◌, ◌/◌, ◌%◌, ◌<◌, ◌≤◌, Bool, true, false, not, ◌&&◌, ◌||◌, nat_eq, nat_le, nat_lt, Option, Some, None, List, All, get_or, refl, sym, ap, ◌∙◌, subst, ⊎_elim, arith}
-use Rattle.std.specs.Option.{option_map, option_map_or}
-use Rattle.std.proofs.Math.Nat.{mod-lt}
-use Rattle.std.proofs.lemmas.Bool.{cases_lt, cond-false, cond-true, eq-eqb, le-leb, lt-ltb}
+use Rattle.std.proofs.Common.{◌≡◌, ℕ, zero, suc, ◌+◌, ◌-◌, ◌*◌, ◌/◌, ◌%◌, ◌<◌, ◌≤◌, Bool, true, false, not, ◌&&◌, ◌||◌, nat_lt, List, All, refl, sym, ap, ◌∙◌, subst, ⊎_elim, arith}
+use Rattle.std.proofs.lemmas.Bool.{cases_lt, cond-false, cond-true, lt-ltb}
 use Rattle.std.proofs.lemmas.Bool.Decides.{nat_tests}
 use Rattle.std.proofs.lemmas.List.Folds.{list_any_none}
-use Rattle.std.proofs.lemmas.Nat.{div-add-mod'}
 use Rattle.requirement_table.specs.declared.entries.Placed.{Placed}
 use Rattle.requirement_table.specs.Flags.{IsGoodCycle, waits}
 use Rattle.bit_sets.specs.Sets.{has_bit, most_slots}
@@ -19,7 +16,7 @@ use Rattle.plan_check.specs.declared.breach.Breach.{Breach}
 use Rattle.plan_check.specs.declared.breach.Breach.TheVariants.{BadLoop, NotReleased, TooWide, Missed, NotClosed}
 use Rattle.plan_check.specs.Breaches.{IsBreach, IsGoodAt, IsLeastSlot, is_flagged, is_missed, is_unreleased, is_waiting, width_at}
 use Rattle.plan_check.specs.Certificate.{CertificateView, flags_of, length_of, place_of}
-use Rattle.plan_check.specs.PlanKept.{IsTaken, NoSlot, differ, goes_round, is_bad, is_held, is_open}
+use Rattle.plan_check.specs.PlanKept.{IsTaken, NoSlot, differ, is_bad, is_held, is_open}
 use Rattle.plan_check.proofs.Shared.{unbroken-taken}
 use Rattle.admission_rules.specs.declared.Rules.{Rules}
 use Rattle.admission.specs.Verdict.{masks_of, plan_from}
@@ -35,38 +32,14 @@ held-same placed flags others from held (suc n) slot same =
     ap (λ b. (b || releases_in placed (from + n) slot) && not (flags (from + n) slot)) (held-same placed flags others from held n slot same)
     ∙ ap (λ b. (held_before placed others from held n slot || releases_in placed (from + n) slot) && not b) (same n)
 
--- an entry that repeats goes round
-round-by : (b d : ℕ) (p : Placed) (end : Option ℕ) → p.end ≡ end
-    → option_map_or (λ free. free) (option_map (λ e. e + p.entry.deadline - 1) end) (p.origin + p.entry.phase) ≤ b
-    → (p.end ≡ None → d % p.entry.period ≡ 0)
-    → option_map_or (λ free. nat_le free b) (option_map (λ e. e + p.entry.deadline - 1) end)
-    (nat_le (p.origin + p.entry.phase) b && nat_eq (d % p.entry.period) 0) ≡ true
-round-by b d p None is settled divided =
-    ap (λ t. t && nat_eq (d % p.entry.period) 0) (le-leb (p.origin + p.entry.phase) b settled)
-    ∙ eq-eqb (d % p.entry.period) 0 (divided is)
-round-by b d p (Some e) is settled divided = le-leb (e + p.entry.deadline - 1) b settled
-
-goes_round-repeats : (b d : ℕ) (p : Placed) → RepeatsFrom b d p → goes_round b d p ≡ true
-goes_round-repeats b d p repeats = round-by b d p p.end refl repeats.settled repeats.divided
-
-not-bad : (of_slot round : Bool) → round ≡ true → (of_slot && not round) ≡ false
-not-bad true round is = ap not is
-not-bad false round is = refl
-
 not-differ : (one other : Bool) → one ≡ other → differ one other ≡ false
-not-differ true true same = refl
-not-differ false false same = refl
-not-differ true false same = absurd (cc)
-not-differ false true same = absurd (cc)
+not-differ one other same = grind arith
 
 none-but : (a b : Bool) → (a ≡ true → b ≡ true) → (a && not b) ≡ false
-none-but true b holds = ap not (holds refl)
-none-but false b holds = refl
+none-but a b holds = grind arith
 
 none-late : (a b c : Bool) → (a ≡ true → b ≡ true → c ≡ true) → (a && b && not c) ≡ false
-none-late true true c holds = ap not (holds refl refl)
-none-late true false c holds = refl
-none-late false b c holds = refl
+none-late a b c holds = grind arith
 
 module _ (rules : Rules) (placed : List Placed) (from pending b d : ℕ) (well : IsWellPlaced placed) (valid : IsValid placed from pending)
     (some : 0 < d) where
@@ -96,34 +69,21 @@ module _ (rules : Rules) (placed : List Placed) (from pending b d : ℕ) (well :
         ap (λ n. planned_at plan n slot) at ∙ plan-again (q * d + k) slot known ∙ plan-round q k slot known
 
     place-before : (n : ℕ) → n < b → place_of row (from + n) ≡ n
-    place-before n before =
-        let here = cond-true (nat_lt (from + n) (from + b)) (from + n - from) (from + b - from + (from + n - (from + b)) % length_of row)
-        (lt-ltb (from + n) (from + b) (omega arith)) in
-        omega arith
+    place-before n before = grind (arith, cond-true, nat_lt, lt-ltb)
 
     place-after : (n : ℕ) → b ≤ n → place_of row (from + n) ≡ b + (n - b) % d
-    place-after n after =
-        let test : nat_lt (from + n) (from + b) ≡ false = grind (arith, nat_tests) in
-        let here = cond-false (nat_lt (from + n) (from + b)) (from + n - from) (from + b - from + (from + n - (from + b)) % length_of row) test in
-        let gap : from + n - (from + b) ≡ n - b = omega arith in
-        let same : (from + n - (from + b)) % length_of row ≡ (n - b) % d = ap (λ k. k % length_of row) gap ∙ ap (λ k. (n - b) % k) row-length in
-        omega arith
+    place-after n after = grind (arith, nat_lt, nat_tests, cond-false, row-length)
 
     listed : (n place slot : ℕ) → place_of row (from + n) ≡ place → place < b + d → slot < most_slots
         → flags_of row (from + n) slot ≡ planned_at plan place slot
     unfolding flags_of
-    listed n place slot is within known =
-        ap (λ k. has_bit (get_or (masks_of plan (b + d)) k 0) slot) is
-        ∙ ap (λ mask. has_bit mask slot) (masks-at plan (b + d) place within)
-        ∙ agree-set (planned_at plan place) slot known
+    listed n place slot is within known = grind (arith, masks-at, agree-set)
 
     pub row-flags : (n slot : ℕ) → slot < most_slots → flags_of row (from + n) slot ≡ planned_at plan n slot
     row-flags n slot known =
         ⊎_elim
         (λ (before : n < b). listed n n slot (place-before n before) (omega arith) known)
         (λ (after : b ≤ n).
-        let rest = mod-lt (n - b) some in
-        let parts = div-add-mod' (n - b) d in
         let at : b + ((n - b) / d * d + (n - b) % d) ≡ n = omega arith in
         listed n (b + (n - b) % d) slot (place-after n after) (omega arith) known
         ∙ sym (plan-round ((n - b) / d) ((n - b) % d) slot known)
@@ -143,12 +103,7 @@ module _ (rules : Rules) (placed : List Placed) (from pending b d : ℕ) (well :
     -- The loop
 
     rounds : NoSlot (is_bad placed row)
-    rounds slot known =
-        list_any_none (λ p. nat_eq p.entry.slot slot && not (goes_round (from + b) (length_of row) p)) placed
-        (λ i x within.
-        let p : Placed = get_or placed i x in
-        not-bad (nat_eq p.entry.slot slot) (goes_round (from + b) (length_of row) p)
-        (ap (λ n. goes_round (from + b) n p) row-length ∙ goes_round-repeats (from + b) d p (repeats i x within)))
+    rounds = grind (arith, list_any_none, row-length)
 
     closed : NoSlot (is_open placed row)
     closed slot known =

@@ -1,5 +1,5 @@
 -- The same states go on in the same way, and have the same keys.
-use Rattle.std.proofs.Common.{◌≡◌, ◌≢◌, ℕ, ◌+◌, ◌-◌, ◌%◌, ◌<◌, ◌≤◌, Bool, true, false, nat_eq, nat_lt, if◌then◌else◌, Option, Some, None, List, All, get_or, refl, sym, ap, ◌∙◌, subst, arith, ⊎_elim}
+use Rattle.std.proofs.Common.{◌≡◌, ◌≢◌, ℕ, ◌+◌, ◌-◌, ◌%◌, ◌<◌, ◌≤◌, Bool, true, false, nat_eq, nat_lt, if◌then◌else◌, Option, Some, None, List, All, refl, sym, ap, subst, arith, ⊎_elim}
 use Rattle.std.proofs.lemmas.Bool.{cases_lt, eq-eqb, ne_eqb}
 use Rattle.std.proofs.lemmas.Bool.Decides.{nat_tests}
 use Rattle.requirement_table.specs.declared.entries.Placed.{Placed}
@@ -15,7 +15,7 @@ use Rattle.planner_policies.specs.Plan.{HasNoMissIn, IsMissIn, IsValid, Ranking,
 use Rattle.admission.specs.Course.{is_held_from, left_from, missed_from, state_behind}
 use Rattle.admission.specs.WalkLaws.{GoesOnAlike}
 use Rattle.admission.proofs.Cycles.{Agree, IsLike, like-left, like-missed, like-sym, none-set}
-use Rattle.admission.proofs.Divided.{divided-along, divided-gap, not-by_zero}
+use Rattle.admission.proofs.Divided.{divided-along, divided-gap}
 use Rattle.admission.proofs.Later.{IsSettled, like-behind}
 
 -- what every entry of a list has
@@ -26,15 +26,7 @@ pub record IsRepeating (bound length : ℕ) (placed : List Placed) : Type 0 wher
 
 pub settled-all : (bound length : ℕ) (placed : List Placed) (c more : ℕ) → IsRepeating bound length placed → bound ≤ c → more % length ≡ 0
     → All (IsSettled more c) placed
-settled-all bound length placed c more repeating later divided i d within =
-    let repeats = repeating.repeats i d within in
-    let settled = repeats.settled in
-    record {
-      begun = omega arith;
-      divided = λ live. divided-along (get_or placed i d).entry.period length more (repeats.divided live) divided;
-      positive = λ live. not-by_zero (get_or placed i d).entry.period length repeating.positive (repeats.divided live);
-      some_time = repeating.some_time i d within;
-    }
+settled-all bound length placed c more h0 h1 h2 = grind (arith, divided-along)
 
 -- cycles with one place in the period, from the bound on, are alike
 pub like-places : (policy : Policy) (bound length : ℕ) (placed : List Placed) (c d : ℕ) → IsRepeating bound length placed → bound ≤ c → bound ≤ d
@@ -93,16 +85,13 @@ goes-on ranking window bound (Some length) repeating one other same =
 -- the state behind a state, by what is known of its plan
 
 chosen : (b : Bool) (x : PlanState) → b ≡ true → Some x ≡ (if b then Some x else None)
-chosen true x is = refl
-chosen false x is = absurd (cc)
+chosen b x is = grind arith
 
 unchosen : (b : Bool) (x : PlanState) → b ≡ false → None ≡ (if b then Some x else None)
-unchosen true x is = absurd (cc)
-unchosen false x is = refl
+unchosen b x is = grind arith
 
 pub state-same : (x y : PlanState) → x.cycle ≡ y.cycle → x.pending ≡ y.pending → x ≡ y
-state-same x y cycle pending =
-    ap (λ (n : ℕ). record x { cycle = n }) cycle ∙ ap (λ (n : ℕ). record y { pending = n }) pending
+state-same x y cycle pending = grind arith
 
 pub behind-planned : (ranking : Ranking) (window : ℕ) (state next : PlanState)
     → HasNoMissIn (planning_of ranking window state.cycle state.pending) state.cycle (has_bit state.pending)
@@ -110,13 +99,7 @@ pub behind-planned : (ranking : Ranking) (window : ℕ) (state next : PlanState)
     → next.pending ≡ set_of most_slots (left_after (planning_of ranking window state.cycle state.pending) state.cycle (has_bit state.pending))
     → Some next ≡ state_behind ranking window state
 unfolding missed_from left_from
-behind-planned ranking window state next none cycle pending =
-    let missed : missed_from ranking window state ≡ 0 =
-    set_of-none most_slots (is_missed_in (planning_of ranking window state.cycle state.pending) state.cycle (has_bit state.pending)) none in
-    let is = state-same next (record { cycle = state.cycle + 1; pending = left_from ranking window state }) cycle pending in
-    ap (λ (s : PlanState). Some s) is
-    ∙ chosen (nat_eq (missed_from ranking window state) 0) (record { cycle = state.cycle + 1; pending = left_from ranking window state })
-    (eq-eqb (missed_from ranking window state) 0 missed)
+behind-planned ranking window state next none cycle pending = grind (arith, set_of-none, state-same, chosen, eq-eqb)
 
 pub behind-missed : (ranking : Ranking) (window slot release : ℕ) (state : PlanState)
     → IsMissIn (planning_of ranking window state.cycle state.pending) state.cycle (has_bit state.pending) slot release
@@ -134,8 +117,7 @@ behind-missed ranking window slot release state miss =
 
 held-parts : (placed : List Placed) (c slot : ℕ) (o : Option Instance) → instance_in placed slot c ≡ o
     → option_map_or (λ i. nat_lt (release_of i.placed i.number) c) o false ≡ true → IsHeldFrom placed c slot
-held-parts placed c slot None found test = absurd (cc)
-held-parts placed c slot (Some i) found test = record { instance = i; found = found; before = grind (arith, nat_tests) }
+held-parts placed c slot o found test = grind (arith, nat_tests)
 
 pub held-from_tests : (placed : List Placed) (c pending : ℕ) → ((slot : ℕ) → has_bit pending slot ≡ true → is_held_from placed c slot ≡ true)
     → IsValid placed c pending
@@ -143,8 +125,4 @@ held-from_tests placed c pending held slot in' = held-parts placed c slot (insta
 
 pub held-tests : (placed : List Placed) (c pending : ℕ) → IsValid placed c pending → (slot : ℕ) → has_bit pending slot ≡ true
     → is_held_from placed c slot ≡ true
-held-tests placed c pending valid slot in' =
-    let held = valid slot in' in
-    let before = held.before in
-    ap (λ o. option_map_or (λ i. nat_lt (release_of i.placed i.number) c) o false) held.found
-    ∙ grind (arith, nat_tests)
+held-tests placed c pending valid slot in' = grind (arith, nat_lt, nat_tests)

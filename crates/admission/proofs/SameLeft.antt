@@ -1,17 +1,17 @@
 -- Lists of which the same entries are not over by the first cycle have the same verdict. So a pruned list has that of
 -- the whole list.
-use Rattle.std.proofs.Common.{◌≡◌, ℕ, zero, suc, ◌+◌, ◌-◌, ◌≤◌, Bool, true, false, cond, not, nat_le, Option, Some, None, option_map, List, [], ◌∷◌, ◌++◌, length, All, AllPairs, slice_get, if◌then◌else◌, refl, sym, ap, ◌∙◌, subst, arith}
+use Rattle.std.proofs.Common.{◌≡◌, ℕ, zero, suc, ◌+◌, ◌-◌, ◌≤◌, Bool, true, false, cond, not, nat_le, Option, None, option_map, List, [], ◌∷◌, length, All, AllPairs, slice_get, if◌then◌else◌, refl, sym, ap, ◌∙◌, subst, arith}
 use Rattle.std.proofs.lemmas.List.Elements.{All-cons, All-filter, All-head, All-nil, All-tail}
 use Rattle.std.specs.Option.{option_map_or}
 use Rattle.requirement_table.specs.Instance.{IsReleasedIn}
 use Rattle.std.proofs.lemmas.List.Kept.{AllPairs-cons}
 use Rattle.requirement_table.specs.declared.entries.Placed.{Placed}
 use Rattle.bit_sets.specs.Sets.{most_slots}
-use Rattle.requirement_table.specs.Table.{GoesBefore, IsInRange, IsWellPlaced, instance_in, is_over, not_over, releases_in}
+use Rattle.requirement_table.specs.Table.{GoesBefore, IsInRange, IsWellPlaced, instance_in, is_over, not_over}
 use Rattle.requirement_table.proofs.Shared.{instance_in-not_over, releases_in-not_over}
 use Rattle.change_protocol.specs.declared.operations.Change.{Change}
 use Rattle.change_protocol.specs.Applied.{applied}
-use Rattle.change_protocol.specs.Malformed.{Broken, IsWellFormed, change_faults, op_faults}
+use Rattle.change_protocol.specs.Malformed.{Broken, IsWellFormed}
 use Rattle.change_protocol.specs.Operations.{HasTypes}
 use Rattle.change_protocol.specs.Pruned.{may_go, pruned}
 use Rattle.change_protocol.proofs.Shared.{faults-pruned, not_over-applied, not_over-pruned, well_placed-applied}
@@ -43,10 +43,7 @@ module _ (rules : Rules) (from pending : ℕ) (one other : List Placed) (same : 
       sym (instance_in-not_over from one slot (from + n) (omega arith))
       ∙ ap (λ (l : List Placed). instance_in l slot (from + n)) same.left
       ∙ instance_in-not_over from other slot (from + n) (omega arith))
-      (λ slot.
-      sym (releases_in-not_over from one slot (from + n) same.first (omega arith))
-      ∙ ap (λ (l : List Placed). releases_in l (from + n) slot) same.left
-      ∙ releases_in-not_over from other slot (from + n) same.second (omega arith))
+      (λ slot. grind (arith, releases_in-not_over))
 
   pendings : (n : ℕ) → pending_at (plan_from rules one from pending) n ≡ pending_at (plan_from rules other from pending) n
   pendings n = same-pending (ranking_by rules one) other rules.window from pending n (λ m below. like m)
@@ -58,12 +55,7 @@ module _ (rules : Rules) (from pending : ℕ) (one other : List Placed) (same : 
   common multiple is = common-whole from multiple other (subst (λ (l : List Placed). IsCommonPeriod l multiple) same.left (common-left from multiple one is))
 
   states : (period a b : ℕ) → AreAlike (plan_from rules one from pending) period a b → AreAlike (plan_from rules other from pending) period a b
-  states period a b is = record {
-    one_settled = subst (λ (n : ℕ). n ≤ from + a) bounds is.one_settled;
-    other_settled = subst (λ (n : ℕ). n ≤ from + b) bounds is.other_settled;
-    place = is.place;
-    pending = sym (pendings a) ∙ is.pending ∙ pendings b;
-  }
+  states period a b is = grind (arith, bounds, pendings)
 
   no_miss : (n : ℕ) → HasNoMiss (plan_from rules one from pending) n → HasNoMiss (plan_from rules other from pending) n
   no_miss n none = same-no_miss (ranking_by rules one) other rules.window from pending n (λ m below. like m) none
@@ -131,13 +123,11 @@ verdict-same rules from pending one other (Horizon first walked) same is = (
   is.2,
   is.3,
 )
-verdict-same rules from pending one other (Accepted first length) same is =
-    (no_miss rules from pending one other same rules.horizon is.0, recurs rules from pending first length one other same is.1, is.2)
+verdict-same rules from pending one other (Accepted first length) same is = grind (arith, no_miss, recurs)
 
 ends-over : (end : Option ℕ) (deadline from : ℕ) → option_map_or (λ free. nat_le free from) (option_map (λ e. e + deadline - 1) end) false ≡ true
     → end ≡ None → ⊥
-ends-over None deadline from over none = cc
-ends-over (Some e) deadline from over none = cc
+ends-over end deadline from over none = grind arith
 
 live-step : (from c : ℕ) (p : Placed) (kept placed : List Placed) (o : Bool) → is_over from p ≡ o
     → All (λ q. q.end ≡ None → (k : ℕ) × IsReleasedIn q k c) (cond (not o) (p ∷ kept) kept)
@@ -211,8 +201,7 @@ due-same rules from pending one other verdict same due never c period settled re
 -- a pruned list is well placed
 
 all-step : (P : Placed → Type 0) (p : Placed) (kept : List Placed) (b : Bool) → P p → All P kept → All P (if b then kept else p ∷ kept)
-all-step P p kept true one rest = rest
-all-step P p kept false one rest = All-cons P p kept one rest
+all-step P p kept b one rest = grind arith
 
 all-pruned : (P : Placed → Type 0) (c : ℕ) (placed : List Placed) → All P placed → All P (pruned c placed)
 all-pruned P c [] all = all
@@ -255,11 +244,6 @@ pub pending-kept : (rules : Rules) (from pending n : ℕ) (one other : List Plac
     → pending_at (plan_from rules other from pending) n ≡ pending_at (plan_from rules one from pending) n
 pending-kept rules from pending n one other same = sym (pendings rules from pending one other same n)
 
--- the parts of a well formed change
-none-parts : {X : Type 0} (one other : List X) → one ++ other ≡ [] → (one ≡ []) × (other ≡ [])
-none-parts [] other none = (refl, none)
-none-parts (x ∷ one) other none = absurd (cc)
-
 module _ (rules : Rules) (c from pending next : ℕ) (placed : List Placed) (change : Change) (before : c ≤ from) (well : IsWellPlaced placed)
     (room : rules.slots ≤ most_slots) (types : All HasTypes change.ops) where
   fewer : IsWellPlaced (pruned c placed)
@@ -269,9 +253,7 @@ module _ (rules : Rules) (c from pending next : ℕ) (placed : List Placed) (cha
   formed-same formed = sym (faults-pruned c placed well (bounds_by rules) change) ∙ formed
 
   made : (list : List Placed) → IsWellPlaced list → IsWellFormed list (bounds_by rules) change → IsWellPlaced (applied list change)
-  made list sound formed =
-      let parts = none-parts (change_faults change.start change.ops) (op_faults list (bounds_by rules) change.start [] change.ops) formed in
-      well_placed-applied list (bounds_by rules) change room sound parts.0 parts.1 types
+  made list sound formed = grind (arith, well_placed-applied)
 
   in_time : IsInTime rules (pruned c placed) next change → IsInTime rules placed next change
   in_time is = record { well_formed = formed-same is.well_formed; ahead = is.ahead }
@@ -305,9 +287,7 @@ module _ (rules : Rules) (c from pending next : ℕ) (placed : List Placed) (cha
   moved-fewer : (verdict : Verdict) → IsWellFormed placed (bounds_by rules) change
       → IsVerdictOnPlan rules.horizon (plan_from rules (applied placed change) from pending) verdict
       → IsVerdictOnPlan rules.horizon (plan_from rules (applied (pruned c placed) change) from pending) verdict
-  moved-fewer verdict formed is =
-      verdict-same rules from pending (applied placed change) (applied (pruned c placed) change) verdict
-      (turned from (applied (pruned c placed) change) (applied placed change) (same-lists (formed-fewer formed))) is
+  moved-fewer verdict formed is = grind (arith, verdict-same, turned, same-lists, formed-fewer)
 
   pub verdict-fewer : (verdict : Verdict) → IsVerdict rules placed pending from next change verdict → IsVerdict rules (pruned c placed) pending from next change verdict
   verdict-fewer (Malformed op why) is = ap (λ (l : List Broken). slice_get l 0) (faults-pruned c placed well (bounds_by rules) change) ∙ is
@@ -322,11 +302,7 @@ module _ (rules : Rules) (c from pending next : ℕ) (placed : List Placed) (cha
 
   pub trail-pruned : (verdict : Verdict) → IsVerdict rules (pruned c placed) pending from next change verdict
       → trail_of (plan_from rules (applied (pruned c placed) change) from pending) verdict ≡ trail_of (plan_from rules (applied placed change) from pending) verdict
-  trail-pruned (Malformed op why) is = refl
-  trail-pruned (Passed start opened) is = refl
-  trail-pruned (Miss slot release cycle) is = trails (Miss slot release cycle) is.0.well_formed
-  trail-pruned (Horizon first walked) is = refl
-  trail-pruned (Accepted first length) is = refl
+  trail-pruned verdict is = grind (arith, trails)
 
   abbrev IsDueOf : List Placed → Verdict → Type 0
   IsDueOf list verdict = IsInTime rules list next change → IsTakenWhereDue rules (plan_from rules (applied list change) from pending) verdict

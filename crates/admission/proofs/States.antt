@@ -1,5 +1,5 @@
 -- The states that a walk over a planning comes to.
-use Rattle.std.proofs.Common.{◌≡◌, ℕ, zero, suc, ◌+◌, ◌^◌, ◌<◌, ◌≤◌, true, false, nat_eq, if◌then◌else◌, Option, Some, None, List, sym, ap, ◌∙◌, subst, arith, ⊎_elim, add-one}
+use Rattle.std.proofs.Common.{◌≡◌, ℕ, zero, suc, ◌+◌, ◌^◌, ◌<◌, false, nat_eq, Option, Some, None, List, sym, ◌∙◌, subst, arith, add-one}
 use Rattle.std.proofs.lemmas.Bool.{cases_lt, eq-eqb, eqb-true}
 use Rattle.std.proofs.lemmas.Option.{cond_some, same_Some}
 use Rattle.requirement_table.specs.declared.entries.Placed.{Placed}
@@ -46,18 +46,10 @@ module _ (ranking : Ranking) (placed : List Placed) (window from pending bound :
   pending-start = sym (set_of-has_bit most_slots pending known)
 
   next-state : (n : ℕ) → missed_from ranking window (state_at plan n) ≡ 0 → state_behind ranking window (state_at plan n) ≡ Some (state_at plan (n + 1))
-  next-state n none =
-      let test : nat_eq (missed_from ranking window (state_at plan n)) 0 ≡ true = eq-eqb (missed_from ranking window (state_at plan n)) 0 none in
-      let cycle : from + n + 1 ≡ from + (n + 1) = omega arith in
-      ap (λ b. if b then Some (record { cycle = from + n + 1; pending = left_from ranking window (state_at plan n) }) else None) test
-      ∙ ap (λ (c : ℕ). Some (record { cycle = c; pending = left_from ranking window (state_at plan n) })) cycle
-      ∙ ap (λ (q : ℕ). Some (record { cycle = from + (n + 1); pending = q })) (pending-next n)
+  next-state n none = grind (arith, eq-eqb, pending-next)
 
   start-state : state_after course 0 ≡ Some (state_at plan 0)
-  start-state =
-      state_after-start course
-      ∙ ap (λ (c : ℕ). Some (record { cycle = c; pending = pending })) (let same : from ≡ from + 0 = omega arith in same)
-      ∙ ap (λ (q : ℕ). Some (record { cycle = from + 0; pending = q })) (sym pending-start)
+  start-state = grind (arith, state_after-start, pending-start)
 
   -- the walk comes to the state of each cycle before which nothing is missed
   pub comes-to : (n : ℕ) → HasNoMiss plan n → state_after course n ≡ Some (state_at plan n)
@@ -70,11 +62,7 @@ module _ (ranking : Ranking) (placed : List Placed) (window from pending bound :
       subst (λ k. state_after course k ≡ Some (state_at plan k)) next (state_after-next course n (state_at plan n) here ∙ next-state n clear)
 
   no_miss-more : (n : ℕ) → HasNoMiss plan n → ((slot : ℕ) → slot < most_slots → is_missed_at plan n slot ≡ false) → HasNoMiss plan (n + 1)
-  no_miss-more n before here m slot below known =
-      ⊎_elim
-      (λ (less : m < n). before m slot less known)
-      (λ (last : n ≤ m). let same : n ≡ m = omega arith in subst (λ k. is_missed_at plan k slot ≡ false) same (here slot known))
-      (cases_lt m n)
+  no_miss-more n h0 h1 = grind (arith, cases_lt)
 
   goes-behind : (n : ℕ) (state : PlanState) → state_behind ranking window (state_at plan n) ≡ Some state
       → (slot : ℕ) → slot < most_slots → is_missed_at plan n slot ≡ false
@@ -100,11 +88,7 @@ module _ (ranking : Ranking) (placed : List Placed) (window from pending bound :
 
   -- where the walk ends an instance is missed
   pub ends-at : (n : ℕ) → HasNoMiss plan n → state_behind ranking window (state_at plan n) ≡ None → ¬ HasNoMiss plan (n + 1)
-  ends-at n none ends more =
-      let clear : missed_from ranking window (state_at plan n) ≡ 0 =
-      missed-at n ∙ set_of-none most_slots (is_missed_at plan n) (λ slot known. more n slot (omega arith) known) in
-      let goes = next-state n clear in
-      absurd (cc)
+  ends-at n h0 h1 = grind (arith, missed-at, set_of-none, next-state)
 
   pub broken-none : (at : ℕ) → Breaks course at → HasNoMiss plan at
   broken-none at breaks = came-to at breaks.last breaks.last_is

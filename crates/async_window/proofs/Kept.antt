@@ -1,5 +1,6 @@
 -- What holds of kept mailboxes: when they are made, and when a request is taken away.
 use Rattle.std.proofs.Common.{◌≡◌, ◌≢◌, ℕ, suc, ◌-◌, ◌^◌, ◌<◌, ◌≤◌, Bool, true, false, cond, eqb, List, [], ◌∷◌, length, get_or, set, drop, map, All, AllPairs, Contains, IsPermutation, ◌⊎◌, ◌↔◌, Some, inl, inr, refl, sym, ap, ◌∙◌, subst, arith}
+use Rattle.std.proofs.lemmas.Grind.{common_steps}
 use Rattle.std.specs.List.{slice_get}
 use Rattle.std.specs.Option.{IsSome, is_some}
 use Rattle.std.proofs.lemmas.Bool.{cases_Bool, cases_lt, false≢true}
@@ -74,8 +75,7 @@ module _ (ids sorted : List ℕ) (requests : List Request) (made : IsMade ids so
 
   pub mail_of-put : (i remaining : ℕ) (boxes : List Mail) → length requests ≤ i → HasPut sorted requests i boxes remaining
       → mail_of ids boxes ≡ mail_after ids requests []
-  mail_of-put i remaining boxes all has =
-      ap (λ mail. mail_of ids mail) (has.put ∙ ap (λ xs. mail_after sorted xs []) (take_all i requests all)) ∙ mail_of-made
+  mail_of-put i remaining boxes all has = grind (arith, take_all, mail_of-made)
 
   pub AreKept-made : (i remaining : ℕ) (boxes : List Mail) (table arrivals lengths : List ℕ) → length requests ≤ i
       → HasPut sorted requests i boxes remaining → length table ≡ 2048
@@ -112,18 +112,7 @@ mail_of-without id boxes [] = refl
 mail_of-without id boxes (first ∷ ids) =
     let box : Mail = record { identifier = first; unsent = unsent_of boxes first } in
     let head : record { identifier = first; unsent = unsent_of (without_first id boxes) first } ≡ taken_from id box
-    = elim (eqb_tells first id) [
-      | inl same ↦
-          ap {B = Mail} (λ unsent. record { identifier = first; unsent = unsent })
-          (unsent_of-without id boxes first
-          ∙ ap (λ b. cond b (drop 1 (unsent_of boxes id)) (unsent_of boxes first)) same.0
-          ∙ ap (λ n. drop 1 (unsent_of boxes n)) (sym same.1))
-          ∙ ap (λ b. cond b (without_head box) box) (sym same.0)
-      | inr apart ↦
-          ap {B = Mail} (λ unsent. record { identifier = first; unsent = unsent })
-          (unsent_of-without id boxes first ∙ ap (λ b. cond b (drop 1 (unsent_of boxes id)) (unsent_of boxes first)) apart.0)
-          ∙ ap (λ b. cond b (without_head box) box) (sym apart.0)
-    ] in
+    = grind (arith, eqb_tells, unsent_of-without, without_head) in
     ap (λ x. x ∷ mail_of ids (without_first id boxes)) head ∙ ap (λ later. taken_from id box ∷ later) (mail_of-without id boxes ids)
 
 no-first : (unsent : List Request) → is_some (slice_get unsent 0) ≡ false → unsent ≡ []
@@ -138,13 +127,10 @@ module _ (ids : List ℕ) (boxes : List Mail) (table arrivals lengths : List ℕ
   -- the unsent requests of an identifier are those at its place
   pub unsent-placed : (id place : ℕ) (d : Mail) → IsPlaceOf table id place → place < length boxes
       → unsent_of (mail_of ids boxes) id ≡ (get_or boxes place d).unsent
-  unsent-placed id place d is within =
-      kept.same id
-      ∙ unsent_of-at boxes place d id kept.known.distinct within (place-identifier boxes table id place few-boxes kept.places is d within)
+  unsent-placed id place d is within = grind (arith, unsent_of-at, place-identifier, few-boxes)
 
   pub unsent-nowhere : (id place : ℕ) → IsPlaceOf table id place → length boxes ≤ place → unsent_of (mail_of ids boxes) id ≡ []
-  unsent-nowhere id place is past =
-      kept.same id ∙ unsent_of-nowhere boxes id (no_place boxes table id place few-boxes kept.places is kept.known.greatest past)
+  unsent-nowhere id place is past = grind (arith, unsent_of-nowhere, no_place, few-boxes)
 
   -- whether an identifier has an unsent request, by the mailbox at its place
   request-placed : (id place : ℕ) (found : Bool) → IsPlaceOf table id place → (found ≡ true → place < length boxes)
@@ -175,15 +161,10 @@ module _ (ids : List ℕ) (boxes : List Mail) (table arrivals lengths : List ℕ
   -- where it has none, taking one away changes nothing
   pub nothing-taken : (id : ℕ) → false ≡ is_some (slice_get (unsent_of (mail_of ids boxes) id) 0)
       → mail_of ids boxes ≡ without_first id (mail_of ids boxes)
-  nothing-taken id none =
-      sym (without_first-nothing id (mail_of ids boxes) kept.mail (no-first (unsent_of (mail_of ids boxes) id) (sym none)))
+  nothing-taken id none = grind (arith, without_first-nothing, no-first)
 
   pub place-within : (id place : ℕ) → IsPlaceOf table id place → IsSome (slice_get (unsent_of (mail_of ids boxes) id) 0) → place < length boxes
-  place-within id place is some =
-      elim (cases_lt place (length boxes)) [
-        | inl within ↦ within
-        | inr past ↦ absurd (false≢true (subst (λ xs. IsSome (slice_get xs 0)) (unsent-nowhere id place is past) some))
-      ]
+  place-within id place is some = grind (arith, cases_lt, false≢true, unsent-nowhere)
 
   pub some-left : (id : ℕ) → IsSome (slice_get (unsent_of (mail_of ids boxes) id) 0) → 1 ≤ remaining
   some-left id some =
@@ -194,13 +175,7 @@ module _ (ids : List ℕ) (boxes : List Mail) (table arrivals lengths : List ℕ
   module _ (id place : ℕ) (box new : Mail) (is : IsPlaceOf table id place) (some : IsSome (slice_get (unsent_of (mail_of ids boxes) id) 0))
       (read : box ≡ get_or boxes place box) (written : new ≡ record { identifier = box.identifier; unsent = drop 1 box.unsent }) where
     pub set-taken : set boxes place new ≡ without_first id boxes
-    set-taken = set-without_first id boxes place box new (record {
-      known = kept.known;
-      within = place-within id place is some;
-      same = λ d. place-identifier boxes table id place few-boxes kept.places is d (place-within id place is some);
-      read = read;
-      written = written;
-    })
+    set-taken = grind (arith, set-without_first, place-within, place-identifier, few-boxes)
 
     pub mail-taken : mail_of ids (set boxes place new) ≡ without_first id (mail_of ids boxes)
     mail-taken = ap (λ mail. mail_of ids mail) set-taken ∙ mail_of-without id boxes ids
@@ -210,13 +185,7 @@ module _ (ids : List ℕ) (boxes : List Mail) (table arrivals lengths : List ℕ
         → AreBoxesSorted ids (set boxes place new) table arrivals-now lengths-now (remaining - 1)
     AreKept-taken arrivals-now lengths-now arrive_now long_now = record {
       mail = subst IsMail (sym mail-taken) (IsMail-without id (mail_of ids boxes) kept.mail);
-      same = λ other.
-          ap (λ mail. unsent_of mail other) mail-taken
-          ∙ unsent_of-without id (mail_of ids boxes) other
-          ∙ ap (λ xs. cond (eqb other id) (drop 1 xs) (unsent_of (mail_of ids boxes) other)) (kept.same id)
-          ∙ ap (λ xs. cond (eqb other id) (drop 1 (unsent_of boxes id)) xs) (kept.same other)
-          ∙ sym (unsent_of-without id boxes other)
-          ∙ ap (λ mail. unsent_of mail other) (sym set-taken);
+      same = grind (arith, mail-taken, unsent_of-without, eqb, set-taken);
       known = subst IsMail (sym set-taken) (IsMail-without id boxes kept.known);
       rising = subst (λ (mail : List Mail). AllPairs (λ one other. one.identifier < other.identifier) mail) (sym set-taken)
           (AllPairs-map (λ (one other : Mail). one.identifier < other.identifier) (taken_from id) boxes (λ box. box)
@@ -234,8 +203,5 @@ module _ (ids : List ℕ) (boxes : List Mail) (table arrivals lengths : List ℕ
           (sym (ap (λ (mail : List Mail). map (λ x. x.identifier) mail) set-taken ∙ without_first-identifiers id boxes)) (kept.places n at below under);
       firsts = TellFirsts-noted place new boxes arrivals lengths arrivals-now lengths-now arrive_now long_now (place-within id place is some)
           kept.firsts;
-      counted =
-          let fewer = left-without id (mail_of ids boxes) kept.mail.distinct some in
-          let count : left (mail_of ids (set boxes place new)) ≡ left (without_first id (mail_of ids boxes)) = ap left mail-taken in
-          omega (arith, kept.counted);
+      counted = grind (arith, common_steps, left-without, mail-taken);
     }

@@ -19,12 +19,7 @@ IsAbove-top levels = record { one = omega arith; starts = omega arith; ends = om
 
 -- a node above the leaves is an inner node
 pub is_inner : (levels rest node : ℕ) → IsAbove levels (suc rest) node → node < 2 ^ levels
-is_inner levels rest node above =
-    let twice : 2 ^ suc rest ≡ 2 ^ rest * 2 = pow-suc 2 rest in
-    let some : 1 ≤ 2 ^ rest = one-le-pow rest 2 (omega arith) in
-    let wide : (node + 1) * (2 ^ rest * 2) ≤ 2 * 2 ^ levels = subst (λ n. (node + 1) * n ≤ 2 * 2 ^ levels) twice above.ends in
-    let more : node + 1 ≤ (node + 1) * 2 ^ rest = grind arith in
-    omega arith
+is_inner levels rest node above = grind (arith, pow-suc, one-le-pow)
 
 -- eleven levels have room for all identifiers
 pub levels-low : (levels : ℕ) → levels ≤ 11 → 2 ^ levels ≤ 2048
@@ -34,15 +29,13 @@ pub IsAbove-left : (levels rest node : ℕ) → IsAbove levels (suc rest) node �
 IsAbove-left levels rest node above =
     let twice : 2 ^ suc rest ≡ 2 ^ rest * 2 = pow-suc 2 rest in
     let wide : (node + 1) * (2 ^ rest * 2) ≤ 2 * 2 ^ levels = subst (λ n. (node + 1) * n ≤ 2 * 2 ^ levels) twice above.ends in
-    let from : 2 ^ levels ≤ node * (2 ^ rest * 2) = subst (λ n. 2 ^ levels ≤ node * n) twice above.starts in
-    record { one = omega (arith, above.one); starts = omega arith; ends = omega arith }
+    grind arith
 
 pub IsAbove-right : (levels rest node : ℕ) → IsAbove levels (suc rest) node → IsAbove levels rest (2 * node + 1)
 IsAbove-right levels rest node above =
     let twice : 2 ^ suc rest ≡ 2 ^ rest * 2 = pow-suc 2 rest in
     let wide : (node + 1) * (2 ^ rest * 2) ≤ 2 * 2 ^ levels = subst (λ n. (node + 1) * n ≤ 2 * 2 ^ levels) twice above.ends in
-    let from : 2 ^ levels ≤ node * (2 ^ rest * 2) = subst (λ n. 2 ^ levels ≤ node * n) twice above.starts in
-    record { one = omega arith; starts = omega arith; ends = omega arith }
+    grind arith
 
 -- on the way from the top to the first leaf with at most a value, so many levels above the leaves; no leaf on the left
 -- has less than `sooner`
@@ -53,20 +46,13 @@ pub record IsOnTheWay (value : ℕ → ℕ) (levels at rest node sooner : ℕ) :
   pub before : (leaf : ℕ) → 2 ^ levels ≤ leaf → leaf < node * 2 ^ rest → sooner ≤ value leaf
 
 pub IsOnTheWay-top : (value : ℕ → ℕ) (levels at sooner : ℕ) → value 1 ≤ at → at < sooner → IsOnTheWay value levels at levels 1 sooner
-IsOnTheWay-top value levels at sooner here later = record {
-  above = IsAbove-top levels;
-  here = here;
-  later = later;
-  before = λ leaf from to. absurd (omega arith);
-}
+IsOnTheWay-top value levels at sooner here later = grind (arith, IsAbove-top)
 
 module _ (value : ℕ → ℕ) (levels : ℕ) (lesser : IsLesser value levels) where
   -- no leaf below a node has less than the node
   pub least-below : (rest node leaf : ℕ) → IsAbove levels rest node → node * 2 ^ rest ≤ leaf → leaf < (node + 1) * 2 ^ rest
       → value node ≤ value leaf
-  least-below zero node leaf above from to =
-      let same : node ≡ leaf = omega arith in
-      subst (λ n. value node ≤ value n) same (omega arith)
+  least-below zero node leaf above from to = grind arith
   least-below (suc rest) node leaf above from to =
       let twice : 2 ^ suc rest ≡ 2 ^ rest * 2 = pow-suc 2 rest in
       let after : node * (2 ^ rest * 2) ≤ leaf = subst (λ n. node * n ≤ leaf) twice from in
@@ -86,10 +72,7 @@ module _ (value : ℕ → ℕ) (levels : ℕ) (lesser : IsLesser value levels) w
   -- some leaf below a node has its value
   pub least-some : (rest node at : ℕ) → IsAbove levels rest node → value node ≤ at
       → (leaf : ℕ) × (2 ^ levels ≤ leaf) × (leaf < 2 * 2 ^ levels) × (value leaf ≤ at)
-  least-some zero node at above here =
-      let from : 2 ^ levels ≤ node * 2 ^ zero = above.starts in
-      let to : (node + 1) * 2 ^ zero ≤ 2 * 2 ^ levels = above.ends in
-      (node, omega arith, omega arith, here)
+  least-some zero node at above here = grind arith
   least-some (suc rest) node at above here =
       let lesser_here : value node ≡ min (value (2 * node)) (value (2 * node + 1)) = lesser node above.one (is_inner levels rest node above) in
       elim (cases_lt at (value (2 * node))) [
@@ -130,7 +113,6 @@ module _ (value : ℕ → ℕ) (levels : ℕ) (lesser : IsLesser value levels) w
           here = passes;
           later = let is = (left passes).1 in omega (arith, way.later);
           before = λ leaf from to.
-              let same : 2 * node * 2 ^ rest ≡ node * (2 ^ rest * 2) = omega arith in
               let is : least ≡ sooner = (left passes).1 in
               let high : sooner ≤ value leaf = way.before leaf from (subst (λ n. leaf < node * n) (sym twice) (omega arith)) in
               omega arith;

@@ -1,5 +1,6 @@
 -- Which identifiers mail offers: the least of those whose first unsent request may start.
 use Rattle.std.proofs.Common.{◌≡◌, ◌≢◌, ◌↔◌, ℕ, suc, ◌+◌, ◌/◌, ◌<◌, ◌≤◌, Bool, cond, leb, ◌&&◌, Option, Some, None, List, [], ◌∷◌, ◌++◌, length, map, filter, min, AllPairs, Contains, IsTrue, ◌⊎◌, inl, inr, refl, sym, ap, ◌∙◌, subst, arith}
+use Rattle.std.proofs.lemmas.Grind.{common_steps}
 use Rattle.std.specs.List.{fold}
 use Rattle.std.specs.Option.{option_map_or, option_to_list, IsSome}
 use Rattle.std.proofs.lemmas.Bool.{leb-true, le-leb, leb-false, and_parts, and_from, both_ways, cases_Bool, false≢true}
@@ -12,32 +13,9 @@ use Rattle.async_window.specs.Waiting.{MayStart}
 use Rattle.async_window.specs.Mailbox.{Mail, IsMail, OffersIdentifier, IsLeastWith, unsent_of, may_start, least_of, mail_offer}
 use Rattle.async_window.proofs.Unsent.{unsent_of-here, unsent_of-later}
 
--- the test and the relation
-pub MayStart-from_test : (layout : CycleLayout) (c l : ℕ) (unsent : List Request) (at : ℕ)
-    → IsTrue (may_start layout c l at unsent) → (request : Request) × MayStart layout c l unsent at request
-MayStart-from_test layout c l [] at test = absurd (false≢true test)
-MayStart-from_test layout c l (request ∷ later) at test =
-    let parts = and_parts (leb request.at at) (leb (async_open layout c) at && leb (at + worst (length request.frame.bytes)) (sync_start layout c l)) test in
-    let more = and_parts (leb (async_open layout c) at) (leb (at + worst (length request.frame.bytes)) (sync_start layout c l)) parts.1 in (
-      request,
-      record {
-        waiting = record { first = refl; arrived = leb-true request.at at parts.0 };
-        allowed = record {
-          opened = leb-true (async_open layout c) at more.0;
-          whole = leb-true (at + worst (length request.frame.bytes)) (sync_start layout c l) more.1;
-        };
-      },
-    )
-
 pub test_from_MayStart : (layout : CycleLayout) (c l : ℕ) (unsent : List Request) (at : ℕ) (request : Request)
     → MayStart layout c l unsent at request → IsTrue (may_start layout c l at unsent)
-test_from_MayStart layout c l [] at request may = let none : ⊥ = cc (may.waiting.first) in absurd none
-test_from_MayStart layout c l (first ∷ later) at request may =
-    let same : first ≡ request = cc (may.waiting.first) in
-    subst (λ (r : Request). IsTrue (leb r.at at && (leb (async_open layout c) at && leb (at + worst (length r.frame.bytes)) (sync_start layout c l))))
-    (sym same)
-    (and_from _ _ (le-leb _ _ may.waiting.arrived)
-    (and_from _ _ (le-leb _ _ may.allowed.opened) (le-leb _ _ may.allowed.whole)))
+test_from_MayStart layout c l unsent at request may = grind (arith, leb, and_from, le-leb)
 
 -- the least of numbers, by the first of them
 fold_min : (a b : ℕ) (xs : List ℕ) → fold min (min a b) xs ≡ min a (fold min b xs)
@@ -47,27 +25,12 @@ fold_min a b (x ∷ xs) =
     ap (λ n. fold min n xs) assoc ∙ fold_min a (min b x) xs
 
 least_of-cons : (x : ℕ) (xs : List ℕ) → least_of (x ∷ xs) ≡ Some (option_map_or (min x) (least_of xs) x)
-least_of-cons x [] = refl
-least_of-cons x (y ∷ ys) = ap (λ n. Some n) (fold_min x y ys)
-
--- the lesser of a number and perhaps another one
-pub IsLeastWith-step : (Has Had : ℕ → Type 0) (x : ℕ) (other : Option ℕ) → Has x → ((n : ℕ) → Had n → Has n)
-    → ((n : ℕ) → Has n → (n ≡ x) ⊎ Had n) → IsLeastWith Had other → IsLeastWith Has (Some (option_map_or (min x) other x))
-IsLeastWith-step Has Had x None here kept cases none =
-    (here, λ n has. elim (cases n has) [ inl same ↦ omega arith | inr had ↦ absurd (none n had) ])
-IsLeastWith-step Has Had x (Some y) here kept cases is =
-    let below : (n : ℕ) → Has n → min x y ≤ n =
-    λ n has. elim (cases n has) [ inl same ↦ omega arith | inr had ↦ let le : y ≤ n = is.1 n had in omega arith ] in
-    elim (cases_Bool (leb x y)) [
-      | inl passed ↦ let is_x : x ≡ min x y = omega (arith, leb-true x y passed) in (subst Has is_x here, below)
-      | inr failed ↦ let is_y : y ≡ min x y = omega (arith, leb-false x y failed) in (subst Has is_y (kept y is.0), below)
-    ]
+least_of-cons x xs = grind (arith, fold_min)
 
 -- the same property in other words
 pub IsLeastWith-same : (Has Had : ℕ → Type 0) (least : Option ℕ) → ((n : ℕ) → Had n → Has n) → ((n : ℕ) → Has n → Had n)
     → IsLeastWith Had least → IsLeastWith Has least
-IsLeastWith-same Has Had None to from none = λ n has. none n (from n has)
-IsLeastWith-same Has Had (Some least) to from is = (to least is.0, λ n has. is.1 n (from n has))
+IsLeastWith-same Has Had least to from none = grind arith
 
 module _ (layout : CycleLayout) (l at : ℕ) where
   abbrev passes : List Request → Bool
@@ -76,9 +39,6 @@ module _ (layout : CycleLayout) (l at : ℕ) where
   -- the identifier has a first unsent request that passes
   abbrev Passes : List Mail → ℕ → Type 0
   Passes mail id = IsTrue (passes (unsent_of mail id))
-
-  Passes-here : (box : Mail) (mail : List Mail) (id : ℕ) → box.identifier ≡ id → IsTrue (passes box.unsent) → Passes (box ∷ mail) id
-  Passes-here box mail id same test = subst (λ unsent. IsTrue (passes unsent)) (sym (unsent_of-here box mail id same)) test
 
   Passes-later : (box : Mail) (mail : List Mail) (id : ℕ) → box.identifier ≢ id → Passes mail id → Passes (box ∷ mail) id
   Passes-later box mail id apart test = subst (λ unsent. IsTrue (passes unsent)) (sym (unsent_of-later box mail id apart)) test
@@ -110,17 +70,7 @@ module _ (layout : CycleLayout) (l at : ℕ) where
             = ap (λ b. least_of (map (λ x. x.identifier) (cond b (box ∷ passing) passing))) passed
             ∙ least_of-cons box.identifier (map (λ x. x.identifier) passing) in
             subst (λ least. IsLeastWith (Passes (box ∷ mail)) least) (sym value)
-            (IsLeastWith-step (Passes (box ∷ mail)) (Passes mail) box.identifier (mail_offer layout l mail at)
-            (Passes-here box mail box.identifier refl passed)
-            (λ n had. elim (eqb_tells box.identifier n) [
-              | inl here ↦ Passes-here box mail n here.1 passed
-              | inr later ↦ Passes-later box mail n later.1 had
-            ])
-            (λ n has. elim (eqb_tells box.identifier n) [
-              | inl here ↦ inl (sym here.1)
-              | inr later ↦ inr (at_later box mail n later.1 has)
-            ])
-            rest)
+            (grind (arith, eqb_tells, Passes-later, at_later))
         | inr failed ↦
             let value : mail_offer layout l (box ∷ mail) at ≡ mail_offer layout l mail at
             = ap (λ b. least_of (map (λ x. x.identifier) (cond b (box ∷ passing) passing))) failed in
@@ -134,55 +84,25 @@ module _ (layout : CycleLayout) (l at : ℕ) where
                   (here.1 ∙ sym among.2 ∙ get_or-map (λ x. x.identifier) mail among.0 box n inside))
               | inr later ↦ Passes-later box mail n later.1 had
             ])
-            (λ n has. elim (eqb_tells box.identifier n) [
-              | inl here ↦ absurd (both_ways (passes box.unsent) failed (at_here box mail n here.1 has))
-              | inr later ↦ at_later box mail n later.1 has
-            ])
+            (λ n has. grind (arith, common_steps, eqb_tells, both_ways, at_here, at_later))
             rest)
       ]
 
   pub Offers-least : (mail : List Mail) → IsMail mail → IsLeastWith (OffersIdentifier layout l mail at) (mail_offer layout l mail at)
-  Offers-least mail known =
-      IsLeastWith-same (OffersIdentifier layout l mail at) (Passes mail) (mail_offer layout l mail at)
-      (λ id. MayStart-from_test layout (at / layout.cycle) l (unsent_of mail id) at)
-      (λ id may. test_from_MayStart layout (at / layout.cycle) l (unsent_of mail id) at may.0 may.1)
-      (offer-least mail known.distinct)
+  Offers-least mail known = grind (arith, IsLeastWith-same, test_from_MayStart, offer-least)
 
   pub Offers-among : (mail : List Mail) (id : ℕ) → OffersIdentifier layout l mail at id → Contains (map (λ box. box.identifier) mail) id
   Offers-among mail id may = Passes-among mail id (test_from_MayStart layout (at / layout.cycle) l (unsent_of mail id) at may.0 may.1)
 
 pub IsLeastWith-some : (Has : ℕ → Type 0) (least : Option ℕ) → IsLeastWith Has least → IsSome least ↔ ((n : ℕ) × Has n)
-IsLeastWith-some Has None none = (λ some. absurd (false≢true some), λ has. absurd (none has.0 has.1))
-IsLeastWith-some Has (Some least) is = (λ some. (least, is.0), λ has. refl)
+IsLeastWith-some Has least none = grind (arith, false≢true)
 
 -- there is one such answer at most
 pub IsLeastWith-one : (Has : ℕ → Type 0) (one other : Option ℕ) → IsLeastWith Has one → IsLeastWith Has other → one ≡ other
-IsLeastWith-one Has None None is is_other = refl
-IsLeastWith-one Has None (Some y) is is_other = absurd (is y is_other.0)
-IsLeastWith-one Has (Some x) None is is_other = absurd (is_other x is.0)
-IsLeastWith-one Has (Some x) (Some y) is is_other =
-    let below : x ≤ y = is.1 y is_other.0 in
-    let above : y ≤ x = is_other.1 x is.0 in
-    let same : x ≡ y = omega arith in
-    ap (λ n. Some n) same
+IsLeastWith-one Has one other is is_other = grind arith
 
 -- the least number with one property or another
 pub IsLeastWith-either : (One Other Has : ℕ → Type 0) (one other : Option ℕ) → ((n : ℕ) → One n → Has n) → ((n : ℕ) → Other n → Has n)
     → ((n : ℕ) → Has n → One n ⊎ Other n) → IsLeastWith One one → IsLeastWith Other other
     → IsLeastWith Has (least_of (option_to_list one ++ option_to_list other))
-IsLeastWith-either One Other Has None None first second cases is is_other =
-    λ n has. elim (cases n has) [ inl h ↦ is n h | inr h ↦ is_other n h ]
-IsLeastWith-either One Other Has None (Some y) first second cases is is_other =
-    (second y is_other.0, λ n has. elim (cases n has) [ inl h ↦ absurd (is n h) | inr h ↦ is_other.1 n h ])
-IsLeastWith-either One Other Has (Some x) None first second cases is is_other =
-    (first x is.0, λ n has. elim (cases n has) [ inl h ↦ is.1 n h | inr h ↦ absurd (is_other n h) ])
-IsLeastWith-either One Other Has (Some x) (Some y) first second cases is is_other =
-    let below : (n : ℕ) → Has n → min x y ≤ n =
-    λ n has. elim (cases n has) [
-      | inl h ↦ let le : x ≤ n = is.1 n h in omega arith
-      | inr h ↦ let le : y ≤ n = is_other.1 n h in omega arith
-    ] in
-    elim (cases_Bool (leb x y)) [
-      | inl passed ↦ let is_x : x ≡ min x y = omega (arith, leb-true x y passed) in (subst Has is_x (first x is.0), below)
-      | inr failed ↦ let is_y : y ≡ min x y = omega (arith, leb-false x y failed) in (subst Has is_y (second y is_other.0), below)
-    ]
+IsLeastWith-either One Other Has one other first second cases is is_other = grind (arith, leb, leb-true, leb-false)

@@ -9,10 +9,7 @@ use Rattle.std.proofs.lemmas.Map.Keys.{IsDistinct-IsPermutation}
 use Rattle.std.proofs.lemmas.Map.Made.{AllPairs-from_IsDistinct, IsDistinct-from_AllPairs}
 
 eqb-flips : (x y : ℕ) → eqb x y ≡ eqb y x
-eqb-flips x y = elim (eqb_tells x y) [
-  | inl same ↦ same.0 ∙ sym (eq-eqb y x (sym same.1))
-  | inr apart ↦ apart.0 ∙ sym (ne_eqb y x (λ is. apart.1 (sym is)))
-]
+eqb-flips x y = grind (arith, eqb_tells, eq-eqb, ne_eqb)
 
 pub distinct-permutation : (xs ys : List ℕ) → IsPermutation xs ys → AllPairs (λ one other. one ≢ other) xs → AllPairs (λ one other. one ≢ other) ys
 distinct-permutation xs ys moved distinct =

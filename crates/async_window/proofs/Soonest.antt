@@ -20,75 +20,32 @@ use Rattle.async_window.proofs.Unsent.{first-among}
 -- a first request that has arrived and is short enough
 arrival-some : (bytes at : ℕ) (unsent : List Request) (request : Request) → slice_get unsent 0 ≡ Some request → request.at ≤ at
     → length request.frame.bytes ≤ bytes → arrival_within bytes unsent ≤ at
-arrival-some bytes at [] request first arrived short = let none : ⊥ = cc (first) in absurd none
-arrival-some bytes at (r ∷ later) request first arrived short =
-    let same : r ≡ request = cc (first) in
-    subst (λ (x : Request). cond (leb (length x.frame.bytes) bytes) x.at never ≤ at) (sym same)
-    (subst (λ n. n ≤ at) (sym (ap (λ b. cond b request.at never) (le-leb (length request.frame.bytes) bytes short))) arrived)
+arrival-some bytes at unsent request first arrived short = grind (arith, leb, le-leb)
 
 arrival-from : (bytes at : ℕ) (unsent : List Request) → at < never → arrival_within bytes unsent ≤ at
     → (request : Request) × (slice_get unsent 0 ≡ Some request) × (request.at ≤ at) × (length request.frame.bytes ≤ bytes)
-arrival-from bytes at [] time low = absurd (omega arith)
-arrival-from bytes at (r ∷ later) time low =
-    elim (cases_Bool (leb (length r.frame.bytes) bytes)) [
-      | inl passed ↦ (r, refl, subst (λ n. n ≤ at) (ap (λ b. cond b r.at never) passed) low, leb-true (length r.frame.bytes) bytes passed)
-      | inr failed ↦ let high : never ≤ at = subst (λ n. n ≤ at) (ap (λ b. cond b r.at never) failed) low in absurd (omega arith)
-    ]
+arrival-from bytes at unsent time low = grind (arith, leb, leb-true)
 
 -- the number of data bytes of a first request
 first_bytes-is : (unsent : List Request) (request : Request) → slice_get unsent 0 ≡ Some request
     → first_bytes unsent ≡ length request.frame.bytes
-first_bytes-is [] request first = let none : ⊥ = cc (first) in absurd none
-first_bytes-is (r ∷ later) request first = let same : r ≡ request = cc (first) in ap (λ (x : Request). length x.frame.bytes) same
-
-first_length-is : (unsent : List Request) (request : Request) → slice_get unsent 0 ≡ Some request
-    → first_length unsent ≡ length request.frame.bytes
-first_length-is [] request first = let none : ⊥ = cc (first) in absurd none
-first_length-is (r ∷ later) request first = let same : r ≡ request = cc (first) in ap (λ (x : Request). length x.frame.bytes) same
+first_bytes-is unsent request first = grind arith
 
 -- a first request that has arrived, with its own number of data bytes
 pub arrival-own : (at : ℕ) (unsent : List Request) → at < never → arrival_within 8 unsent ≤ at
     → (first_bytes unsent ≤ 8) × (first_length unsent ≡ first_bytes unsent) × (arrival_within (first_bytes unsent) unsent ≤ at)
-arrival-own at unsent time low =
-    let found = arrival-from 8 at unsent time low in
-    let bytes : first_bytes unsent ≡ length found.0.frame.bytes = first_bytes-is unsent found.0 found.1 in
-    let long : first_length unsent ≡ length found.0.frame.bytes = first_length-is unsent found.0 found.1 in (
-      omega (arith, bytes, found.3),
-      long ∙ sym bytes,
-      arrival-some (first_bytes unsent) at unsent found.0 found.1 found.2 (omega (arith, bytes)),
-    )
-
--- of longer frames too some first request has arrived, where one has of shorter ones
-arrival-longer : (few many at : ℕ) (unsent : List Request) → few ≤ many → at < never → arrival_within few unsent ≤ at
-    → arrival_within many unsent ≤ at
-arrival-longer few many at unsent more time low =
-    let found = arrival-from few at unsent time low in
-    arrival-some many at unsent found.0 found.1 found.2 (omega (arith, found.3))
+arrival-own at unsent time low = grind (arith, arrival-from, first_bytes-is, arrival-some)
 
 -- a first request that arrives later, or is too long, or both
 pub arrives-later : (bytes at : ℕ) (unsent : List Request) → bytes ≤ 8 → at < never → at < arrival_within 8 unsent → at < arrival_within bytes unsent
-arrives-later bytes at unsent few time far =
-    elim (cases_lt at (arrival_within bytes unsent)) [
-      | inl later ↦ later
-      | inr low ↦ let here : arrival_within 8 unsent ≤ at = arrival-longer bytes 8 at unsent few time low in absurd (omega arith)
-    ]
+arrives-later bytes at unsent few time far = grind (arith, cases_lt)
 
 pub fits-not : (bytes at : ℕ) (unsent : List Request) → at < never → bytes < first_bytes unsent → at < arrival_within bytes unsent
-fits-not bytes at unsent time long =
-    elim (cases_lt at (arrival_within bytes unsent)) [
-      | inl later ↦ later
-      | inr low ↦
-          let found = arrival-from bytes at unsent time low in
-          let is : first_bytes unsent ≡ length found.0.frame.bytes = first_bytes-is unsent found.0 found.1 in
-          absurd (omega (arith, found.3))
-    ]
+fits-not bytes at unsent time long = grind (arith, cases_lt, arrival-from, first_bytes-is)
 
 pub fits-here : (bytes at : ℕ) (unsent : List Request) → at < never → arrival_within 8 unsent ≤ at → first_bytes unsent ≤ bytes
     → arrival_within bytes unsent ≤ at
-fits-here bytes at unsent time low short =
-    let found = arrival-from 8 at unsent time low in
-    let is : first_bytes unsent ≡ length found.0.frame.bytes = first_bytes-is unsent found.0 found.1 in
-    arrival-some bytes at unsent found.0 found.1 found.2 (omega arith)
+fits-here bytes at unsent time low short = grind (arith, arrival-from, first_bytes-is, arrival-some)
 
 module _ (ids : List ℕ) (boxes : List Mail) (table : List ℕ) (arrivals lengths : List ℕ) (remaining : ℕ)
     (kept : AreBoxesSorted ids boxes table arrivals lengths remaining) where
@@ -111,24 +68,12 @@ module _ (ids : List ℕ) (boxes : List Mail) (table : List ℕ) (arrivals lengt
       let here : (d : Mail) → slice_get (get_or boxes place d).unsent 0 ≡ Some request
       = λ d. ap (λ xs. slice_get xs 0) (sym (unsent_of-at boxes place d id kept.known.distinct within (same d))) ∙ first in
       let box : Mail = record { identifier = id; unsent = [] } in
-      let some : 0 < length (get_or boxes place box).unsent = slice_get_within (get_or boxes place box).unsent 0 request (here box) in
-      let short : AreShort (get_or boxes place box).unsent = kept.short place box within in (
-        place,
-        record {
-          within = within;
-          same = same;
-          first = here;
-          short = subst (λ (x : Request). length x.frame.bytes ≤ 8) (get_or_from_slice_get (get_or boxes place box).unsent 0 request request (here box))
-              (short 0 request some);
-        },
-      )
+      let short : AreShort (get_or boxes place box).unsent = kept.short place box within in (grind (arith, get_or_from_slice_get))
 
   -- what a mailbox has first is the first unsent request of its identifier
   at_box : (place : ℕ) (d : Mail) → place < length boxes
       → unsent_of (mail_of ids boxes) (get_or boxes place d).identifier ≡ (get_or boxes place d).unsent
-  at_box place d within =
-      let id : ℕ = (get_or boxes place d).identifier in
-      kept.same id ∙ unsent_of-at boxes place d id kept.known.distinct within refl
+  at_box place d within = grind (arith, unsent_of-at)
 
   -- a request waits exactly where the first one of a mailbox has arrived
   pub waits-at : (at place : ℕ) (d : Mail) → at < never → place < length boxes
@@ -148,8 +93,7 @@ module _ (ids : List ℕ) (boxes : List Mail) (table : List ℕ) (arrivals lengt
       let box : Mail = record { identifier = some.identifier; unsent = [] } in
       let low : arrival_within 8 (get_or boxes found.0 box).unsent ≤ at
       = arrival-some 8 at (get_or boxes found.0 box).unsent some.request (found.1.first box) some.waits.arrived found.1.short in
-      let high : at < arrival_within 8 (get_or boxes found.0 box).unsent = far found.0 box found.1.within in
-      absurd (omega arith)
+      grind arith
 
 module _ (layout : CycleLayout) (l : ℕ) (ids : List ℕ) (boxes : List Mail) (table : List ℕ) (arrivals lengths : List ℕ)
     (remaining : ℕ) (kept : AreBoxesSorted ids boxes table arrivals lengths remaining) where
@@ -159,13 +103,7 @@ module _ (layout : CycleLayout) (l : ℕ) (ids : List ℕ) (boxes : List Mail) (
       → at + worst bytes ≤ sync_start layout (at / layout.cycle) l → OffersIdentifier layout l (mail_of ids boxes) at (get_or boxes place d).identifier
   offers-at at bytes place d time within low opened whole =
       let unsent = at_box ids boxes table arrivals lengths remaining kept place d within in
-      let first = arrival-from bytes at (get_or boxes place d).unsent time low in (
-        first.0,
-        record {
-          waiting = record { first = ap (λ xs. slice_get xs 0) unsent ∙ first.1; arrived = first.2 };
-          allowed = record { opened = opened; whole = omega (arith, first.3) };
-        },
-      )
+      let first = arrival-from bytes at (get_or boxes place d).unsent time low in (grind arith)
 
   -- what is offered is the first request of a mailbox
   pub record IsOfferOf (at id place : ℕ) (request : Request) : Type 0 where
@@ -179,26 +117,12 @@ module _ (layout : CycleLayout) (l : ℕ) (ids : List ℕ) (boxes : List Mail) (
 
   pub offered-by : (at id : ℕ) → OffersIdentifier layout l (mail_of ids boxes) at id → (place : ℕ) × (request : Request) × IsOfferOf at id place request
   offered-by at id may =
-      let found = first-of ids boxes table arrivals lengths remaining kept id may.0 may.1.waiting.first in (
-        found.0,
-        may.0,
-        record {
-          within = found.1.within;
-          same = found.1.same;
-          first = found.1.first;
-          arrived = may.1.waiting.arrived;
-          short = found.1.short;
-          opened = may.1.allowed.opened;
-          whole = may.1.allowed.whole;
-        },
-      )
+      let found = first-of ids boxes table arrivals lengths remaining kept id may.0 may.1.waiting.first in (grind arith)
 
   -- the least identifier that is offered, by what the window and the tournament say
   pub none-fits : (at : ℕ) → ((bytes : ℕ) → bytes ≤ 8 → async_open layout (at / layout.cycle) ≤ at
       → at + worst bytes ≤ sync_start layout (at / layout.cycle) l → ⊥) → IsLeastWith (OffersIdentifier layout l (mail_of ids boxes) at) None
-  none-fits at none = λ id may.
-      let found = offered-by at id may in
-      none (length found.1.frame.bytes) found.2.short found.2.opened found.2.whole
+  none-fits at none = grind (arith, offered-by)
 
   pub none-arrived : (at room : ℕ) → ((bytes : ℕ) → bytes ≤ 8 → at + worst bytes ≤ sync_start layout (at / layout.cycle) l → bytes ≤ room)
       → ((place : ℕ) (d : Mail) → place < length boxes → at < arrival_within room (get_or boxes place d).unsent)
@@ -207,10 +131,8 @@ module _ (layout : CycleLayout) (l : ℕ) (ids : List ℕ) (boxes : List Mail) (
       let found = offered-by at id may in
       let box : Mail = record { identifier = id; unsent = [] } in
       let low : arrival_within room (get_or boxes found.0 box).unsent ≤ at
-      = arrival-some room at (get_or boxes found.0 box).unsent found.1 (found.2.first box) found.2.arrived
-      (fits (length found.1.frame.bytes) found.2.short found.2.whole) in
-      let high : at < arrival_within room (get_or boxes found.0 box).unsent = none found.0 box found.2.within in
-      absurd (omega arith)
+      = grind (arith, arrival-some) in
+      grind arith
 
   first-offers : (at room short first : ℕ) (d : Mail) → at < never
       → ((bytes : ℕ) → bytes ≤ 8 → at + worst bytes ≤ sync_start layout (at / layout.cycle) l → bytes ≤ room)
@@ -245,9 +167,7 @@ module _ (layout : CycleLayout) (l : ℕ) (ids : List ℕ) (boxes : List Mail) (
   arrival-here : (bytes at place : ℕ) (d e : Mail) → place < length boxes → (request : Request)
       → slice_get (get_or boxes place d).unsent 0 ≡ Some request → (request.at ≤ at) × (length request.frame.bytes ≤ bytes)
       → arrival_within bytes (get_or boxes place e).unsent ≤ at
-  arrival-here bytes at place d e within request first known =
-      arrival-some bytes at (get_or boxes place e).unsent request
-      (ap (λ (box : Mail). slice_get box.unsent 0) (get_or_default boxes place e d within) ∙ first) known.0 known.1
+  arrival-here bytes at place d e within request first known = grind (arith, arrival-some, get_or_default)
 
   pub is-offer : (at : ℕ) (least : Option ℕ) → IsLeastWith (OffersIdentifier layout l (mail_of ids boxes) at) least
       → least ≡ mail_offer layout l (mail_of ids boxes) at
@@ -271,7 +191,6 @@ module _ (layout : CycleLayout) (l : ℕ) (ids : List ℕ) (boxes : List Mail) (
   pub found-offers : (at room first sooner : ℕ) (d : Mail) → IsFound at room first sooner
       → IsLeastWith (OffersIdentifier layout l (mail_of ids boxes) at) (Some (get_or boxes first d).identifier)
   found-offers at room first sooner d found =
-      let time : at < 2 ^ 60 = found.time in
       first-offers at room room first d (omega arith) found.fits found.opened found.whole found.within found.here
       (λ place e before. let high = found.before place e before in omega (arith, found.later))
 
@@ -280,20 +199,13 @@ module _ (layout : CycleLayout) (l : ℕ) (ids : List ℕ) (boxes : List Mail) (
       → until ≡ min (sooner - 1) (sync_start layout (at / layout.cycle) l - worst (first_bytes (get_or boxes first d).unsent))
       → StaysUntil layout l (mail_of ids boxes) at (get_or boxes first d).identifier until
   found-stays at room first sooner until d found is =
-      let time : at < 2 ^ 60 = found.time in
       let closed : ℕ = sync_start layout (at / layout.cycle) l in
       let request = arrival-from room at (get_or boxes first d).unsent (omega arith) (found.here d) in
       let short : ℕ = length request.0.frame.bytes in
       let bytes : first_bytes (get_or boxes first d).unsent ≡ short = first_bytes-is (get_or boxes first d).unsent request.0 request.1 in
-      let last : until ≡ min (sooner - 1) (closed - worst short) = is ∙ ap (λ n. min (sooner - 1) (closed - worst n)) bytes in
       let fits : short ≤ room = request.3 in
-      let whole : at + worst room ≤ closed = found.whole in
-      let start : at / layout.cycle * layout.cycle ≤ at = div-mul-le_self at layout.cycle in
       let cycle : layout.cycle ≤ 100000 = found.known.cycle_range.below in
-      let same : (later : ℕ) → at ≤ later → later ≤ until → later / layout.cycle ≡ at / layout.cycle =
-      λ later from to.
-      let end : later < (at / layout.cycle + 1) * layout.cycle = omega arith in
-      div-eq_of_lt-le layout.cycle (omega arith) end in
+      let same : (later : ℕ) → at ≤ later → later ≤ until → later / layout.cycle ≡ at / layout.cycle = grind (arith, div-eq_of_lt-le) in
       record {
         from = omega (arith, found.later);
         cycle = same;
@@ -320,21 +232,13 @@ module _ (layout : CycleLayout) (l : ℕ) (ids : List ℕ) (boxes : List Mail) (
   never-offered : (at : ℕ) → IsLeastWith (OffersIdentifier layout l (mail_of ids boxes) at) None → IsSome (mail_offer layout l (mail_of ids boxes) at) → ⊥
   never-offered at none some =
       let nothing : false ≡ true = subst (λ (o : Option ℕ). IsSome o) (sym (is-offer at None none)) some in
-      let impossible : ⊥ = cc (nothing) in
-      impossible
+      grind arith
 
   -- nothing is offered behind a time from which on no frame fits any more, and nothing where no first request arrives
   -- before the synchronous window
   pub none-behind : (at : ℕ) → sync_start layout (at / layout.cycle) l ≤ at + worst 0
       → IsNextInCycle layout.cycle at (λ later. IsSome (mail_offer layout l (mail_of ids boxes) later)) None
-  none-behind at over = λ later found.
-      never-offered later
-      (none-fits later (λ bytes few opened whole.
-      let here : later + worst bytes ≤ sync_start layout (at / layout.cycle) l
-      = subst (λ c. later + worst bytes ≤ sync_start layout c l) found.1 whole in
-      let behind : at < later = found.0 in
-      omega arith))
-      found.2
+  none-behind at over = grind (arith, never-offered, none-fits)
 
   pub none-until : (at : ℕ)
       → ((place : ℕ) (d : Mail) → place < length boxes
@@ -343,10 +247,7 @@ module _ (layout : CycleLayout) (l : ℕ) (ids : List ℕ) (boxes : List Mail) (
   none-until at none = λ later found.
       never-offered later
       (elim (cases_lt (sync_start layout (at / layout.cycle) l) later) [
-        | inl past ↦ none-fits later (λ bytes few opened whole.
-            let here : later + worst bytes ≤ sync_start layout (at / layout.cycle) l
-            = subst (λ c. later + worst bytes ≤ sync_start layout c l) found.1 whole in
-            omega arith)
+        | inl past ↦ none-fits later (λ bytes few opened whole. grind arith)
         | inr within ↦ none-waits later (λ place d is. let high = none place d is in omega arith)
       ])
       found.2
@@ -355,14 +256,10 @@ module _ (layout : CycleLayout) (l : ℕ) (ids : List ℕ) (boxes : List Mail) (
 pub earliest-whole : (opened closed at soonest : ℕ) (found : Option ℕ)
     → IsLeastWith (λ later. (at < later) × (soonest ≤ later) × (opened ≤ later) × (later + worst 8 ≤ closed)) found
     → IfSome found (λ next. (opened ≤ next) × (next + worst 8 ≤ closed))
-earliest-whole opened closed at soonest None least = tt
-earliest-whole opened closed at soonest (Some next) least = (least.0.2, least.0.3)
+earliest-whole opened closed at soonest found least = grind arith
 
 -- when the next first request may start, by the soonest arrival and the least length of all
 module _ (boxes : List Mail) (opened closed at : ℕ) (wide : closed < 2 ^ 64) where
-  starts-soon : (unsent : List Request) (time : ℕ) → CanStart opened closed at unsent time → time < never
-  starts-soon unsent time can = omega (arith, can.whole, wide)
-
   module _ (soonest : ℕ) (low : (place : ℕ) (d : Mail) → place < length boxes → soonest ≤ arrival_within 8 (get_or boxes place d).unsent) where
     -- where the longest frame may start at the soonest arrival, no other one starts sooner
     pub IsSoonest-any : (found : Option ℕ)
@@ -370,60 +267,27 @@ module _ (boxes : List Mail) (opened closed at : ℕ) (wide : closed < 2 ^ 64) w
         → (place : ℕ) × (place < length boxes) × ((d : Mail) → arrival_within 8 (get_or boxes place d).unsent ≤ bound))
         → IsLeastWith (λ later. (at < later) × (soonest ≤ later) × (opened ≤ later) × (later + worst 8 ≤ closed)) found
         → IfSome found (λ next. IsSoonestStart boxes opened closed at (length boxes) (Some next))
-    IsSoonest-any None some least = tt
-    IsSoonest-any (Some next) some least =
-        let fits : next + worst 8 ≤ closed = least.0.3 in
-        let soon : next < never = omega (arith, wide) in
-        let first = some next soon least.0.1 in
-        let own = arrival-own next (get_or boxes first.0 nobody).unsent soon (first.2 nobody) in (
-          (
-            first.0,
-            first.1,
-            record { behind = least.0.0; arrived = first.2 nobody; from = least.0.2; whole = omega (arith, own.0) },
-          ),
-          λ later has. elim (cases_lt later next) [
-            | inl sooner ↦
-                let arrived : soonest ≤ later = omega (arith, low has.0 nobody has.1, has.2.arrived) in
-                least.1 later (has.2.behind, arrived, has.2.from, omega arith)
-            | inr later_on ↦ omega arith
-          ],
-        )
+    IsSoonest-any found some least = grind (arith, arrival-own, cases_lt)
 
     -- where even the shortest one ends too late, none starts
     pub IsSoonest-over : (shortest : ℕ)
         → ((place : ℕ) (d : Mail) → place < length boxes → shortest ≤ first_length (get_or boxes place d).unsent)
         → IsLeastWith (λ later. (at < later) × (soonest ≤ later) × (opened ≤ later) × (later + worst shortest ≤ closed)) None
         → IsSoonestStart boxes opened closed at (length boxes) None
-    IsSoonest-over shortest least none = λ later has.
-        let own = arrival-own later (get_or boxes has.0 nobody).unsent (starts-soon (get_or boxes has.0 nobody).unsent later has.2) has.2.arrived in
-        let long : shortest ≤ first_length (get_or boxes has.0 nobody).unsent = least has.0 nobody has.1 in
-        none later (
-          has.2.behind,
-          omega (arith, low has.0 nobody has.1, has.2.arrived),
-          has.2.from,
-          omega (arith, has.2.whole, own.1),
-        )
+    IsSoonest-over shortest least none = grind (arith, arrival-own)
 
   -- where no first request has at most eight data bytes, there is none
   pub IsSoonest-empty : (shortest : ℕ)
       → ((place : ℕ) (d : Mail) → place < length boxes → shortest ≤ first_length (get_or boxes place d).unsent) → 8 < shortest
       → IsSoonestStart boxes opened closed at (length boxes) None
-  IsSoonest-empty shortest least long = λ later has.
-      let own = arrival-own later (get_or boxes has.0 nobody).unsent (starts-soon (get_or boxes has.0 nobody).unsent later has.2) has.2.arrived in
-      let high : shortest ≤ first_length (get_or boxes has.0 nobody).unsent = least has.0 nobody has.1 in
-      absurd (omega (arith, own.0, own.1))
+  IsSoonest-empty shortest least long = grind (arith, arrival-own)
 
 -- the first request of one mailbox, by its arrival
 pub CanStart-same : (opened closed at arrival bytes : ℕ) (unsent : List Request) (least : Option ℕ) → arrival ≡ arrival_within 8 unsent
     → bytes ≡ first_bytes unsent
     → IsLeastWith (λ later. (at < later) × (arrival ≤ later) × (opened ≤ later) × (later + worst bytes ≤ closed)) least
     → IsLeastWith (CanStart opened closed at unsent) least
-CanStart-same opened closed at arrival bytes unsent least is long =
-    IsLeastWith-same (CanStart opened closed at unsent)
-    (λ later. (at < later) × (arrival ≤ later) × (opened ≤ later) × (later + worst bytes ≤ closed)) least
-    (λ later h. record { behind = h.0; arrived = subst (λ n. n ≤ later) is h.1; from = h.2; whole = subst (λ n. later + worst n ≤ closed) long h.3 })
-    (λ later can.
-    (can.behind, subst (λ n. n ≤ later) (sym is) can.arrived, can.from, subst (λ n. later + worst n ≤ closed) (sym long) can.whole))
+CanStart-same opened closed at arrival bytes unsent least h0 h1 h2 = grind arith
 
 pub CanStart-late : (opened closed at arrival : ℕ) (unsent : List Request) → arrival ≡ arrival_within 8 unsent → closed < arrival
     → IsLeastWith (CanStart opened closed at unsent) None
@@ -446,15 +310,7 @@ IsSoonest-more boxes opened closed at count box one other next within read first
     one other
     (λ time h. let below : h.0 < count = h.1 in (h.0, omega arith, h.2))
     (λ time can. (count, omega arith, subst (λ (x : Mail). CanStart opened closed at x.unsent time) here can))
-    (λ time h.
-    let below : h.0 < count + 1 = h.1 in
-    elim (cases_lt h.0 count) [
-      | inl less ↦ inl (h.0, less, h.2)
-      | inr more ↦
-          let same : h.0 ≡ count = omega arith in
-          inr (subst (λ (x : Mail). CanStart opened closed at x.unsent time) (sym here)
-          (subst (λ n. CanStart opened closed at (get_or boxes n nobody).unsent time) same h.2))
-    ])
+    (λ time h. grind (arith, cases_lt))
     first second)
 
 module _ (layout : CycleLayout) (l at : ℕ) (ids : List ℕ) (boxes : List Mail) (table arrivals lengths : List ℕ)
@@ -473,7 +329,6 @@ module _ (layout : CycleLayout) (l at : ℕ) (ids : List ℕ) (boxes : List Mail
       let unsent : List Request = (get_or boxes place nobody).unsent in
       let can : CanStart opened closed at unsent later = found.2 in
       let bytes : ℕ = first_bytes unsent in
-      let start : at / layout.cycle * layout.cycle ≤ at = div-mul-le_self at layout.cycle in
       let from : opened ≤ later = can.from in
       let to : later + worst bytes ≤ closed = can.whole in
       let cycle : layout.cycle ≤ 100000 = known.cycle_range.below in
@@ -497,17 +352,6 @@ module _ (layout : CycleLayout) (l at : ℕ) (ids : List ℕ) (boxes : List Mail
       (Offers-least layout l later (mail_of ids boxes) kept.mail)).0 found.2 in
       let by = offered-by layout l ids boxes table arrivals lengths remaining kept later offer.0 offer.1 in
       let bytes : ℕ = length by.1.frame.bytes in
-      let unsent : List Request = (get_or boxes by.0 nobody).unsent in
-      let is_bytes : first_bytes unsent ≡ bytes = first_bytes-is unsent by.1 (by.2.first nobody) in
       let whole : later + worst bytes ≤ closed
-      = subst (λ n. later + worst bytes ≤ n) (sym is_closed) (subst (λ c. later + worst bytes ≤ sync_start layout c l) found.1 by.2.whole) in (
-        by.0,
-        by.2.within,
-        record {
-          behind = found.0;
-          arrived = arrival-some 8 later unsent by.1 (by.2.first nobody) by.2.arrived by.2.short;
-          from = subst (λ n. n ≤ later) (sym is_opened) (subst (λ c. async_open layout c ≤ later) found.1 by.2.opened);
-          whole = subst (λ n. later + worst n ≤ closed) (sym is_bytes) whole;
-        },
-      ))
+      = subst (λ n. later + worst bytes ≤ n) (sym is_closed) (subst (λ c. later + worst bytes ≤ sync_start layout c l) found.1 by.2.whole) in (grind (arith, arrival-some)))
       is

@@ -1,5 +1,6 @@
 -- A step that changes the mailbox of one identifier, and the mail after it.
 use Rattle.std.proofs.Common.{◌≡◌, ◌≢◌, ◌↔◌, ℕ, zero, suc, ◌+◌, ◌^◌, ◌<◌, ◌≤◌, cond, eqb, Some, List, [], ◌∷◌, ◌++◌, length, get_or, set, take, drop, map, All, AllPairs, inl, inr, refl, sym, ap, ◌∙◌, subst, arith}
+use Rattle.std.proofs.lemmas.Grind.{common_steps}
 use Rattle.std.specs.List.{slice_get}
 use Rattle.std.specs.Option.{IsSome}
 use Rattle.std.proofs.lemmas.Bool.{eq-eqb, ne_eqb, false≢true}
@@ -58,8 +59,7 @@ pub with_request-elsewhere : (request : Request) (mail : List Mail)
 with_request-elsewhere request mail none = map-elsewhere (λ box. record box { unsent = box.unsent ++ request ∷ [] }) request.frame.identifier mail none
 
 some-not_empty : (requests : List Request) → IsSome (slice_get requests 0) → 0 < length requests
-some-not_empty [] some = absurd (false≢true some)
-some-not_empty (request ∷ later) some = omega arith
+some-not_empty requests some = grind (arith, common_steps, false≢true)
 
 pub left-without : (id : ℕ) (mail : List Mail) → AllPairs (λ one other. one.identifier ≢ other.identifier) mail
     → IsSome (slice_get (unsent_of mail id) 0) → left (without_first id mail) + 1 ≡ left mail
@@ -95,21 +95,7 @@ left-without id (box ∷ mail) distinct some =
 mail_at-push : (requests : List Request) (request : Request) (id : ℕ)
     → record { identifier = id; unsent = requests_of (requests ++ request ∷ []) id }
     ≡ with_request request (record { identifier = id; unsent = requests_of requests id })
-mail_at-push requests request id =
-    ap {B = Mail} (λ unsent. record { identifier = id; unsent = unsent }) (filter-append (λ x. eqb x.frame.identifier id) requests (request ∷ []))
-    ∙ elim (eqb_tells id request.frame.identifier) [
-      | inl same ↦
-          ap {B = Mail} (λ b. record { identifier = id; unsent = requests_of requests id ++ cond b (request ∷ []) [] })
-          (eq-eqb request.frame.identifier id (sym same.1))
-          ∙ ap {B = Mail} (λ b. cond b (record { identifier = id; unsent = requests_of requests id ++ request ∷ [] })
-          (record { identifier = id; unsent = requests_of requests id })) (sym same.0)
-      | inr apart ↦
-          ap {B = Mail} (λ b. record { identifier = id; unsent = requests_of requests id ++ cond b (request ∷ []) [] })
-          (ne_eqb request.frame.identifier id (λ e. apart.1 (sym e)))
-          ∙ ap {B = Mail} (λ unsent. record { identifier = id; unsent = unsent }) (append-nil (requests_of requests id))
-          ∙ ap {B = Mail} (λ b. cond b (record { identifier = id; unsent = requests_of requests id ++ request ∷ [] })
-          (record { identifier = id; unsent = requests_of requests id })) (sym apart.0)
-    ]
+mail_at-push requests request id = grind (arith, filter-append, eqb, eqb_tells, eq-eqb, ne_eqb, append-nil)
 
 pub mail_after-push : (ids : List ℕ) (requests : List Request) (request : Request)
     → mail_after ids (requests ++ request ∷ []) [] ≡ map (with_request request) (mail_after ids requests [])
@@ -128,10 +114,7 @@ pub record SetsFirst (id : ℕ) (mail : List Mail) (place : ℕ) (box new : Mail
 
 pub set-without_first : (id : ℕ) (mail : List Mail) (place : ℕ) (box new : Mail) → SetsFirst id mail place box new
     → set mail place new ≡ without_first id mail
-set-without_first id mail place box new sets =
-    ap (λ x. set mail place x) sets.written
-    ∙ ap (λ (x : Mail). set mail place (record { identifier = x.identifier; unsent = drop 1 x.unsent })) sets.read
-    ∙ sym (without_first-at id mail place box sets.known.distinct sets.within (sets.same box))
+set-without_first id mail place box new sets = grind (arith, without_first-at)
 
 -- the mailboxes hold the requests so far
 pub record HasPut (ids : List ℕ) (requests : List Request) (place : ℕ) (mail : List Mail) (remaining : ℕ) : Type 0 where
@@ -148,12 +131,7 @@ left-none (id ∷ ids) =
     omega (arith, left-none ids)
 
 pub HasPut-none : (ids : List ℕ) (requests : List Request) (mail : List Mail) → mail ≡ mail_after ids [] [] → HasPut ids requests 0 mail 0
-HasPut-none ids requests mail is = record {
-  put = is;
-  counted = sym (ap left is ∙ left-none ids);
-  few = omega arith;
-  short = λ k d within. absurd (omega arith);
-}
+HasPut-none ids requests mail is = grind (arith, left-none)
 
 pub HasPut-more : (ids : List ℕ) (requests : List Request) (i : ℕ) (request : Request) (old new : List Mail) (remaining count : ℕ)
     → i < length requests → request ≡ get_or requests i request → HasPut ids requests i old remaining
@@ -163,8 +141,7 @@ HasPut-more ids requests i request old new remaining count within is has put cou
     let more : take (i + 1) requests ≡ take i requests ++ request ∷ []
     = take_more requests i request within ∙ ap (λ x. take i requests ++ x ∷ []) (sym is) in
     record {
-      put = put ∙ ap (λ mail. map (with_request request) mail) has.put ∙ sym (mail_after-push ids (take i requests) request)
-          ∙ ap (λ xs. mail_after ids xs []) (sym more);
+      put = grind (arith, mail_after-push);
       counted = omega (arith, has.counted);
       few = omega (arith, has.few);
       short = subst AreShort (sym more) (All-push (λ (x : Request). length x.frame.bytes ≤ 8) (take i requests) request has.short short);
@@ -185,10 +162,7 @@ pub IsPlaceTable-put : (ids : List ℕ) (requests : List Request) (i : ℕ) (mai
     → HasPut ids requests i mail remaining
     → ((id place : ℕ) → id < 2048 → place < nowhere → (slice_get table id ≡ Some place) ↔ (slice_get ids place ≡ Some id))
     → IsPlaceTable mail table
-IsPlaceTable-put ids requests i mail remaining table has places id place below under =
-    let identifiers : map (λ box. box.identifier) mail ≡ ids
-    = ap (λ xs. map (λ (box : Mail). box.identifier) xs) has.put ∙ identifiers-after ids (take i requests) [] in
-    subst (λ xs. (slice_get table id ≡ Some place) ↔ (slice_get xs place ≡ Some id)) (sym identifiers) (places id place below under)
+IsPlaceTable-put ids requests i mail remaining table h0 h1 = grind (arith, identifiers-after)
 
 pub rising-put : (ids : List ℕ) (requests : List Request) (i : ℕ) (mail : List Mail) (remaining : ℕ) → AllPairs (λ one other. one < other) ids
     → HasPut ids requests i mail remaining → AllPairs (λ one other. one.identifier < other.identifier) mail

@@ -35,8 +35,7 @@ IsTable-more ids i table x rising within is_x small known =
       places = λ id place below under. elim (cases_eq id x) [
         | inl same ↦
             let found : slice_get (set table x i) id ≡ Some i
-            = ap (λ n. slice_get (set table x i) n) same
-            ∙ slice_get-set_same table x i (omega (arith, known.length)) in (
+            = grind (arith, slice_get-set_same) in (
               λ is. let at : i ≡ place = cc in (omega arith, ap (λ n. slice_get ids n) (sym at) ∙ here ∙ ap (λ n. Some n) (sym same)),
               λ is. elim (cases_order place i) [
                 | inl at ↦ found ∙ ap (λ n. Some n) (sym at)
@@ -78,10 +77,7 @@ IsTable-none ids table is = record {
 
 pub IsTable-all : (ids : List ℕ) (i : ℕ) (table : List ℕ) → length ids ≤ i → IsTable ids i table
     → (id place : ℕ) → id < 2048 → place < nowhere → (slice_get table id ≡ Some place) ↔ (slice_get ids place ≡ Some id)
-IsTable-all ids i table all known id place below under = (
-  λ found. ((known.places id place below under).0 found).1,
-  λ found. let within : place < length ids = slice_get_within ids place id found in (known.places id place below under).1 (omega arith, found),
-)
+IsTable-all ids i table all known id place below under = grind (arith, slice_get_within)
 
 -- rising numbers are not below their places
 pub rising-above : (xs : List ℕ) (low i : ℕ) → AllPairs (λ one other. one < other) xs → ((d : ℕ) → 0 < length xs → low ≤ get_or xs 0 d)
@@ -89,15 +85,13 @@ pub rising-above : (xs : List ℕ) (low i : ℕ) → AllPairs (λ one other. one
 rising-above xs low zero rising first within = let here : low ≤ get_or xs 0 0 = first 0 within in omega arith
 rising-above xs low (suc i) rising first within =
     let before : low + i ≤ get_or xs i 0 = rising-above xs low i rising first (omega arith) in
-    let less : get_or xs i 0 < get_or xs (suc i) 0 = rising i (suc i) 0 (omega arith) within in
-    omega arith
+    grind arith
 
 pub rising-few : (xs : List ℕ) → AllPairs (λ one other. one < other) xs → All (λ x. x < 2048) xs → length xs ≤ 2048
 rising-few xs rising small =
     elim (cases_lt 2048 (length xs)) [
       | inl many ↦
           let high : 0 + 2048 ≤ get_or xs 2048 0 = rising-above xs 0 2048 rising (λ d some. omega arith) many in
-          let low : get_or xs 2048 0 < 2048 = small 2048 0 many in
           absurd (omega arith)
       | inr few ↦ few
     ]
@@ -132,14 +126,10 @@ module _ (boxes : List Mail) (table : List ℕ) (id place : ℕ) (few : length b
   pub no_place : All (λ box. box.identifier ≤ 0x7EF) boxes → length boxes ≤ place → (k : ℕ) (d : Mail) → k < length boxes
       → (get_or boxes k d).identifier ≢ id
   no_place greatest past k d within same =
-      let low : (get_or boxes k d).identifier ≤ 0x7EF = greatest k d within in
-      let small : id < 2048 = omega arith in
       let at : slice_get (map (λ (box : Mail). box.identifier) boxes) k ≡ Some id
       = slice_get-get_or (map (λ (box : Mail). box.identifier) boxes) k 0 (omega (arith, length-map boxes (λ (box : Mail). box.identifier)))
       ∙ ap (λ n. Some n) (get_or-map (λ (box : Mail). box.identifier) boxes k d 0 within ∙ same) in
-      let found : Some place ≡ Some k = sym (is.found small) ∙ (known id k small (omega arith)).1 at in
-      let equal : place ≡ k = cc in
-      absurd (omega arith)
+      grind arith
 
 -- an identifier by the place of its mailbox
 pub unsent_of-at : (boxes : List Mail) (place : ℕ) (d : Mail) (id : ℕ) → AllPairs (λ one other. one.identifier ≢ other.identifier) boxes

@@ -1,5 +1,6 @@
 -- Numbers that tell of the first requests of mailboxes: how they are noted.
 use Rattle.std.proofs.Common.{◌≡◌, ℕ, ◌+◌, ◌^◌, ◌<◌, ◌≤◌, Option, None, Some, List, length, get_or, set, inl, inr, sym, ap, ◌∙◌, subst, arith}
+use Rattle.std.proofs.lemmas.Grind.{common_steps}
 use Rattle.std.proofs.lemmas.Bool.{cases_eq, cases_lt}
 use Rattle.std.proofs.lemmas.List.{get_or-set_other, get_or_default, length-set}
 use Rattle.async_window.specs.declared.request.Request.{Request}
@@ -12,43 +13,12 @@ use Rattle.async_window.proofs.Soonest.{arrives-later}
 -- one mailbox more
 pub Tell-more : (place : ℕ) (told : List Request → ℕ) (boxes : List Mail) (old new : List ℕ) → Notes told boxes place old new
     → Tell place told boxes old → Tell (place + 1) told boxes new
-Tell-more place told boxes old new notes tell = record {
-  room = omega (arith, tell.room, notes.length);
-  each = λ other d before within. elim (cases_eq other place) [
-    | inl same ↦ subst (λ n. get_or new n 0 ≡ told (get_or boxes n d).unsent) (sym same) (notes.here d)
-    | inr apart ↦ notes.others other apart ∙ tell.each other d (omega arith) within
-  ];
-  rest = λ other past within.
-      notes.others other (λ same. absurd (omega arith)) ∙ tell.rest other (omega arith) (omega (arith, notes.length));
-}
-
--- the mailbox at a place changed, and is noted
-pub Tell-noted : (place : ℕ) (box : Mail) (told : List Request → ℕ) (boxes : List Mail) (old new : List ℕ)
-    → Notes told (set boxes place box) place old new → place < length boxes → Tell (length boxes) told boxes old
-    → Tell (length (set boxes place box)) told (set boxes place box) new
-Tell-noted place box told boxes old new notes inside tell =
-    let long : length (set boxes place box) ≡ length boxes = length-set boxes place box in
-    record {
-      room = omega (arith, tell.room, notes.length, long);
-      each = λ other d before within. elim (cases_eq other place) [
-        | inl same ↦ subst (λ n. get_or new n 0 ≡ told (get_or (set boxes place box) n d).unsent) (sym same) (notes.here d)
-        | inr apart ↦
-            notes.others other apart
-            ∙ tell.each other d (omega arith) (omega arith)
-            ∙ ap (λ (x : Mail). told x.unsent) (sym (get_or-set_other boxes place other box d apart))
-      ];
-      rest = λ other past within.
-          notes.others other (λ same. absurd (omega arith)) ∙ tell.rest other (omega arith) (omega (arith, notes.length));
-    }
+Tell-more place told boxes old new notes tell = grind arith
 
 -- a number that comes is that of a mailbox
 pub told-within : (told : List Request → ℕ) (boxes : List Mail) (numbers : List ℕ) → Tell (length boxes) told boxes numbers
     → (place bound : ℕ) → place < length numbers → get_or numbers place 0 ≤ bound → bound < never → place < length boxes
-told-within told boxes numbers tell place bound within low time =
-    elim (cases_lt place (length boxes)) [
-      | inl inside ↦ inside
-      | inr past ↦ let nothing : get_or numbers place 0 ≡ never = tell.rest place past within in absurd (omega arith)
-    ]
+told-within told boxes numbers tell place bound within low time = grind (arith, cases_lt)
 
 pub told-at : (told : List Request → ℕ) (boxes : List Mail) (numbers : List ℕ) → Tell (length boxes) told boxes numbers
     → (place : ℕ) (d : Mail) → place < length boxes → get_or numbers place 0 ≡ told (get_or boxes place d).unsent
@@ -59,15 +29,11 @@ module _ (told : List Request → ℕ) (boxes : List Mail) (numbers : List ℕ) 
     (some : (bound : ℕ) → least ≤ bound → (place : ℕ) × (place < length numbers) × (get_or numbers place 0 ≤ bound)) where
   -- what the least number says of all mailboxes, and of one
   pub least-told : (place : ℕ) (d : Mail) → place < length boxes → least ≤ told (get_or boxes place d).unsent
-  least-told place d within =
-      subst (λ n. least ≤ n) (told-at told boxes numbers tell place d within) (low place (omega (arith, tell.room)))
+  least-told place d within = grind (arith, told-at)
 
   pub some-told : (bound : ℕ) → bound < never → least ≤ bound
       → (place : ℕ) × (place < length boxes) × ((d : Mail) → told (get_or boxes place d).unsent ≤ bound)
-  some-told bound time here =
-      let found = some bound here in
-      let within : found.0 < length boxes = told-within told boxes numbers tell found.0 bound found.1 found.2 time in
-      (found.0, within, λ d. subst (λ n. n ≤ bound) (told-at told boxes numbers tell found.0 d within) found.2)
+  some-told bound time here = grind (arith, told-within, told-at)
 
 -- both kinds of numbers
 pub TellFirsts-noted : (place : ℕ) (box : Mail) (boxes : List Mail) (arrivals lengths new_arrivals new_lengths : List ℕ)
@@ -75,19 +41,14 @@ pub TellFirsts-noted : (place : ℕ) (box : Mail) (boxes : List Mail) (arrivals 
     → Notes first_length (set boxes place box) place lengths new_lengths → place < length boxes
     → TellFirsts (length boxes) boxes arrivals lengths
     → TellFirsts (length (set boxes place box)) (set boxes place box) new_arrivals new_lengths
-TellFirsts-noted place box boxes arrivals lengths new_arrivals new_lengths arrive long inside tell = record {
-  arrive = Tell-noted place box (arrival_within 8) boxes arrivals new_arrivals arrive inside tell.arrive;
-  long = Tell-noted place box first_length boxes lengths new_lengths long inside tell.long;
-}
+TellFirsts-noted place box boxes arrivals lengths new_arrivals new_lengths arrive long inside tell = grind (arith, common_steps)
 
 -- the first mailbox whose first request has arrived, by the numbers
 module _ (bytes at : ℕ) (few : bytes ≤ 8) (time : at < never) (boxes : List Mail) (arrivals : List ℕ)
     (tell : Tell (length boxes) (arrival_within 8) boxes arrivals) where
   pub none-first : ((place : ℕ) → place < length arrivals → at < get_or arrivals place 0) → (place : ℕ) (d : Mail) → place < length boxes
       → at < arrival_within bytes (get_or boxes place d).unsent
-  none-first none place d within =
-      arrives-later bytes at (get_or boxes place d).unsent few time
-      (subst (λ n. at < n) (told-at (arrival_within 8) boxes arrivals tell place d within) (none place (omega (arith, tell.room))))
+  none-first none place d within = grind (arith, arrives-later, told-at)
 
 -- where the request that arrives soonest may start then, no other one starts sooner
 pub soonest-starts : (boxes : List Mail) (arrivals : List ℕ) (opened closed at soonest place sooner bytes : ℕ) (box : Mail) (found : Option ℕ)
@@ -110,8 +71,7 @@ soonest-starts boxes arrivals opened closed at soonest place sooner bytes box (S
       λ later has. elim (cases_lt later next) [
         | inl before ↦
             let high : soonest ≤ arrival_within 8 (get_or boxes has.0 nobody).unsent
-            = subst (λ n. soonest ≤ n) (told-at (arrival_within 8) boxes arrivals tell has.0 nobody has.1)
-            (low has.0 (omega (arith, tell.room, has.1))) in
+            = grind (arith, told-at) in
             least.1 later (has.2.behind, omega (arith, has.2.arrived), has.2.from, omega arith)
         | inr after ↦ omega arith
       ],

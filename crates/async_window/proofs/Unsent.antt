@@ -1,5 +1,6 @@
 -- Mail by its first mailbox: what an identifier has left, and what a step that touches one identifier leaves.
 use Rattle.std.proofs.Common.{◌≡◌, ◌≢◌, ℕ, zero, suc, ◌+◌, ◌^◌, ◌<◌, ◌≤◌, true, false, cond, eqb, Some, List, [], ◌∷◌, ◌++◌, length, get_or, drop, map, All, AllPairs, Contains, inl, inr, refl, sym, ap, ◌∙◌, arith}
+use Rattle.std.proofs.lemmas.Grind.{common_steps}
 use Rattle.std.specs.List.{find, slice_get}
 use Rattle.std.specs.Option.{option_map_or}
 use Rattle.std.proofs.lemmas.Bool.{eqb-true, eq-eqb, ne_eqb}
@@ -14,10 +15,7 @@ use Rattle.async_window.specs.Mailbox.{Mail, IsMail, mail_after, unsent_of, take
 
 pub unsent_of-cons : (box : Mail) (mail : List Mail) (id : ℕ)
     → unsent_of (box ∷ mail) id ≡ cond (eqb box.identifier id) box.unsent (unsent_of mail id)
-unsent_of-cons box mail id =
-    elim (eqb box.identifier id)
-    as (λ b. option_map_or (λ x. x.unsent) (cond b (Some box) (find (λ x. eqb x.identifier id) mail)) [] ≡ cond b box.unsent (unsent_of mail id))
-    [ true ↦ refl | false ↦ refl ]
+unsent_of-cons box mail id = grind (arith, eqb)
 
 pub unsent_of-here : (box : Mail) (mail : List Mail) (id : ℕ) → box.identifier ≡ id → unsent_of (box ∷ mail) id ≡ box.unsent
 unsent_of-here box mail id same = unsent_of-cons box mail id ∙ ap (λ b. cond b box.unsent (unsent_of mail id)) (eq-eqb box.identifier id same)
@@ -82,13 +80,7 @@ unsent_of-kept id other (box ∷ mail) apart =
 
 pub unsent_of-without : (id : ℕ) (mail : List Mail) (other : ℕ)
     → unsent_of (without_first id mail) other ≡ cond (eqb other id) (drop 1 (unsent_of mail id)) (unsent_of mail other)
-unsent_of-without id mail other =
-    elim (eqb_tells other id) [
-      | inl same ↦ ap (λ n. unsent_of (without_first id mail) n) same.1 ∙ unsent_of-taken id mail
-          ∙ ap (λ b. cond b (drop 1 (unsent_of mail id)) (unsent_of mail other)) (sym same.0)
-      | inr apart ↦ unsent_of-kept id other mail apart.1
-          ∙ ap (λ b. cond b (drop 1 (unsent_of mail id)) (unsent_of mail other)) (sym apart.0)
-    ]
+unsent_of-without id mail other = grind (arith, eqb_tells, unsent_of-taken, unsent_of-kept)
 
 pub AllPairs-map : {X Y : Type 0} (R : X → X → Type 0) (f : Y → X) (ys : List Y) → (X → Y)
     → AllPairs (λ one other. R (f one) (f other)) ys → AllPairs R (map f ys)
@@ -99,8 +91,7 @@ AllPairs-map R f ys back pairs i j d before within =
 pub IsMail-without : (id : ℕ) (mail : List Mail) → IsMail mail → IsMail (without_first id mail)
 IsMail-without id mail known = record {
   distinct = AllPairs-map (λ one other. one.identifier ≢ other.identifier) (taken_from id) mail (λ box. box)
-      (λ i j d before within same. known.distinct i j d before within
-      (sym (taken_from-identifier id (get_or mail i d)) ∙ same ∙ taken_from-identifier id (get_or mail j d)));
+      (λ i j d before within same. grind (arith, taken_from-identifier));
   least = All-map (λ box. 0x200 ≤ box.identifier) (taken_from id) mail
       (λ k d within. taken_from-keeps (λ box. 0x200 ≤ box.identifier) id (get_or mail k d) (known.least k d within) (known.least k d within));
   greatest = All-map (λ box. box.identifier ≤ 0x7EF) (taken_from id) mail
@@ -125,12 +116,7 @@ IsMail-after ids requests past distinct least greatest early = record {
   least = All-map (λ box. 0x200 ≤ box.identifier) (mail_at requests past) ids least;
   greatest = All-map (λ box. box.identifier ≤ 0x7EF) (mail_at requests past) ids greatest;
   own = All-map (λ box. All (λ request. request.frame.identifier ≡ box.identifier) box.unsent) (mail_at requests past) ids
-      (λ k d within.
-      let id : ℕ = get_or ids k d in
-      All-drop (λ request. request.frame.identifier ≡ id) (frames_with past id) (requests_of requests id)
-      (All-weaker (λ request. eqb request.frame.identifier id ≡ true) (λ request. request.frame.identifier ≡ id)
-      (λ request. eqb-true request.frame.identifier id) (requests_of requests id)
-      (filter_passes (λ request. eqb request.frame.identifier id) requests)));
+      (λ k d within. grind (arith, common_steps, eqb, eqb-true, filter_passes));
   early = All-map (λ box. All (λ request. request.at < 2 ^ 40) box.unsent) (mail_at requests past) ids
       (λ k d within.
       let id : ℕ = get_or ids k d in
@@ -139,8 +125,7 @@ IsMail-after ids requests past distinct least greatest early = record {
 }
 
 pub Contains-later : (first : ℕ) (ids : List ℕ) (id : ℕ) → first ≢ id → Contains (first ∷ ids) id → Contains ids id
-Contains-later first ids id apart (zero, within, same) = absurd (apart same)
-Contains-later first ids id apart (suc k, within, same) = (k, omega arith, same)
+Contains-later first ids id apart h1 = grind arith
 
 pub unsent_of-among : (ids : List ℕ) (requests : List Request) (past : List TimedFrame) (id : ℕ) → Contains ids id
     → unsent_of (mail_after ids requests past) id ≡ unsent_after requests past id
@@ -176,8 +161,7 @@ mail_at-next requests past sent id =
           ∙ ap (λ b. cond b (without_head (mail_at requests past id)) (mail_at requests past id)) (sym same.0)
       | inr apart ↦
           let count : frames_with (past ++ sent ∷ []) id ≡ frames_with past id
-          = frames_with-next past sent id
-          ∙ ap (λ b. frames_with past id + cond b 1 0) (ne_eqb sent.frame.identifier id (λ e. apart.1 (sym e))) ∙ omega arith in
+          = grind (arith, common_steps, frames_with-next, ne_eqb) in
           ap (λ unsent. record { identifier = id; unsent = unsent }) (ap (λ n. drop n (requests_of requests id)) count)
           ∙ ap (λ b. cond b (without_head (mail_at requests past id)) (mail_at requests past id)) (sym apart.0)
     ]

@@ -1,5 +1,5 @@
 -- Sets bit by bit: one more, one less, two of them taken together, and the two words of one.
-use Rattle.std.proofs.Common.{◌≡◌, ◌≢◌, ℕ, ◌+◌, ◌-◌, ◌*◌, ◌/◌, ◌%◌, ◌^◌, ◌<◌, ◌≤◌, ◌&&◌, ◌||◌, true, false, not, nat_eq, bit_and, bit_or, min, max, refl, sym, ap, ◌∙◌, ⊎_elim, arith}
+use Rattle.std.proofs.Common.{◌≡◌, ◌≢◌, ℕ, ◌+◌, ◌-◌, ◌*◌, ◌/◌, ◌%◌, ◌^◌, ◌<◌, ◌≤◌, ◌&&◌, ◌||◌, true, false, not, nat_eq, bit_and, bit_or, refl, sym, ap, ◌∙◌, ⊎_elim, arith}
 use Rattle.std.specs.Int.{bit_at, bit_not, w128}
 use Rattle.std.proofs.Math.Nat.{div-div-eq-div-mul}
 use Rattle.std.proofs.lemmas.Bool.{both_ways, cases_eq, cases_lt, eqb-false}
@@ -33,11 +33,7 @@ has_bit-empty set bit empty = ap (λ m. has_bit m bit) empty ∙ has_bit-none bi
 
 -- a set that has something is not empty
 pub not-empty : (set bit : ℕ) → has_bit set bit ≡ true → 0 < set
-not-empty set bit has =
-    ⊎_elim
-    (λ (none : set ≡ 0). absurd (both_ways (has_bit set bit) (has_bit-empty set bit none) has))
-    (λ (some : set ≢ 0). omega arith)
-    (cases_eq set 0)
+not-empty set bit has = grind (arith, both_ways, has_bit-empty)
 
 -- a set of numbers below `n` has none from `n` on
 pub has_bit-above : (set n bit : ℕ) → set < 2 ^ n → n ≤ bit → has_bit set bit ≡ false
@@ -75,22 +71,14 @@ has_bit-without set k bit within below =
 
 -- Two sets
 
-bits-and : (a b : ℕ) → a < 2 → b < 2 → nat_eq (min a b) 1 ≡ (nat_eq a 1 && nat_eq b 1)
-bits-and a b small few = grind (arith, nat_tests)
-
-bits-or : (a b : ℕ) → a < 2 → b < 2 → nat_eq (max a b) 1 ≡ (nat_eq a 1 || nat_eq b 1)
-bits-or a b small few = grind (arith, nat_tests)
-
 turned : (b : ℕ) → b < 2 → nat_eq (1 - b) 1 ≡ not (nat_eq b 1)
 turned b small = grind (arith, nat_tests)
 
 pub has_bit-and : (a b bit : ℕ) → has_bit (bit_and a b) bit ≡ (has_bit a bit && has_bit b bit)
-has_bit-and a b bit =
-    ap (λ n. nat_eq n 1) (bit_at_and a b bit) ∙ bits-and (bit_at a bit) (bit_at b bit) (bit_at-lt a bit) (bit_at-lt b bit)
+has_bit-and a b bit = grind (arith, bit_at_and, bit_at-lt)
 
 pub has_bit-or : (a b bit : ℕ) → has_bit (bit_or a b) bit ≡ (has_bit a bit || has_bit b bit)
-has_bit-or a b bit =
-    ap (λ n. nat_eq n 1) (bit_at_or a b bit) ∙ bits-or (bit_at a bit) (bit_at b bit) (bit_at-lt a bit) (bit_at-lt b bit)
+has_bit-or a b bit = grind (arith, bit_at_or, bit_at-lt)
 
 -- what stands in one set and not in the other
 pub has_bit-and-not : (a b bit : ℕ) → a < 2 ^ 128 → b < 2 ^ 128
@@ -122,7 +110,4 @@ test-bit word bit = ap (λ n. nat_eq n 1) (shr_and_one word bit)
 
 -- the set of one number of the higher word, made in that word
 pub one-high : (bit : ℕ) → 64 ≤ bit → bit < 128 → (1 * 2 ^ (bit - 64) % 2 ^ 64) * 2 ^ 64 % 2 ^ 128 ≡ 1 * 2 ^ bit % 2 ^ 128
-one-high bit high within =
-    let back : bit ≡ bit - 64 + 64 = omega arith in
-    let parts : 2 ^ bit ≡ 2 ^ (bit - 64) * 2 ^ 64 = ap (λ k. 2 ^ k) back ∙ pow-add 2 (bit - 64) 64 in
-    rw (one_shl (bit - 64) 64 (omega arith), sym parts) (ap (λ n. n % 2 ^ 128) (omega arith))
+one-high bit high within = grind (arith, pow-add, one_shl)

@@ -1,5 +1,5 @@
 -- The least number that passes a test.
-use Rattle.std.proofs.Common.{◌≡◌, ℕ, zero, suc, ◌<◌, Bool, true, false, cond, Option, Some, None, refl, ap, subst, ◌∙◌, arith, inl, inr}
+use Rattle.std.proofs.Common.{◌≡◌, ℕ, zero, suc, ◌<◌, Bool, true, false, cond, Option, Some, None, refl, subst, arith}
 use Rattle.std.specs.Option.{is_some}
 use Rattle.std.proofs.lemmas.Bool.{cases_lt}
 use Rattle.bit_sets.specs.Least.{least_where}
@@ -11,13 +11,7 @@ IsLeastBelow n p (Some least) = (least < n) × (p least ≡ true) × ((k : ℕ) 
 
 next_least : (n : ℕ) (p : ℕ → Bool) (found : Option ℕ) (last : Bool) → p n ≡ last → IsLeastBelow n p found
     → IsLeastBelow (suc n) p (cond (is_some found) found (cond last (Some n) None))
-next_least n p (Some least) last is below = (omega (arith, below.0), below.1, below.2)
-next_least n p None true is below = (omega arith, is, below)
-next_least n p None false is below = λ k within.
-    elim (cases_lt k n) [
-      | inl before ↦ below k before
-      | inr behind ↦ let same : k ≡ n = omega arith in ap p same ∙ is
-    ]
+next_least n p found last is below = grind (arith, cases_lt)
 
 pub least_where-least : (n : ℕ) (p : ℕ → Bool) → IsLeastBelow n p (least_where n p)
 unfolding least_where

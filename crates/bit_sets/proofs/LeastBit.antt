@@ -19,21 +19,17 @@ none-of set none = least_where-of most_slots (has_bit set) None none
 
 pub has_bit-less : (result set least s : ℕ) → result ≡ bit_and set (set - 1) → least_where most_slots (has_bit set) ≡ Some least
     → has_bit result s ≡ (not (nat_eq s least) && has_bit set s)
-has_bit-less result set least s is found =
-    let lowest = least-of set least found in
-    ap (λ m. has_bit m s) is ∙ has_bit-without_lowest set least (record { has = lowest.1; none = lowest.2 }) s ∙ ap (λ b. not b && has_bit set s) (turned-eq least s)
+has_bit-less result set least s is found = grind (arith, least-of, has_bit-without_lowest, turned-eq)
 
 -- one less leaves the words above the lowest one that is not 0 as they are
 pub less-low : (n low : ℕ) → low ≡ n % 2 ^ 64 → 0 < low → n / 2 ^ 64 * 2 ^ 64 + bit_and low (low - 1) ≡ bit_and n (n - 1)
 less-low n low is some =
     let high = n / 2 ^ 64 in
     let whole : n ≡ high * 2 ^ 64 + low = sym (shr_split n 64) ∙ ap (λ m. high * 2 ^ 64 + m) (sym is) in
-    let less : n - 1 ≡ high * 2 ^ 64 + (low - 1) = omega (arith, whole, some) in
     let block : bit_and (high * 2 ^ 64 + low) (high * 2 ^ 64 + (low - 1)) ≡ bit_and high high * 2 ^ 64 + bit_and low (low - 1)
     = and_block 64 high high low (low - 1) (omega (arith, is)) (omega (arith, is)) in
     let same : bit_and high high ≡ high = and_self high in
-    ap (λ m. m * 2 ^ 64 + bit_and low (low - 1)) (sym same) ∙ sym block ∙ ap (bit_and (high * 2 ^ 64 + low)) (sym less)
-    ∙ ap (λ m. bit_and m (n - 1)) (sym whole)
+    grind (arith, bit_and)
 
 -- a set with a slot is no empty one
 pub some-least : (set least : ℕ) → least_where most_slots (has_bit set) ≡ Some least → 0 < set

@@ -16,8 +16,7 @@ unfolding least_where
 least_where-none zero p none = refl
 least_where-none (suc n) p none =
     let before = least_where-none n p (λ i below. none i (omega arith)) in
-    let last = none n (omega arith) in
-    rw (before, last) refl
+    grind arith
 
 -- the slot `k` has the property, and no slot below it
 pub least_where-found : (n : ℕ) (p : ℕ → Bool) (k : ℕ) → k < n → p k ≡ true → ((i : ℕ) → i < k → p i ≡ false) → least_where n p ≡ Some k
@@ -26,9 +25,7 @@ least_where-found zero p k within has none = absurd (omega arith)
 least_where-found (suc n) p k within has none =
     ⊎_elim
     (λ (before : k < n). rw (least_where-found n p k before has none) refl)
-    (λ (last : n ≤ k).
-    let here : n ≡ k = omega arith in
-    rw (here, least_where-none k p none, has) refl)
+    (λ (last : n ≤ k). grind (arith, least_where-none))
     (cases_lt k n)
 
 -- two properties that agree below `n`
@@ -37,8 +34,7 @@ unfolding least_where
 least_where-same zero p q same = refl
 least_where-same (suc n) p q same =
     let before = least_where-same n p q (λ s below. same s (omega arith)) in
-    let last = same n (omega arith) in
-    rw (before, last) refl
+    grind arith
 
 -- a set with no slot
 least_where-nothing : (n : ℕ) → least_where n (has_bit 0) ≡ None
@@ -48,12 +44,7 @@ least_where-nothing n = least_where-none n (has_bit 0) (λ i below. has_bit-none
 least_where-lowest : (n set : ℕ) → n ≤ 128 → 0 < set → set < 2 ^ n → set < 2 ^ 128 → least_where n (has_bit set) ≡ Some (trailing_zeros w128 set)
 least_where-lowest n set few some below small =
     let lowest = lowest-128 set some small in
-    let within : trailing_zeros w128 set < n =
-    ⊎_elim
-    (λ (low : trailing_zeros w128 set < n). low)
-    (λ (high : n ≤ trailing_zeros w128 set).
-    absurd (both_ways (has_bit set (trailing_zeros w128 set)) (has_bit-above set n (trailing_zeros w128 set) below high) lowest.has))
-    (cases_lt (trailing_zeros w128 set) n) in
+    let within : trailing_zeros w128 set < n = grind (arith, both_ways, has_bit-above, cases_lt) in
     least_where-found n (has_bit set) (trailing_zeros w128 set) within lowest.has lowest.none
 
 -- the lowest bit of the low word is that of the number, where the word has one
@@ -72,9 +63,4 @@ least_where-low n mask bits low is part many some =
 
 pub least_where-word : (n mask bits : ℕ) → bits ≡ mask → n ≤ 128 → bits < 2 ^ n → bits < 2 ^ 128
     → then_some (not (nat_eq bits 0)) (trailing_zeros w128 bits) ≡ least_where n (has_bit mask)
-least_where-word n mask zero is few below small = sym (least_where-nothing n) ∙ ap (λ set. least_where n (has_bit set)) is
-least_where-word n mask (suc m) is few below small =
-    let some : nat_eq (suc m) 0 ≡ false = grind (arith, nat_tests) in
-    ap (λ empty. then_some (not empty) (trailing_zeros w128 (suc m))) some
-    ∙ sym (least_where-lowest n (suc m) few (omega arith) below small)
-    ∙ ap (λ set. least_where n (has_bit set)) is
+least_where-word n mask bits is few below small = grind (arith, least_where-nothing, nat_tests, least_where-lowest)

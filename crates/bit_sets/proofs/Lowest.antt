@@ -1,9 +1,10 @@
 -- The lowest bit of a set, and a set without it: a number and one less have the same bits above the lowest 1.
 use Rattle.std.proofs.Common.{◌≡◌, ◌≢◌, ℕ, suc, ◌+◌, ◌-◌, ◌*◌, ◌/◌, ◌%◌, ◌^◌, ◌<◌, ◌≤◌, Bool, true, false, not, ◌&&◌, nat_eq, bit_and, refl, sym, ◌∙◌, ap, arith, ⊎_elim}
+use Rattle.std.proofs.lemmas.Grind.{common_steps}
 use Rattle.std.specs.Int.{bit_at, trailing_zeros, w64, w128}
 use Rattle.std.proofs.Math.Bool.{and-false}
 use Rattle.std.proofs.Math.Nat.{add-mul, mod-lt}
-use Rattle.std.proofs.lemmas.Bool.{both_ways, cases_eq, cases_lt, eq-eqb, eqb-true, ne_eqb}
+use Rattle.std.proofs.lemmas.Bool.{both_ways, cases_eq, cases_lt, eq-eqb, ne_eqb}
 use Rattle.std.proofs.lemmas.Nat.{and_le_r, div-add-mod', pow_pos}
 use Rattle.std.proofs.lemmas.Nat.Bits.{bit_at-suc, bit_at-trailing_zeros, bit_at_cat_high, bit_at_lowest}
 use Rattle.bit_sets.specs.Sets.{has_bit}
@@ -37,32 +38,21 @@ low-zero set row none =
 
 is-moved : (set row : ℕ) → IsLowest set row → IsMoved set row
 is-moved set row lowest =
-    let high : set / 2 ^ row % 2 ≡ 1 = eqb-true (bit_at set row) 1 lowest.has in
     let low = low-zero set row lowest.none in
     let whole : set / 2 ^ row * 2 ^ row + set % 2 ^ row ≡ set = div-add-mod' set (2 ^ row) in
-    let odd : set / 2 ^ row ≡ 2 * (set / 2 ^ row / 2) + 1 = omega arith in
-    record {
-      half = set / 2 ^ row / 2;
-      is = sym whole ∙ ap (λ r. set / 2 ^ row * 2 ^ row + r) low ∙ ap (λ h. h * 2 ^ row + 0) odd;
-    }
+    grind arith
 
 pub lowest-less : (set : ℕ) → 0 < set → bit_and set (set - 1) < set
 lowest-less set some = let fewer = and_le_r set (set - 1) in omega arith
 
 one-before : (half room : ℕ) → 0 < room → (2 * half + 1) * room + 0 - 1 ≡ 2 * half * room + (room - 1)
-one-before half room some =
-    let parts : (2 * half + 1) * room ≡ 2 * half * room + 1 * room = add-mul (2 * half) 1 room in
-    omega arith
+one-before half room some = grind (arith, add-mul)
 
 same-behind : (half j : ℕ) → bit_at (2 * half + 1) (suc j) ≡ bit_at (2 * half) (suc j)
-same-behind half j =
-    let one : (2 * half + 1) / 2 ≡ half = omega arith in
-    let other : 2 * half / 2 ≡ half = omega arith in
-    bit_at-suc (2 * half + 1) j ∙ ap (λ h. bit_at h j) (one ∙ sym other) ∙ sym (bit_at-suc (2 * half) j)
+same-behind half j = grind (arith, bit_at-suc)
 
 other-bit : (a b c : Bool) → a ≡ b → (a && b) ≡ a
-other-bit true b c same = sym same
-other-bit false b c same = refl
+other-bit a b c same = grind arith
 
 -- what `set & (set - 1)` has
 pub has_bit-without_lowest : (set row : ℕ) → IsLowest set row → (i : ℕ) → has_bit (bit_and set (set - 1)) i ≡ (not (nat_eq row i) && has_bit set i)
@@ -74,19 +64,12 @@ has_bit-without_lowest set row lowest i =
     let low : 2 ^ row - 1 < 2 ^ row = omega arith in
     has_bit-and set (set - 1) i
     ∙ ⊎_elim
-    (λ (before : i < row).
-    let no = lowest.none i before in
-    let apart : nat_eq row i ≡ false = ne_eqb row i (λ (e : row ≡ i). omega arith) in
-    rw (no, apart) refl)
+    (λ (before : i < row). grind (arith, common_steps, ne_eqb))
     (λ (from : row ≤ i).
     let one : bit_at set i ≡ bit_at (2 * h + 1) (i - row) = ap (λ m. bit_at m i) moved.is ∙ bit_at_cat_high (2 * h + 1) row 0 i (omega arith) from in
     let other : bit_at (set - 1) i ≡ bit_at (2 * h) (i - row) = ap (λ m. bit_at m i) less ∙ bit_at_cat_high (2 * h) row (2 ^ row - 1) i low from in
     ⊎_elim
-    (λ (same : row ≡ i).
-    let here : nat_eq row i ≡ true = eq-eqb row i same in
-    let at : i - row ≡ 0 = omega arith in
-    let gone : bit_at (set - 1) i ≡ 0 = other ∙ ap (bit_at (2 * h)) at ∙ even h in
-    rw here (ap (λ b. has_bit set i && b) (rw gone refl) ∙ and-false (has_bit set i)))
+    (λ (same : row ≡ i). grind (arith, eq-eqb, even, and-false))
     (λ (apart : row ≢ i).
     let there : nat_eq row i ≡ false = ne_eqb row i apart in
     let next : i - row ≡ suc (i - row - 1) = omega arith in
@@ -106,8 +89,4 @@ not-first set less row i made out apart = sym (ap (λ b. not b && has_bit set i)
 
 -- no row of a set is before its first one
 pub from-first : (set row i : ℕ) → ((j : ℕ) → j < row → has_bit set j ≡ false) → has_bit set i ≡ true → row ≤ i
-from-first set row i none in' =
-    ⊎_elim
-    (λ (less : i < row). absurd (both_ways (has_bit set i) (none i less) in'))
-    (λ (from : row ≤ i). from)
-    (cases_lt i row)
+from-first set row i none in' = grind (arith, both_ways, cases_lt)

@@ -1,36 +1,16 @@
 -- Sets that are made of a test: what such a set has, and that a set is what it has.
-use Rattle.std.proofs.Common.{◌≡◌, ◌≢◌, ℕ, zero, suc, ◌+◌, ◌-◌, ◌*◌, ◌^◌, ◌<◌, ◌≤◌, Bool, true, false, not, ◌&&◌, nat_eq, nat_lt, if◌then◌else◌, sym, ◌∙◌, ap, arith, ⊎_elim}
-use Rattle.std.specs.Int.{bit_at}
-use Rattle.std.proofs.Math.Nat.{two-pow-succ}
-use Rattle.std.proofs.lemmas.Bool.{and_parts, cases_eq, cases_lt, lt-ltb}
+use Rattle.std.proofs.Common.{◌≡◌, ℕ, zero, suc, ◌+◌, ◌*◌, ◌^◌, ◌<◌, Bool, true, false, not, ◌&&◌, nat_eq, nat_lt, if◌then◌else◌, sym, ◌∙◌, ap, arith}
+use Rattle.std.proofs.lemmas.Bool.{and_parts, cases_lt, lt-ltb}
 use Rattle.std.proofs.lemmas.Bool.Decides.{nat_tests}
 use Rattle.std.proofs.lemmas.Nat.{pow_pos}
-use Rattle.std.proofs.lemmas.Nat.Bits.{bit_at-lt, bit_at-zero, bit_at_above, bit_at_cat_low, bit_at_cat_high, bit_at_lowest, same_from_bits_below}
+use Rattle.std.proofs.lemmas.Nat.Bits.{bit_at-zero, bit_at_cat_low, bit_at_cat_high, same_from_bits_below}
 use Rattle.bit_sets.specs.Sets.{has_bit, sum_where, set_of}
 use Rattle.bit_sets.proofs.Bits.{bit_at-out, has_bit-above, has_bit-none}
 use Rattle.bit_sets.proofs.Sums.{sum_where-less, sum_where-none, sum_where-same}
 
--- the last number is in, and none behind it
-has_bit-last : (n s whole rest : ℕ) → bit_at whole s ≡ bit_at 1 (s - n) → has_bit rest s ≡ false → n ≤ s → has_bit whole s ≡ (if nat_eq s n then true else has_bit rest s)
-has_bit-last n s whole rest bit none high =
-    ⊎_elim
-    (λ (same : s ≡ n). let one = bit_at_lowest 1 in let at : s - n ≡ 0 = omega arith in let bit' = rw at at bit in grind (arith, nat_tests))
-    (λ (other : s ≢ n). let zero' = bit_at_above 1 1 (s - n) (omega arith) (omega arith) in grind (arith, nat_tests))
-    (cases_eq s n)
-
 -- a set with one more at its end
 has_bit-next : (b : Bool) (n rest s : ℕ) → rest < 2 ^ n → has_bit ((if b then 1 else 0) * 2 ^ n + rest) s ≡ (if nat_eq s n then b else has_bit rest s)
-has_bit-next b n rest s below =
-    ⊎_elim
-    (λ (low : s < n). let bit = bit_at_cat_low (if b then 1 else 0) n rest s low in grind (arith, nat_tests))
-    (λ (high : n ≤ s).
-    let bit = bit_at_cat_high (if b then 1 else 0) n rest s below high in
-    let none = has_bit-above rest n s below high in
-    elim b as (λ v. bit_at ((if v then 1 else 0) * 2 ^ n + rest) s ≡ bit_at (if v then 1 else 0) (s - n) → has_bit ((if v then 1 else 0) * 2 ^ n + rest) s ≡ (if nat_eq s n then v else has_bit rest s)) [
-      | true ↦ λ bit. has_bit-last n s (1 * 2 ^ n + rest) rest bit none high
-      | false ↦ λ bit. let zero' = bit_at-zero (s - n) in grind (arith, nat_tests)
-    ] bit)
-    (cases_lt s n)
+has_bit-next b n rest s below = grind (arith, bit_at_cat_low, nat_tests, bit_at_cat_high, has_bit-above, bit_at-zero, cases_lt)
 
 set_of-next : (n : ℕ) (p : ℕ → Bool) → set_of (suc n) p ≡ (if p n then 1 else 0) * 2 ^ n + set_of n p
 unfolding set_of sum_where
@@ -41,16 +21,11 @@ pub set_of-below : (n : ℕ) (p : ℕ → Bool) → set_of n p < 2 ^ n
 unfolding set_of sum_where
 set_of-below zero p = omega arith
 set_of-below (suc n) p =
-    let double = two-pow-succ n in
     let low = set_of-below n p in
     elim (p n) as (λ b. sum_where n p (λ bit. 2 ^ bit) + (if b then 2 ^ n else 0) < 2 ^ suc n) [ true ↦ omega arith | false ↦ omega arith ]
 
 passes_next : (n : ℕ) (p : ℕ → Bool) (s : ℕ) (low : Bool) → low ≡ (nat_lt s n && p s) → (if nat_eq s n then p n else low) ≡ (nat_lt s (suc n) && p s)
-passes_next n p s low is =
-    ⊎_elim
-    (λ (same : s ≡ n). rw same (grind (arith, nat_tests)))
-    (λ (other : s ≢ n). grind (arith, nat_tests))
-    (cases_eq s n)
+passes_next n p s low is = grind (arith, nat_tests)
 
 -- a set made of a test has what is below `n` and passes it
 pub has_bit-set_of : (n : ℕ) (p : ℕ → Bool) (s : ℕ) → has_bit (set_of n p) s ≡ (nat_lt s n && p s)
@@ -76,8 +51,6 @@ set_of-has_bit n set below =
     same_from_bits_below n set (set_of n (has_bit set)) below (set_of-below n (has_bit set))
     (λ s low.
     let same = has_bit-set_of n (has_bit set) s in
-    let one = bit_at-lt set s in
-    let other = bit_at-lt (set_of n (has_bit set)) s in
     grind (arith, nat_tests))
 
 -- two tests that agree below `n` give one set
@@ -108,5 +81,4 @@ without-less n set rest k within low small has without =
     let part = set_of-has_bit n rest small in
     let less = sum_where-less n k (has_bit rest) (has_bit set) (λ bit. 2 ^ bit) within (let is = without k in grind (arith, nat_tests)) has
     (λ s _ in_rest. let is = without s in grind (arith, nat_tests)) in
-    let some = pow_pos k in
-    rw (whole, part) (omega arith)
+    grind (arith, pow_pos)

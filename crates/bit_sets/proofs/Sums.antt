@@ -17,8 +17,7 @@ unfolding sum_where
 sum_where-same zero p q f same = refl
 sum_where-same (suc n) p q f same =
     let rest = sum_where-same n p q f (λ s below. same s (omega arith)) in
-    let last = same n (omega arith) in
-    cc
+    grind arith
 
 -- and so do two functions that agree on what passes
 pub sum_where-costs : (n : ℕ) (p : ℕ → Bool) (f g : ℕ → ℕ) → ((s : ℕ) → s < n → p s ≡ true → f s ≡ g s) → sum_where n p f ≡ sum_where n p g
@@ -26,12 +25,10 @@ unfolding sum_where
 sum_where-costs zero p f g same = refl
 sum_where-costs (suc n) p f g same =
     let rest = sum_where-costs n p f g (λ s below. same s (omega arith)) in
-    let last = here (p n) (same n (omega arith)) in
-    omega (arith, rest, last)
+    grind (arith, here)
   where
     here : (b : Bool) → (b ≡ true → f n ≡ g n) → (if b then f n else 0) ≡ (if b then g n else 0)
-    here true same = same refl
-    here false same = refl
+    here b same = grind arith
 
 -- nothing passes
 pub sum_where-none : (n : ℕ) (p : ℕ → Bool) (f : ℕ → ℕ) → ((s : ℕ) → s < n → p s ≡ false) → sum_where n p f ≡ 0
@@ -39,8 +36,7 @@ unfolding sum_where
 sum_where-none zero p f none = refl
 sum_where-none (suc n) p f none =
     let rest = sum_where-none n p f (λ s below. none s (omega arith)) in
-    let last : (if p n then f n else 0) ≡ 0 = ap (λ (b : Bool). if b then f n else 0) (none n (omega arith)) in
-    omega arith
+    grind arith
 
 -- how many there are
 pub sum_where-count : (n : ℕ) → sum_where n (λ _. true) (λ _. 1) ≡ n
@@ -54,13 +50,10 @@ unfolding sum_where
 sum_where-most zero most p f each = omega arith
 sum_where-most (suc n) most p f each =
     let rest = sum_where-most n most p f (λ s below. each s (omega arith)) in
-    let last = step (p n) (f n) (each n (omega arith)) in
-    let more : suc n * most ≡ n * most + most = omega arith in
-    omega arith
+    grind (arith, step)
   where
     step : (b : Bool) (x : ℕ) → x ≤ most → (if b then x else 0) ≤ most
-    step true x few = few
-    step false x few = omega arith
+    step b x few = grind arith
 
 -- a function that gives no more on what passes gives no greater sum
 pub sum_where-fewer : (n : ℕ) (p : ℕ → Bool) (f g : ℕ → ℕ) → ((s : ℕ) → s < n → p s ≡ true → f s ≤ g s) → sum_where n p f ≤ sum_where n p g
@@ -72,8 +65,7 @@ sum_where-fewer (suc n) p f g fewer =
     omega arith
   where
     step : (b : Bool) (x y : ℕ) → (b ≡ true → x ≤ y) → (if b then x else 0) ≤ (if b then y else 0)
-    step true x y less = less refl
-    step false x y less = omega arith
+    step b x y less = grind arith
 
 -- the sum of two functions
 pub sum_where-add : (n : ℕ) (p : ℕ → Bool) (f g h : ℕ → ℕ) → ((s : ℕ) → s < n → h s ≡ f s + g s)
@@ -86,8 +78,7 @@ sum_where-add (suc n) p f g h each =
     omega arith
   where
     step : (b : Bool) (x y z : ℕ) → x ≡ y + z → (if b then x else 0) ≡ (if b then y else 0) + (if b then z else 0)
-    step true x y z is = is
-    step false x y z is = refl
+    step b x y z is = grind arith
 
 -- a function that gives something at one number alone
 pub sum_where-one : (n k x : ℕ) (p : ℕ → Bool)
@@ -111,8 +102,7 @@ sum_where-one (suc n) k x p =
     (cases_eq k n)
   where
     nothing : (b : Bool) (y : ℕ) → y ≡ 0 → (if b then y else 0) ≡ 0
-    nothing true y none = none
-    nothing false y none = refl
+    nothing b y none = grind arith
 
 -- one that passes is left out
 pub sum_where-without : (n k : ℕ) (p q : ℕ → Bool) (f : ℕ → ℕ) → k < n → p k ≡ true → q k ≡ false
@@ -121,11 +111,7 @@ unfolding sum_where
 sum_where-without zero k p q f within has lacks others = absurd (omega arith)
 sum_where-without (suc n) k p q f within has lacks others =
     ⊎_elim
-    (λ (here : k ≡ n).
-    let front = sum_where-same n q p f (λ s below. others s (omega arith) (λ same. omega arith)) in
-    let one : (if p n then f n else 0) ≡ f k = rw (sym here, has) refl in
-    let none : (if q n then f n else 0) ≡ 0 = rw (sym here, lacks) refl in
-    omega arith)
+    (λ (here : k ≡ n). grind (arith, sum_where-same, here))
     (λ (there : k ≢ n).
     let front = sum_where-without n k p q f (omega arith) has lacks (λ s below. others s (omega arith)) in
     let last : (if q n then f n else 0) ≡ (if p n then f n else 0)
@@ -161,10 +147,7 @@ sum_where-le (suc n) p q f wider =
     omega arith
   where
     step : (a b : Bool) (x : ℕ) → (a ≡ true → b ≡ true) → (if a then x else 0) ≤ (if b then x else 0)
-    step true true x both = omega arith
-    step true false x both = absurd (let wrong = both refl in cc)
-    step false true x both = omega arith
-    step false false x both = omega arith
+    step a b x both = grind arith
 
 -- what passes the wider test alone adds its own
 pub sum_where-less : (n k : ℕ) (p q : ℕ → Bool) (f : ℕ → ℕ) → k < n → p k ≡ false → q k ≡ true → ((s : ℕ) → s < n → p s ≡ true → q s ≡ true)
@@ -178,9 +161,7 @@ sum_where-less n k p q f within lacks has wider =
     at s same = ap q (sym (eqb-true k s same)) ∙ has
 
     either : (a b c : Bool) → (a || b) ≡ true → (b ≡ true → c ≡ true) → (a ≡ true → c ≡ true) → c ≡ true
-    either true b c one left right = right refl
-    either false true c one left right = left refl
-    either false false c one left right = absurd (cc)
+    either a b c one left right = grind arith
 
 -- two tests that nothing passes together
 pub sum_where-or : (n : ℕ) (p q : ℕ → Bool) (f : ℕ → ℕ) → ((s : ℕ) → p s ≡ true → q s ≡ false) → sum_where n p f + sum_where n q f ≡ sum_where n (λ s. p s || q s) f
@@ -192,7 +173,4 @@ sum_where-or (suc n) p q f apart =
     omega arith
   where
     step : (a b : Bool) (x : ℕ) → (a ≡ true → b ≡ false) → (if a then x else 0) + (if b then x else 0) ≡ (if a || b then x else 0)
-    step true true x apart = absurd (let wrong = apart refl in cc)
-    step true false x apart = omega arith
-    step false true x apart = omega arith
-    step false false x apart = omega arith
+    step a b x apart = grind arith

@@ -19,8 +19,8 @@ use std::alloc::{AllocError, Global};
 /// The placed entries at a place of a history, but for those that nothing later asks for.
 #[derive(Drop, Debug)]
 pub struct Entries {
-    /// Those that were not over when the last change was accepted, and the last one of each slot. No other can have an
-    /// instance to send any more, or be in the way of a later change.
+    /// Each accepted change drops those that are over by the next cycle of that time and that another one of their slot
+    /// follows. None of them has an instance to send any more, or is in the way of a later change.
     kept: Vec<Placed>,
 }
 

@@ -1,5 +1,5 @@
 -- What holds of the operations of a change that breaks no rule.
-use Rattle.std.proofs.Common.{◌≡◌, ◌≢◌, ℕ, ◌<◌, ◌≤◌, Bool, true, false, ◌||◌, nat_eq, nat_lt, nat_le, Option, Some, None, IfSome, IsSomeAnd, is_none, List, [], ◌∷◌, ◌++◌, length, map, All, AllPairs, append_assoc, refl, append-nil, arith}
+use Rattle.std.proofs.Common.{◌≡◌, ◌≢◌, ℕ, ◌<◌, ◌≤◌, Bool, false, ◌||◌, nat_eq, nat_lt, nat_le, Option, None, IfSome, IsSomeAnd, List, [], ◌∷◌, ◌++◌, length, map, All, AllPairs, append_assoc, refl, append-nil, arith}
 use Rattle.std.specs.List.{list_any}
 use Rattle.std.specs.Option.{option_map_or}
 use Rattle.std.proofs.lemmas.Bool.{eqb-false, leb-false, or_parts}
@@ -15,7 +15,7 @@ use Rattle.change_protocol.specs.declared.operations.Change.{Change as TableChan
 use Rattle.change_protocol.specs.declared.malformed.Why.{Why}
 use Rattle.change_protocol.specs.Operations.{entry_of, slot_of}
 use Rattle.change_protocol.specs.Applied.{free_in, live_in}
-use Rattle.change_protocol.specs.Malformed.{Bounds, IsWellFormed, add_busy_by, bounds_of, broken, change_faults, deadline_range, end_busy_by, length_range, node_unknown, op_faults, period_zero, slot_busy, slot_empty, slot_range, slot_twice, where_holds, whys}
+use Rattle.change_protocol.specs.Malformed.{Bounds, IsWellFormed, bounds_of, broken, op_faults, slot_busy, slot_empty, where_holds, whys}
 
 -- the slot has a live entry that does not begin behind the start
 abbrev pub CanEnd : List Placed → ℕ → ℕ → Type 0
@@ -51,31 +51,15 @@ none-mapped f [] e = refl
 none-mapped f (x ∷ xs) e = absurd (cc)
 
 pub not-held : (test : Bool) (why : Why) → where_holds test why ≡ [] → test ≡ false
-not-held false why e = refl
-not-held true why e = absurd (cc)
+not-held test why e = grind arith
 
 sound : (placed_entry : Option Entry) → option_map_or (λ entry. nat_lt 8 entry.length) placed_entry false ≡ false
     → option_map_or (λ entry. nat_eq entry.deadline 0 || nat_lt entry.period entry.deadline) placed_entry false ≡ false
     → IfSome placed_entry IsSound
-sound None short in_time = tt
-sound (Some entry) short in_time = record {
-  length = grind (arith, nat_tests);
-  some_time = grind (arith, nat_tests);
-  deadline = grind (arith, nat_tests);
-}
-
-add-fits : (live : Option Placed) (free start : ℕ) → add_busy_by live free start ≡ [] → (live ≡ None) × (free ≤ start)
-add-fits None free start e = let test = not-held _ _ e in (refl, grind (arith, nat_tests))
-add-fits (Some p) free start e = absurd (cc)
-
-end-fits : (live : Option Placed) (start : ℕ) (why : Why) → end_busy_by live start ≡ [] → where_holds (is_none live) why ≡ [] → IsSomeAnd live (λ p. p.origin ≤ start)
-end-fits None start why busy empty = absurd (cc)
-end-fits (Some p) start why busy empty = let test = not-held _ _ busy in grind (arith, nat_tests)
+sound placed_entry short in_time = grind (arith, nat_tests)
 
 fits : (placed : List Placed) (start : ℕ) (op : Op) → slot_busy placed start op ≡ [] → slot_empty placed op ≡ [] → FitsIn placed start op
-fits placed start (Add entry) busy empty = add-fits (live_in placed entry.slot) (free_in placed entry.slot) start busy
-fits placed start (Remove slot) busy empty = end-fits (live_in placed slot) start _ busy empty
-fits placed start (Change entry) busy empty = end-fits (live_in placed entry.slot) start _ busy empty
+fits placed start op busy empty = grind arith
 
 none-passes : {X : Type 0} (test : X → Bool) (xs : List X) → list_any test xs ≡ false → All (λ x. test x ≡ false) xs
 none-passes test [] none = All-nil (λ x. test x ≡ false)
@@ -83,29 +67,11 @@ none-passes test (x ∷ xs) none =
     All-cons (λ x. test x ≡ false) x xs (or_parts (test x) (list_any test xs) none).0 (none-passes test xs (or_parts (test x) (list_any test xs) none).1)
 
 known : (nodes : ℕ) (placed_entry : Option Entry) → option_map_or (λ entry. nat_le nodes entry.node) placed_entry false ≡ false → IfSome placed_entry (λ entry. entry.node < nodes)
-known nodes None test = tt
-known nodes (Some entry) test = leb-false nodes entry.node test
+known nodes placed_entry test = grind (arith, leb-false)
 
 -- what no fault of an operation says of it
 allowed-at : (placed : List Placed) (bounds : Bounds) (start : ℕ) (earlier : List Op) (op : Op) → whys placed bounds start earlier op ≡ [] → IsAllowed bounds.slots placed start op × All (λ other. Differ other op) earlier × IfSome (entry_of op) (λ entry. entry.node < bounds.nodes)
-allowed-at placed bounds start earlier op none =
-    let upto_busy = both-none (slot_range bounds.slots op ++ slot_twice earlier op ++ node_unknown bounds.nodes op ++ length_range op ++ period_zero op ++ deadline_range op ++ slot_busy placed start op) (slot_empty placed op) none in
-    let upto_deadline = both-none (slot_range bounds.slots op ++ slot_twice earlier op ++ node_unknown bounds.nodes op ++ length_range op ++ period_zero op ++ deadline_range op) (slot_busy placed start op) upto_busy.0 in
-    let upto_period = both-none (slot_range bounds.slots op ++ slot_twice earlier op ++ node_unknown bounds.nodes op ++ length_range op ++ period_zero op) (deadline_range op) upto_deadline.0 in
-    let upto_length = both-none (slot_range bounds.slots op ++ slot_twice earlier op ++ node_unknown bounds.nodes op ++ length_range op) (period_zero op) upto_period.0 in
-    let upto_node = both-none (slot_range bounds.slots op ++ slot_twice earlier op ++ node_unknown bounds.nodes op) (length_range op) upto_length.0 in
-    let upto_twice = both-none (slot_range bounds.slots op ++ slot_twice earlier op) (node_unknown bounds.nodes op) upto_node.0 in
-    let upto_range = both-none (slot_range bounds.slots op) (slot_twice earlier op) upto_twice.0 in
-    let range : nat_le bounds.slots (slot_of op) ≡ false = not-held _ _ upto_range.0 in (
-      record {
-        slot = leb-false bounds.slots (slot_of op) range;
-        entry = sound (entry_of op) (not-held _ _ upto_node.1) (not-held _ _ upto_period.1);
-        fits = fits placed start op upto_deadline.1 upto_busy.1;
-      },
-      All-weaker (λ other. nat_eq (slot_of other) (slot_of op) ≡ false) (λ other. Differ other op) (λ other no. eqb-false (slot_of other) (slot_of op) no) earlier
-          (none-passes (λ other. nat_eq (slot_of other) (slot_of op)) earlier (not-held _ _ upto_range.1)),
-      known bounds.nodes (entry_of op) (not-held _ _ upto_twice.1),
-    )
+allowed-at placed bounds start earlier op none = grind (arith, both-none, not-held, leb-false, sound, fits, eqb-false, none-passes, known)
 
 -- where no operation breaks a rule, each is allowed
 pub all-allowed : (placed : List Placed) (bounds : Bounds) (start : ℕ) (earlier ops : List Op) → op_faults placed bounds start earlier ops ≡ [] → All (IsAllowed bounds.slots placed start) ops
@@ -118,8 +84,7 @@ all-allowed placed bounds start earlier (op ∷ ops) none =
 
 -- and each finds the live entry that it ends
 not-empty : (placed : List Placed) (bounds : Bounds) (start : ℕ) (earlier : List Op) (op : Op) → whys placed bounds start earlier op ≡ [] → slot_empty placed op ≡ []
-not-empty placed bounds start earlier op none =
-    (both-none (slot_range bounds.slots op ++ slot_twice earlier op ++ node_unknown bounds.nodes op ++ length_range op ++ period_zero op ++ deadline_range op ++ slot_busy placed start op) (slot_empty placed op) none).1
+not-empty placed bounds start earlier op none = grind (arith, both-none)
 
 pub all-live : (placed : List Placed) (bounds : Bounds) (start : ℕ) (earlier ops : List Op) → op_faults placed bounds start earlier ops ≡ [] → All (λ op. slot_empty placed op ≡ []) ops
 all-live placed bounds start earlier [] none = All-nil (λ op. slot_empty placed op ≡ [])
@@ -150,19 +115,13 @@ all-known placed bounds start earlier (op ∷ ops) none =
 -- and where there are at most as many slots as a set of slots has room for, their slots have room
 pub allowed-most : (placed : List Placed) (bounds : Bounds) (start : ℕ) (ops : List Op) → bounds.slots ≤ most_slots → op_faults placed bounds start [] ops ≡ [] → All (IsAllowed most_slots placed start) ops
 allowed-most placed bounds start ops room none =
-    All-weaker (IsAllowed bounds.slots placed start) (IsAllowed most_slots placed start) (λ op allowed. record {
-      slot = let low = allowed.slot in omega arith;
-      entry = allowed.entry;
-      fits = allowed.fits;
-    }) ops (all-allowed placed bounds start [] ops none)
+    All-weaker (IsAllowed bounds.slots placed start) (IsAllowed most_slots placed start) (λ op allowed.
+    grind (arith, fits)) ops (all-allowed placed bounds start [] ops none)
 
 -- so each slot of a well formed change has room
 pub formed-slots : (placed : List Placed) (nodes slots : ℕ) (change : TableChange) → slots ≤ most_slots → IsWellFormed placed (bounds_of nodes slots) change → All (λ op. slot_of op < most_slots) change.ops
-formed-slots placed nodes slots change room formed =
-    All-weaker (IsAllowed most_slots placed change.start) (λ op. slot_of op < most_slots) (λ op allowed. allowed.slot) change.ops
-    (allowed-most placed (bounds_of nodes slots) change.start change.ops room (both-none (change_faults change.start change.ops) _ formed).1)
+formed-slots placed nodes slots change room formed = grind (arith, allowed-most, both-none)
 
 -- and each operation finds the live entry that it ends
 pub formed-live : (placed : List Placed) (nodes slots : ℕ) (change : TableChange) → IsWellFormed placed (bounds_of nodes slots) change → All (λ op. slot_empty placed op ≡ []) change.ops
-formed-live placed nodes slots change formed =
-    all-live placed (bounds_of nodes slots) change.start [] change.ops (both-none (change_faults change.start change.ops) _ formed).1
+formed-live placed nodes slots change formed = grind (arith, all-live, both-none)

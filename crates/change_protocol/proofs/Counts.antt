@@ -1,8 +1,6 @@
 -- Where the last entry of each slot stands: numbers that are kept over changes.
-use Rattle.std.proofs.Common.{◌≡◌, ℕ, zero, suc, ◌+◌, ◌<◌, ◌≤◌, Bool, true, false, ◌&&◌, if◌then◌else◌, Option, Some, None, IfSome, is_none, List, [], ◌∷◌, ◌++◌, length, get_or, set, map, take, replicate, refl, sym, ap, subst, ◌∙◌, ⊎_elim, arith}
-use Rattle.std.specs.List.{list_any}
+use Rattle.std.proofs.Common.{◌≡◌, ℕ, zero, suc, ◌+◌, ◌<◌, ◌≤◌, true, false, Option, Some, None, IfSome, is_none, List, [], ◌∷◌, ◌++◌, length, get_or, set, map, take, replicate, refl, sym, ap, subst, ◌∙◌, arith}
 use Rattle.std.proofs.Math.Seq.{take-append_seam, take-length}
-use Rattle.std.proofs.lemmas.Bool.{cases_Bool}
 use Rattle.std.proofs.lemmas.List.{length-map, length-take-le, take_more}
 use Rattle.requirement_table.specs.declared.entries.Entry.{Entry}
 use Rattle.requirement_table.specs.declared.entries.Placed.{Placed}
@@ -12,7 +10,7 @@ use Rattle.change_protocol.specs.declared.operations.Op.{Op}
 use Rattle.change_protocol.specs.declared.operations.Op.TheVariants.{Change, Remove}
 use Rattle.change_protocol.specs.declared.slots.SlotUse.{SlotUse}
 use Rattle.change_protocol.specs.Applied.{ended, live_in}
-use Rattle.change_protocol.specs.Operations.{ends, slot_of}
+use Rattle.change_protocol.specs.Operations.{slot_of}
 use Rattle.change_protocol.specs.Slots.{AreUpToLast, EndsAt, FindsOnly, IsCounted, IsLastAt, counts_behind, counts_of, ended_by}
 use Rattle.change_protocol.proofs.Allowed.{not-held}
 use Rattle.change_protocol.proofs.Ends.{finds-live, finds-none}
@@ -26,9 +24,7 @@ behind-push before counts (q ∷ placed) p =
 
 -- one entry more
 pub counts-push : (placed : List Placed) (p : Placed) → counts_of (placed ++ p ∷ []) ≡ set (counts_of placed) p.entry.slot (length placed + 1)
-counts-push placed p =
-    behind-push 0 (replicate most_slots 0) placed p
-    ∙ ap (λ (n : ℕ). set (counts_of placed) p.entry.slot (n + 1)) (omega arith)
+counts-push placed p = grind (arith, behind-push, replicate)
 
 -- the same in the loop over the entries
 pub counts-next : (placed : List Placed) (i : ℕ) (d : Placed) (counts : List ℕ) → i < length placed → counts ≡ counts_of (take i placed)
@@ -58,11 +54,7 @@ up-to-last placed counts is =
     (rw (is.counted, ap counts_of (sym (take-length placed))) (up-to placed (length placed) is.well_placed (omega arith)))
 
 ended-slot : (start : ℕ) (ops : List Op) (p : Placed) → (ended start ops p).entry.slot ≡ p.entry.slot
-ended-slot start ops p =
-    ⊎_elim
-    (λ (yes : (is_none p.end && list_any (ends p.entry.slot) ops) ≡ true). rw yes refl)
-    (λ (no : (is_none p.end && list_any (ends p.entry.slot) ops) ≡ false). rw no refl)
-    (cases_Bool (is_none p.end && list_any (ends p.entry.slot) ops))
+ended-slot start ops p = grind (arith, is_none)
 
 ended-behind : (before : ℕ) (counts : List ℕ) (start : ℕ) (ops : List Op) (placed : List Placed) → counts_behind before counts (map (ended start ops) placed) ≡ counts_behind before counts placed
 ended-behind before counts start ops [] = refl
@@ -82,13 +74,7 @@ last-by placed slot counts (Some place) are low is = (are.each slot 0 low).last 
 
 -- a slot with a live entry: it is the last one
 live-last : (placed : List Placed) (slot place : ℕ) → IsLastAt placed slot place → is_none (live_in placed slot) ≡ false → is_none (get_or placed place no_entry).end ≡ true
-live-last placed slot place last live =
-    ⊎_elim
-    (λ (yes : is_none (get_or placed place no_entry).end ≡ true). yes)
-    (λ (no : is_none (get_or placed place no_entry).end ≡ false).
-    let none : live_in placed slot ≡ None = ap (λ (u : SlotUse). u.live) (last.makes no_entry) ∙ ap (λ (b : Bool). if b then Some (get_or placed place no_entry) else None) no in
-    absurd (let dead = ap is_none none in cc))
-    (cases_Bool (is_none (get_or placed place no_entry).end))
+live-last placed slot place last live = grind (arith, is_none, no_entry)
 
 -- it is found by the numbers alone
 pub ends-by : (placed : List Placed) (slot : ℕ) (counts : List ℕ) (found : Option ℕ) → IsCounted placed counts → slot < most_slots → is_none (live_in placed slot) ≡ false
@@ -103,8 +89,7 @@ ends-by placed slot counts (Some place) is low live none some =
 -- the same for each operation that ends an entry
 pub ends-removed : (counts : List ℕ) (op : Op) (slot : ℕ) (found : Option ℕ) → op ≡ Remove slot → slot_of op < most_slots
     → (found ≡ None → get_or counts slot 0 ≡ 0) → ((place : ℕ) → found ≡ Some place → get_or counts slot 0 ≡ place + 1) → EndsAt counts op found
-ends-removed counts op slot found is low none some =
-    rw is (λ placed counted live. ends-by placed slot counts found counted (rw is at low) (not-held _ _ live) none some)
+ends-removed counts op slot found is low none some = grind (arith, ends-by, not-held)
 
 pub ends-changed : (counts : List ℕ) (op : Op) (entry : Entry) (found : Option ℕ) → op ≡ Change entry → slot_of op < most_slots
     → (found ≡ None → get_or counts entry.slot 0 ≡ 0) → ((place : ℕ) → found ≡ Some place → get_or counts entry.slot 0 ≡ place + 1) → EndsAt counts op found
@@ -114,8 +99,4 @@ ends-changed counts op entry found is low none some =
 -- the numbers of the old entries after a change: those of the entries up to the first new one
 pub counts-before : (placed added list : List Placed) (start : ℕ) (ops : List Op) (counts : List ℕ) (before : ℕ) → counts ≡ counts_of placed → before ≡ length placed → list ≡ map (ended start ops) placed ++ added
     → counts ≡ counts_of (take before list)
-counts-before placed added list start ops counts before is long after =
-    let old = map (ended start ops) placed in
-    let same : length old ≡ before = length-map placed (ended start ops) ∙ sym long in
-    let front : take before list ≡ old = ap (λ (n : ℕ). take n list) (sym same) ∙ ap (λ (l : List Placed). take (length old) l) after ∙ take-append_seam old added in
-    is ∙ sym (counts-ended start ops placed) ∙ ap counts_of (sym front)
+counts-before placed added list start ops counts before is long after = grind (arith, length-map, take-append_seam, counts-ended)

@@ -1,5 +1,5 @@
 -- The ends that the operations of a change set, one operation after the other.
-use Rattle.std.proofs.Common.{◌≡◌, ◌≢◌, ℕ, ◌+◌, ◌<◌, ◌⊎◌, Bool, true, false, ◌&&◌, ◌||◌, nat_eq, cond, if◌then◌else◌, Option, Some, None, IfSome, is_none, is_some, not, List, [], ◌∷◌, ◌++◌, All, AllPairs, length, get_or, set, length-set, map, take, refl, sym, ap, ◌∙◌, ⊎_elim, arith}
+use Rattle.std.proofs.Common.{◌≡◌, ◌≢◌, ℕ, ◌+◌, ◌<◌, ◌⊎◌, Bool, true, false, ◌&&◌, ◌||◌, nat_eq, if◌then◌else◌, Option, Some, None, IfSome, is_none, List, [], ◌∷◌, ◌++◌, AllPairs, length, get_or, set, length-set, map, take, refl, sym, ap, ◌∙◌, ⊎_elim, arith}
 use Rattle.std.specs.List.{list_any}
 use Rattle.std.proofs.lemmas.Bool.{and_parts, cases_Bool, cases_eq, cases_order, eq-eqb, eqb-true}
 use Rattle.std.proofs.lemmas.Grind.{get_or-set_at}
@@ -9,49 +9,27 @@ use Rattle.requirement_table.specs.declared.entries.Placed.{Placed}
 use Rattle.requirement_table.specs.Table.{GoesBefore}
 use Rattle.change_protocol.specs.declared.operations.Op.{Op}
 use Rattle.change_protocol.specs.declared.operations.Op.TheVariants.{Remove}
-use Rattle.change_protocol.specs.declared.slots.SlotUse.{SlotUse}
 use Rattle.change_protocol.specs.Applied.{ended, live_in, lives_in}
 use Rattle.change_protocol.specs.Operations.{ends}
-use Rattle.change_protocol.specs.Slots.{FindsOnly, IsLastAt, IsOnlyAt, ended_by, use_of}
+use Rattle.change_protocol.specs.Slots.{FindsOnly, IsLastAt, IsOnlyAt, ended_by}
 use Rattle.change_protocol.proofs.Kept.{none-from_test}
 use Rattle.change_protocol.proofs.Live.{find-none}
 use Rattle.change_protocol.proofs.Uses.{no_entry}
 use Rattle.change_protocol.proofs.WellPlaced.{never-free}
 
-pub none-not : (o : Option ℕ) (b : Bool) → is_some o ≡ b → is_none o ≡ not b
-none-not None b is = ap not is
-none-not (Some x) b is = ap not is
-
 -- the place of a slot's live entry
 
 not-lives : (slot : ℕ) (p : Placed) → lives_in slot p ≡ false → ended_by (Remove slot) p ≡ false
-not-lives slot p dead =
-    ⊎_elim
-    (λ (yes : ended_by (Remove slot) p ≡ true).
-    let parts = and_parts (nat_eq slot p.entry.slot) (is_none p.end) yes in
-    let lives : lives_in slot p ≡ true = rw (eq-eqb p.entry.slot slot (sym (eqb-true slot p.entry.slot parts.0)), parts.1) refl in
-    absurd (cc))
-    (λ (no : ended_by (Remove slot) p ≡ false). no)
-    (cases_Bool (ended_by (Remove slot) p))
+not-lives slot p dead = grind (arith, and_parts, is_none, eq-eqb, eqb-true)
 
 pub finds-none : (placed : List Placed) (slot : ℕ) → live_in placed slot ≡ None → FindsOnly (ended_by (Remove slot)) placed None
 finds-none placed slot none k d within = not-lives slot (get_or placed k d) (find-none (lives_in slot) placed none k d within)
-
--- the slot's last entry has an end, so none of them is live
-pub finds-dead : (placed : List Placed) (slot place : ℕ) (e : Placed) → IsLastAt placed slot place → is_none (get_or placed place e).end ≡ false
-    → FindsOnly (ended_by (Remove slot)) placed None
-finds-dead placed slot place e last dead =
-    finds-none placed slot
-    (ap (λ (u : SlotUse). u.live) (last.makes e)
-    ∙ ap (λ (b : Bool). if b then Some (get_or placed place e) else None) dead)
 
 live-at : (placed : List Placed) (slot place : ℕ) → AllPairs GoesBefore placed → IsLastAt placed slot place
     → ((d : Placed) → (get_or placed place d).end ≡ None) → IsOnlyAt (ended_by (Remove slot)) placed place
 live-at placed slot place pairs last live = record {
   within = last.within;
-  holds = λ d.
-      let at = last.has d in
-      rw (eq-eqb slot (get_or placed place d).entry.slot (sym at), live d) refl;
+  holds = grind (arith, eq-eqb);
   others = λ k d within other.
       let p = get_or placed k d in
       let at = last.has d in
@@ -82,29 +60,18 @@ finds-live placed slot place e pairs last live =
 -- the place that is found is one of the list
 pub place-within : (placed list : List Placed) (start : ℕ) (ops : List Op) (test : Placed → Bool) (found : Option ℕ) → FindsOnly test placed found
     → list ≡ map (ended start ops) placed → IfSome found (λ k. k < length list)
-place-within placed list start ops test None finds before = tt
-place-within placed list start ops test (Some place) finds before =
-    let within = finds.within in
-    rw (before, length-map placed (ended start ops)) within
+place-within placed list start ops test found finds before = grind (arith, length-map)
 
 -- one operation more
 
 and-false : (b : Bool) → (b && false) ≡ false
-and-false true = refl
-and-false false = refl
+and-false b = grind arith
 
 tests-same : (ending none other : Bool) → (ending && none) ≡ false → (none && (other || (ending || false))) ≡ (none && other)
-tests-same true true other both = absurd (cc)
-tests-same true false other both = refl
-tests-same false true true both = refl
-tests-same false true false both = refl
-tests-same false false other both = refl
+tests-same ending none other both = grind arith
 
 tests-now : (ending none other : Bool) → (ending && none) ≡ true → (none && (other || (ending || false))) ≡ true
-tests-now true true true both = refl
-tests-now true true false both = refl
-tests-now true false other both = absurd (cc)
-tests-now false none other both = absurd (cc)
+tests-now ending none other both = grind arith
 
 any-more : (slot : ℕ) (ops : List Op) (op : Op) → list_any (ends slot) (ops ++ op ∷ []) ≡ (list_any (ends slot) ops || (ends slot op || false))
 any-more slot ops op = list_any-append (ends slot) ops (op ∷ [])
@@ -126,8 +93,7 @@ ended-now start ops op p now =
     ∙ tests-now (ends p.entry.slot op) (is_none p.end) (list_any (ends p.entry.slot) ops) now)
 
 end-again : (start : ℕ) (p : Placed) (b : Bool) → record (if b then record p { end = Some start } else p) { end = Some start } ≡ record p { end = Some start }
-end-again start p true = refl
-end-again start p false = refl
+end-again start p b = grind arith
 
 -- no operation sets no end
 pub none-ended : (start : ℕ) (placed : List Placed) → map (ended start []) placed ≡ placed

@@ -1,47 +1,35 @@
 -- The placed entries of a list after a change of it.
-use Rattle.std.proofs.Common.{◌≡◌, ℕ, zero, suc, ◌+◌, ◌-◌, ◌≤◌, Bool, true, false, ◌&&◌, if◌then◌else◌, Option, Some, None, IfSome, IsSomeAnd, is_none, List, [], ◌∷◌, ◌++◌, length, slice_get, map, All, refl, inl, inr, arith}
-use Rattle.std.specs.List.{list_any, filter_map}
+use Rattle.std.proofs.Common.{◌≡◌, ℕ, zero, suc, ◌+◌, ◌-◌, ◌≤◌, true, Option, Some, None, IfSome, IsSomeAnd, is_none, List, [], ◌∷◌, ◌++◌, length, slice_get, map, All, arith}
+use Rattle.std.specs.List.{filter_map}
 use Rattle.std.specs.Option.{option_map_or}
 use Rattle.std.proofs.lemmas.Bool.{and_parts}
 use Rattle.std.proofs.lemmas.Option.{IfSome_then, get_or_from_slice_get, same_Some, slice_get_within}
 use Rattle.requirement_table.specs.declared.entries.Placed.{Placed}
 use Rattle.requirement_table.specs.Table.{IsInRange}
 use Rattle.change_protocol.specs.declared.operations.Op.{Op}
-use Rattle.change_protocol.specs.declared.operations.Op.TheVariants.{Add, Remove, Change}
 use Rattle.change_protocol.specs.declared.operations.Change.{Change as TableChange}
-use Rattle.change_protocol.specs.Operations.{ends}
-use Rattle.change_protocol.specs.Applied.{IsChangedAt, IsKept, IsNewFrom, applied, ended, live_in, lives_in, origin_behind, placed_by}
+use Rattle.change_protocol.specs.Applied.{IsChangedAt, IsKept, IsNewFrom, applied, ended, live_in, lives_in, placed_by}
 use Rattle.change_protocol.proofs.Live.{find-kept}
 use Rattle.change_protocol.proofs.Pairs.{all-filter_map}
 
 pub none-from_test : (o : Option ℕ) → is_none o ≡ true → o ≡ None
-none-from_test None e = refl
-none-from_test (Some x) e = absurd (cc)
-
-kept-if : (b : Bool) (start : ℕ) (p : Placed) → (b ≡ true → p.end ≡ None) → IsKept start p (if b then record p { end = Some start } else p)
-kept-if false start p none = inl refl
-kept-if true start p none = inr (none refl, refl)
+none-from_test o e = grind arith
 
 pub ended-kept : (start : ℕ) (ops : List Op) (p : Placed) → IsKept start p (ended start ops p)
-ended-kept start ops p =
-    kept-if (is_none p.end && list_any (ends p.entry.slot) ops) start p
-    (λ both. none-from_test p.end (and_parts (is_none p.end) (list_any (ends p.entry.slot) ops) both).0)
+ended-kept start ops p = grind (arith, is_none, none-from_test, and_parts)
 
 changed-map : (start : ℕ) (ops : List Op) (old behind : List Placed) → All (IsNewFrom start) behind → IsChangedAt start old (map (ended start ops) old ++ behind)
 changed-map start ops [] behind new = new
 changed-map start ops (p ∷ old) behind new = (ended-kept start ops p, changed-map start ops old behind new)
 
 origin-after : (live : Option Placed) (start : ℕ) → IfSome live IsInRange → start ≤ option_map_or (λ p. start + p.entry.deadline - 1) live start
-origin-after None start range = omega arith
-origin-after (Some p) start range = let some_time = range.entry.some_time in omega arith
+origin-after live start range = grind arith
 
 pub live-in_range : (placed : List Placed) (slot : ℕ) → All IsInRange placed → IfSome (live_in placed slot) IsInRange
 live-in_range placed slot all = IfSome_then (live_in placed slot) (find-kept IsInRange (lives_in slot) placed all) (λ p both. both.0)
 
 placed-new : (placed : List Placed) (start : ℕ) → All IsInRange placed → (op : Op) → IfSome (placed_by placed start op) (IsNewFrom start)
-placed-new placed start all (Add entry) = record { after = omega arith; live = refl }
-placed-new placed start all (Remove slot) = tt
-placed-new placed start all (Change entry) = record { after = origin-after (live_in placed entry.slot) start (live-in_range placed entry.slot all); live = refl }
+placed-new placed start all op = grind (arith, origin-after, live-in_range)
 
 -- what a change makes of a list of placed entries came from it by a change with that start
 pub changed-applied : (placed : List Placed) (change : TableChange) → All IsInRange placed → IsChangedAt change.start placed (applied placed change)

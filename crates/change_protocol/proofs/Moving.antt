@@ -20,16 +20,11 @@ pub record IsMovedFrom (cycle : ℕ) (old list : List Placed) (first slots place
 -- an entry before the place is the one that was there
 pub kept-there : (cycle : ℕ) (old list : List Placed) (first slots place n : ℕ) (p : Placed) → place ≡ n + 1 → IsMovedFrom cycle old list first slots place
     → get_or list n p ≡ p → get_or old n p ≡ p
-kept-there cycle old list first slots place n p is moved at =
-    let within = moved.within in
-    let end = moved.end in
-    sym (get_or-take place old n p (omega arith)) ∙ ap (λ (l : List Placed). get_or l n p) (sym moved.front) ∙ get_or-take place list n p (omega arith) ∙ at
+kept-there cycle old list first slots place n p is moved at = grind (arith, get_or-take)
 
 pub range-there : (cycle : ℕ) (old list : List Placed) (first slots place n : ℕ) (p : Placed) → place ≡ n + 1 → IsMovedFrom cycle old list first slots place
     → get_or list n p ≡ p → All IsInRange old → IsInRange p
 range-there cycle old list first slots place n p is moved at range =
-    let within = moved.within in
-    let end = moved.end in
     subst (λ (q : Placed). IsInRange q) (kept-there cycle old list first slots place n p is moved at) (range n p (omega arith))
 
 -- one entry more is looked at
@@ -44,7 +39,6 @@ moved-more cycle old list new first next slots more place n p goes is moved at t
     let old_at = kept-there cycle old list first slots place n p is moved at in
     let behind : drop n old ≡ p ∷ drop place old =
     drop_more old n p (omega arith) ∙ ap (λ (q : Placed). q ∷ drop (n + 1) old) old_at ∙ ap (λ k. p ∷ drop k old) (sym is) in
-    let may : goes ≡ (is_over cycle p && has_slot p.entry.slot (drop place old)) = tested ∙ ap (λ b. is_over cycle p && b) (moved.has p.entry.slot) in
     record {
       within = omega arith;
       end = omega arith;
@@ -52,11 +46,7 @@ moved-more cycle old list new first next slots more place n p goes is moved at t
       front =
           sym (take-take n (first - 1) new (omega arith)) ∙ ap (take n) front ∙ take-take n (first - 1) list (omega arith)
           ∙ sym (take-take n place list (omega arith)) ∙ ap (take n) moved.front ∙ take-take n place old (omega arith);
-      kept =
-          kept
-          ∙ ap (λ (l : List Placed). if goes then l else p ∷ l) moved.kept
-          ∙ ap (λ (b : Bool). if b then pruned cycle (drop place old) else p ∷ pruned cycle (drop place old)) may
-          ∙ ap (pruned cycle) (sym behind);
+      kept = grind arith;
       has = λ slot.
           has slot
           ∙ ap (λ b. b || has_bit slots slot) (turned-eq slot p.entry.slot)

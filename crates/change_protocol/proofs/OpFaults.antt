@@ -1,5 +1,5 @@
 -- The rules that operations break, one operation after the other.
-use Rattle.std.proofs.Common.{◌≡◌, ℕ, ◌+◌, ◌<◌, suc, List, [], ◌∷◌, ◌++◌, length, length-take, get_or, take, drop, drop-cons, add-one, map, min, Option, Some, slice_get, refl, sym, ap, ◌∙◌, arith}
+use Rattle.std.proofs.Common.{◌≡◌, ℕ, ◌+◌, ◌<◌, List, [], ◌∷◌, ◌++◌, length, length-take, get_or, take, drop, drop-cons, add-one, map, Option, Some, slice_get, ap, ◌∙◌, arith}
 use Rattle.std.specs.Option.{option_map}
 use Rattle.std.proofs.lemmas.List.{take_more}
 use Rattle.requirement_table.specs.declared.entries.Placed.{Placed}
@@ -12,9 +12,7 @@ use Rattle.change_protocol.specs.Malformed.{Bounds, Broken, broken, op_faults, w
 faults-at : (placed : List Placed) (bounds : Bounds) (start : ℕ) (ops : List Op) (place : ℕ) (d : Op) → place < length ops
     → op_faults placed bounds start (take place ops) (drop place ops)
     ≡ map (broken place) (whys placed bounds start (take place ops) (get_or ops place d)) ++ op_faults placed bounds start (take (place + 1) ops) (drop (place + 1) ops)
-faults-at placed bounds start ops place d within =
-    let count : length (take place ops) ≡ place = length-take place ops ∙ omega arith in
-    rw (drop-cons ops place d within, take_more ops place d within, count, add-one place) refl
+faults-at placed bounds start ops place d within = grind (arith, length-take, drop-cons, take_more, add-one)
 
 first-mapped : (whys : List Why) (rest : List Broken) (place : ℕ) (why : Why) → IsFirst whys why → slice_get (map (broken place) whys ++ rest) 0 ≡ Some (broken place why)
 first-mapped [] rest place why is = absurd (let none = is.first in cc)

@@ -1,7 +1,7 @@
 -- What holds of all pairs of a list.
-use Rattle.std.proofs.Common.{◌≡◌, ℕ, zero, suc, ◌<◌, Option, Some, None, IfSome, List, [], ◌∷◌, ◌++◌, length, map, All, AllPairs, arith}
+use Rattle.std.proofs.Common.{zero, suc, Option, Some, None, IfSome, List, [], ◌∷◌, ◌++◌, map, All, AllPairs, arith}
 use Rattle.std.specs.List.{cons_option, filter_map}
-use Rattle.std.proofs.lemmas.List.Elements.{All-nil, All-cons, All-head, All-tail, All-append, All-map, All-weaker}
+use Rattle.std.proofs.lemmas.List.Elements.{All-nil, All-head, All-tail, All-append, All-map, All-weaker}
 
 pub pairs-head : {X : Type 0} (R : X → X → Type 0) (x : X) (xs : List X) → AllPairs R (x ∷ xs) → All (R x) xs
 pairs-head R x xs pairs k d within = pairs zero (suc k) d (omega arith) (omega arith)
@@ -13,10 +13,7 @@ pub pairs-nil : {X : Type 0} (R : X → X → Type 0) → AllPairs R []
 pairs-nil R i j d before within = absurd (omega arith)
 
 pub pairs-cons : {X : Type 0} (R : X → X → Type 0) (x : X) (xs : List X) → All (R x) xs → AllPairs R xs → AllPairs R (x ∷ xs)
-pairs-cons R x xs all pairs zero zero d before within = absurd (omega arith)
-pairs-cons R x xs all pairs zero (suc j) d before within = all j d (omega arith)
-pairs-cons R x xs all pairs (suc i) zero d before within = absurd (omega arith)
-pairs-cons R x xs all pairs (suc i) (suc j) d before within = pairs i j d (omega arith) (omega arith)
+pairs-cons R x xs h0 h1 = grind arith
 
 -- of two lists, where what holds within each also holds across
 pub pairs-append : {X : Type 0} (R : X → X → Type 0) (xs ys : List X) → AllPairs R xs → AllPairs R ys → All (λ x. All (R x) ys) xs → AllPairs R (xs ++ ys)
@@ -34,8 +31,7 @@ pairs-map R S f keeps (x ∷ xs) pairs =
     (pairs-map R S f keeps xs (pairs-tail R x xs pairs))
 
 all-cons_option : {Y : Type 0} (P : Y → Type 0) (o : Option Y) (ys : List Y) → IfSome o P → All P ys → All P (cons_option o ys)
-all-cons_option P None ys one rest = rest
-all-cons_option P (Some y) ys one rest = All-cons P y ys one rest
+all-cons_option P o ys one rest = grind arith
 
 pub all-filter_map : {X Y : Type 0} (P : Y → Type 0) (h : X → Option Y) (xs : List X) → All (λ x. IfSome (h x) P) xs → All P (filter_map h xs)
 all-filter_map P h [] all = All-nil P
@@ -44,8 +40,7 @@ all-filter_map P h (x ∷ xs) all =
     (all-filter_map P h xs (All-tail (λ x. IfSome (h x) P) x xs all))
 
 pairs-cons_option : {Y : Type 0} (S : Y → Y → Type 0) (o : Option Y) (ys : List Y) → IfSome o (λ y. All (S y) ys) → AllPairs S ys → AllPairs S (cons_option o ys)
-pairs-cons_option S None ys one rest = rest
-pairs-cons_option S (Some y) ys one rest = pairs-cons S y ys one rest
+pairs-cons_option S o ys one rest = grind (arith, pairs-cons)
 
 given-behind : {X Y : Type 0} (S : Y → Y → Type 0) (h : X → Option Y) (o : Option Y) (xs : List X) → All (λ x. IfSome o (λ y. IfSome (h x) (S y))) xs → IfSome o (λ y. All (S y) (filter_map h xs))
 given-behind S h None xs all = tt

@@ -1,6 +1,6 @@
 -- What a list has in common with the same list pruned.
-use Rattle.std.proofs.Common.{◌≡◌, ℕ, ◌+◌, ◌-◌, ◌<◌, ◌≤◌, Bool, true, false, cond, not, ◌&&◌, ◌||◌, nat_eq, nat_le, if◌then◌else◌, Option, Some, None, IfSome, IsSomeAnd, is_none, option_map, List, [], ◌∷◌, ◌++◌, length, map, max, All, AllPairs, refl, sym, ap, ◌∙◌, subst, ⊎_elim, arith}
-use Rattle.std.specs.List.{cons_option, filter_map, find, list_any}
+use Rattle.std.proofs.Common.{◌≡◌, ℕ, ◌+◌, ◌-◌, ◌<◌, ◌≤◌, Bool, true, false, ◌&&◌, ◌||◌, nat_eq, nat_le, if◌then◌else◌, Option, Some, None, IfSome, IsSomeAnd, is_none, option_map, List, [], ◌∷◌, ◌++◌, map, All, AllPairs, refl, sym, ap, ◌∙◌, subst, ⊎_elim, arith}
+use Rattle.std.specs.List.{filter_map, find, list_any}
 use Rattle.std.specs.Option.{option_map_or}
 use Rattle.std.proofs.Math.Nat.{le-max_left, le-max_right, le_trans}
 use Rattle.std.proofs.lemmas.Bool.{and_parts, cases_Bool, eqb-true, false≢true, le-leb, leb-true}
@@ -8,13 +8,10 @@ use Rattle.std.proofs.lemmas.List.Elements.{All-head, All-tail, filter-append}
 use Rattle.requirement_table.specs.declared.entries.Placed.{Placed}
 use Rattle.requirement_table.specs.Table.{GoesBefore, IsInRange, IsWellPlaced, free_from, is_over, not_over}
 use Rattle.change_protocol.specs.declared.operations.Op.{Op}
-use Rattle.change_protocol.specs.declared.operations.Op.TheVariants.{Add, Remove, Change}
 use Rattle.change_protocol.specs.declared.operations.Change.{Change as TableChange}
-use Rattle.change_protocol.specs.declared.malformed.Why.{Why}
-use Rattle.change_protocol.specs.declared.malformed.Why.TheVariants.{SlotEmpty}
 use Rattle.change_protocol.specs.Operations.{ends}
 use Rattle.change_protocol.specs.Applied.{applied, ended, free_in, freed_by, live_in, lives_in, placed_by}
-use Rattle.change_protocol.specs.Malformed.{Bounds, Broken, add_busy_by, broken, change_faults, end_busy, end_busy_by, faults, op_faults, slot_busy, slot_empty, whys}
+use Rattle.change_protocol.specs.Malformed.{Bounds, Broken, change_faults, faults, op_faults, slot_busy, slot_empty, whys}
 use Rattle.change_protocol.specs.Pruned.{has_slot, may_go, pruned}
 use Rattle.change_protocol.proofs.Pairs.{pairs-head, pairs-tail}
 use Rattle.change_protocol.proofs.Live.{find-none}
@@ -23,8 +20,7 @@ use Rattle.change_protocol.proofs.Live.{find-none}
 
 over-by : (free : Option ℕ) (early late : ℕ) → early ≤ late → option_map_or (λ from. nat_le from early) free false ≡ true
     → option_map_or (λ from. nat_le from late) free false ≡ true
-over-by None early late before over = absurd (false≢true over)
-over-by (Some from) early late before over = let free = leb-true from early over in le-leb from late (omega (arith, free))
+over-by free early late before over = grind (arith, false≢true, leb-true, le-leb)
 
 pub over-later : (early late : ℕ) (p : Placed) → early ≤ late → is_over early p ≡ true → is_over late p ≡ true
 over-later early late p before over = over-by (free_from p) early late before over
@@ -36,8 +32,7 @@ goes-over c from p placed before goes = over-later c from p before (and_parts (i
 
 not_over-step : (from : ℕ) (p : Placed) (kept placed : List Placed) (b : Bool) → (b ≡ true → is_over from p ≡ true) → not_over from kept ≡ not_over from placed
     → not_over from (if b then kept else p ∷ kept) ≡ not_over from (p ∷ placed)
-not_over-step from p kept placed true gone same = same ∙ sym (ap (λ (o : Bool). cond (not o) (p ∷ not_over from placed) (not_over from placed)) (gone refl))
-not_over-step from p kept placed false gone same = ap (λ (l : List Placed). cond (not (is_over from p)) (p ∷ l) l) same
+not_over-step from p kept placed b gone same = grind arith
 
 pub not_over-pruned : (c from : ℕ) (placed : List Placed) → c ≤ from → not_over from (pruned c placed) ≡ not_over from placed
 not_over-pruned c from [] before = refl
@@ -48,14 +43,11 @@ not_over-pruned c from (p ∷ placed) before =
 
 over-dead : (slot c : ℕ) (end : Option ℕ) (deadline : ℕ) (at : Bool) → option_map_or (λ from. nat_le from c) (option_map (λ e. e + deadline - 1) end) false ≡ true
     → (at && is_none end) ≡ false
-over-dead slot c None deadline at over = absurd (false≢true over)
-over-dead slot c (Some e) deadline true over = refl
-over-dead slot c (Some e) deadline false over = refl
+over-dead slot c end deadline at over = grind (arith, false≢true)
 
 find-step : (test : Placed → Bool) (p : Placed) (kept placed : List Placed) (b : Bool) → (b ≡ true → test p ≡ false) → find test kept ≡ find test placed
     → find test (if b then kept else p ∷ kept) ≡ find test (p ∷ placed)
-find-step test p kept placed true gone same = same ∙ sym (ap (λ (o : Bool). cond o (Some p) (find test placed)) (gone refl))
-find-step test p kept placed false gone same = ap (λ (o : Option Placed). cond (test p) (Some p) o) same
+find-step test p kept placed b gone same = grind arith
 
 pub live-pruned : (c slot : ℕ) (placed : List Placed) → live_in (pruned c placed) slot ≡ live_in placed slot
 live-pruned c slot [] = refl
@@ -68,13 +60,11 @@ live-pruned c slot (p ∷ placed) =
 
 above-freed : (end : Option ℕ) (deadline origin from : ℕ) → 1 ≤ deadline → IfSome end (λ e. origin ≤ e) → is_none end ≡ false
     → from ≤ origin → from ≤ option_map_or (λ f. f) (option_map (λ e. e + deadline - 1) end) 0
-above-freed None deadline origin from some range dead low = absurd (cc)
-above-freed (Some e) deadline origin from some range dead low = omega arith
+above-freed end deadline origin from some range dead low = grind arith
 
 free-at : (end : Option ℕ) (deadline origin : ℕ) → IsSomeAnd (option_map (λ e. e + deadline - 1) end) (λ from. from ≤ origin)
     → option_map_or (λ f. f) (option_map (λ e. e + deadline - 1) end) 0 ≤ origin
-free-at None deadline origin free = omega arith
-free-at (Some e) deadline origin free = free
+free-at end deadline origin free = grind arith
 
 freed-here : (slot : ℕ) (p : Placed) → nat_eq p.entry.slot slot ≡ true → freed_by slot p ≡ option_map_or (λ f. f) (free_from p) 0
 freed-here slot p at = ap (λ (b : Bool). if b then option_map_or (λ f. f) (free_from p) 0 else 0) at
@@ -83,12 +73,10 @@ freed-elsewhere : (slot : ℕ) (p : Placed) → nat_eq p.entry.slot slot ≡ fal
 freed-elsewhere slot p at = ap (λ (b : Bool). if b then option_map_or (λ f. f) (free_from p) 0 else 0) at
 
 range-end : (end : Option ℕ) (origin last : ℕ) → IfSome end (λ e. (origin ≤ e) × (e < last)) → IfSome end (λ e. origin ≤ e)
-range-end None origin last range = tt
-range-end (Some e) origin last range = range.0
+range-end end origin last range = grind arith
 
 dead-end : (at none : Bool) → at ≡ true → (at && none) ≡ false → none ≡ false
-dead-end true none is dead = dead
-dead-end false none is dead = absurd (cc)
+dead-end at none is dead = grind arith
 
 behind : (slot : ℕ) (p : Placed) (placed : List Placed) → nat_eq p.entry.slot slot ≡ true → has_slot slot placed ≡ true → All IsInRange placed
     → All (GoesBefore p) placed → All (λ q. lives_in slot q ≡ false) placed → freed_by slot p ≤ free_in placed slot
@@ -111,8 +99,7 @@ behind slot p (q ∷ placed) at has range before dead =
 
 free-step : (slot : ℕ) (p : Placed) (kept placed : List Placed) (b : Bool) → (b ≡ true → freed_by slot p ≤ free_in placed slot)
     → free_in kept slot ≡ free_in placed slot → free_in (if b then kept else p ∷ kept) slot ≡ free_in (p ∷ placed) slot
-free-step slot p kept placed true low same = let small = low refl in same ∙ omega arith
-free-step slot p kept placed false low same = ap (max (freed_by slot p)) same
+free-step slot p kept placed b low same = grind arith
 
 free-of-dead : (c slot : ℕ) (placed : List Placed) → All IsInRange placed → AllPairs GoesBefore placed → All (λ q. lives_in slot q ≡ false) placed
     → free_in (pruned c placed) slot ≡ free_in placed slot
@@ -133,34 +120,18 @@ free-pruned c slot placed well none = free-of-dead c slot placed well.in_range w
 
 -- so a change breaks the same rules
 
-add-same : (one other : Option Placed) (free same start : ℕ) → one ≡ other → (other ≡ None → free ≡ same) → add_busy_by one free start ≡ add_busy_by other same start
-add-same one None free same start is found = ap (λ o. add_busy_by o free start) is ∙ ap (λ f. add_busy_by None f start) (found refl)
-add-same one (Some live) free same start is found = ap (λ o. add_busy_by o free start) is
-
 module _ (c : ℕ) (placed : List Placed) (well : IsWellPlaced placed) where
-  end-same : (start slot : ℕ) → end_busy (pruned c placed) start slot ≡ end_busy placed start slot
-  end-same start slot = ap (λ o. end_busy_by o start) (live-pruned c slot placed)
-
   busy-same : (start : ℕ) (op : Op) → slot_busy (pruned c placed) start op ≡ slot_busy placed start op
-  busy-same start (Add entry) =
-      add-same (live_in (pruned c placed) entry.slot) (live_in placed entry.slot) (free_in (pruned c placed) entry.slot) (free_in placed entry.slot) start
-      (live-pruned c entry.slot placed) (free-pruned c entry.slot placed well)
-  busy-same start (Remove slot) = end-same start slot
-  busy-same start (Change entry) = end-same start entry.slot
+  busy-same start op = grind (arith, live-pruned, free-pruned)
 
   empty-same : (op : Op) → slot_empty (pruned c placed) op ≡ slot_empty placed op
-  empty-same (Add entry) = refl
-  empty-same (Remove slot) = ap (λ o. if is_none o then SlotEmpty ∷ [] else []) (live-pruned c slot placed)
-  empty-same (Change entry) = ap (λ o. if is_none o then SlotEmpty ∷ [] else []) (live-pruned c entry.slot placed)
+  empty-same op = grind (arith, is_none, live-pruned)
 
   whys-same : (bounds : Bounds) (start : ℕ) (earlier : List Op) (op : Op) → whys (pruned c placed) bounds start earlier op ≡ whys placed bounds start earlier op
   whys-same bounds start earlier op = rw (busy-same start op, empty-same op) refl
 
   ops-same : (bounds : Bounds) (start : ℕ) (earlier ops : List Op) → op_faults (pruned c placed) bounds start earlier ops ≡ op_faults placed bounds start earlier ops
-  ops-same bounds start earlier [] = refl
-  ops-same bounds start earlier (op ∷ ops) =
-      ap (λ (l : List Why). map (broken (length earlier)) l ++ op_faults (pruned c placed) bounds start (earlier ++ op ∷ []) ops) (whys-same bounds start earlier op)
-      ∙ ap (λ (l : List Broken). map (broken (length earlier)) (whys placed bounds start earlier op) ++ l) (ops-same bounds start (earlier ++ op ∷ []) ops)
+  ops-same bounds start earlier ops = grind (arith, whys-same)
 
   pub faults-pruned : (bounds : Bounds) (change : TableChange) → faults (pruned c placed) bounds change ≡ faults placed bounds change
   faults-pruned bounds change = ap (λ (l : List Broken). change_faults change.start change.ops ++ l) (ops-same bounds change.start [] change.ops)
@@ -168,14 +139,11 @@ module _ (c : ℕ) (placed : List Placed) (well : IsWellPlaced placed) where
 -- and makes lists of which the same entries are not over
 
 ended-over : (from start : ℕ) (ops : List Op) (p : Placed) → is_over from p ≡ true → is_over from (ended start ops p) ≡ true
-ended-over from start ops p over =
-    let dead : (true && is_none p.end) ≡ false = over-dead 0 from p.end p.entry.deadline true over in
-    subst (λ (b : Bool). is_over from (if b && list_any (ends p.entry.slot) ops then record p { end = Some start } else p) ≡ true) (sym dead) over
+ended-over from start ops p over = grind (arith, is_none, over-dead)
 
 mapped-step : (from : ℕ) (f : Placed → Placed) (p : Placed) (kept placed : List Placed) (b : Bool) → (b ≡ true → is_over from (f p) ≡ true)
     → not_over from (map f kept) ≡ not_over from (map f placed) → not_over from (map f (if b then kept else p ∷ kept)) ≡ not_over from (map f (p ∷ placed))
-mapped-step from f p kept placed true gone same = same ∙ sym (ap (λ (o : Bool). cond (not o) (f p ∷ not_over from (map f placed)) (not_over from (map f placed))) (gone refl))
-mapped-step from f p kept placed false gone same = ap (λ (l : List Placed). cond (not (is_over from (f p))) (f p ∷ l) l) same
+mapped-step from f p kept placed b gone same = grind arith
 
 mapped : (c from start : ℕ) (ops : List Op) (placed : List Placed) → c ≤ from
     → not_over from (map (ended start ops) (pruned c placed)) ≡ not_over from (map (ended start ops) placed)
@@ -185,25 +153,14 @@ mapped c from start ops (p ∷ placed) before =
     (λ goes. ended-over from start ops p (goes-over c from p placed before goes)) (mapped c from start ops placed before)
 
 filter_map-same : {X Y : Type 0} (f g : X → Option Y) (xs : List X) → ((x : X) → f x ≡ g x) → filter_map f xs ≡ filter_map g xs
-filter_map-same f g [] same = refl
-filter_map-same f g (x ∷ xs) same = ap (λ o. cons_option o (filter_map f xs)) (same x) ∙ ap (cons_option (g x)) (filter_map-same f g xs same)
+filter_map-same f g xs same = grind arith
 
 placed-same : (c : ℕ) (placed : List Placed) (start : ℕ) (op : Op) → placed_by (pruned c placed) start op ≡ placed_by placed start op
-placed-same c placed start (Add entry) = refl
-placed-same c placed start (Remove slot) = refl
-placed-same c placed start (Change entry) =
-    ap (λ (o : Option Placed). Some (record { entry = entry; origin = option_map_or (λ live. start + live.entry.deadline - 1) o start; end = None })) (live-pruned c entry.slot placed)
+placed-same c placed start op = grind (arith, live-pruned)
 
 pub not_over-applied : (c from : ℕ) (placed : List Placed) (change : TableChange) → c ≤ from
     → not_over from (applied (pruned c placed) change) ≡ not_over from (applied placed change)
-not_over-applied c from placed change before =
-    let new : List Placed = filter_map (placed_by (pruned c placed) change.start) change.ops in
-    let old : List Placed = filter_map (placed_by placed change.start) change.ops in
-    filter-append (λ p. not (is_over from p)) (map (ended change.start change.ops) (pruned c placed)) new
-    ∙ ap (λ (l : List Placed). l ++ not_over from new) (mapped c from change.start change.ops placed before)
-    ∙ ap (λ (l : List Placed). not_over from (map (ended change.start change.ops) placed) ++ not_over from l)
-    (filter_map-same (placed_by (pruned c placed) change.start) (placed_by placed change.start) change.ops (placed-same c placed change.start))
-    ∙ sym (filter-append (λ p. not (is_over from p)) (map (ended change.start change.ops) placed) old)
+not_over-applied c from placed change before = grind (arith, filter-append, mapped, filter_map-same, placed-same)
 
 -- what is pruned later is the same
 
@@ -211,20 +168,14 @@ pub new-pruned : (c : ℕ) (placed : List Placed) (start : ℕ) (ops : List Op) 
 new-pruned c placed start ops = filter_map-same (placed_by (pruned c placed) start) (placed_by placed start) ops (placed-same c placed start)
 
 slot-if : (b : Bool) (p q : Placed) → q.entry.slot ≡ p.entry.slot → (if b then q else p).entry.slot ≡ p.entry.slot
-slot-if true p q same = same
-slot-if false p q same = refl
+slot-if b p q same = grind arith
 
 ended-slot : (start : ℕ) (ops : List Op) (p : Placed) → (ended start ops p).entry.slot ≡ p.entry.slot
 ended-slot start ops p = slot-if (is_none p.end && list_any (ends p.entry.slot) ops) p (record p { end = Some start }) refl
 
 has-step : (slot : ℕ) (p : Placed) (kept placed : List Placed) (b : Bool) → (b ≡ true → nat_eq p.entry.slot slot ≡ true → has_slot slot placed ≡ true)
     → has_slot slot kept ≡ has_slot slot placed → has_slot slot (if b then kept else p ∷ kept) ≡ has_slot slot (p ∷ placed)
-has-step slot p kept placed true has same =
-    ⊎_elim
-    (λ (here : nat_eq p.entry.slot slot ≡ true). same ∙ has refl here ∙ sym (ap (λ (b : Bool). b || has_slot slot placed) here))
-    (λ (off : nat_eq p.entry.slot slot ≡ false). same ∙ sym (ap (λ (b : Bool). b || has_slot slot placed) off))
-    (cases_Bool (nat_eq p.entry.slot slot))
-has-step slot p kept placed false has same = ap (λ (b : Bool). nat_eq p.entry.slot slot || b) same
+has-step slot p kept placed b has same = grind arith
 
 has-pruned : (c slot : ℕ) (placed : List Placed) → has_slot slot (pruned c placed) ≡ has_slot slot placed
 has-pruned c slot [] = refl
@@ -254,37 +205,25 @@ has-more : (start : ℕ) (ops : List Op) (new : List Placed) (slot : ℕ) (xs : 
 has-more start ops new slot [] has = absurd (false≢true has)
 has-more start ops new slot (x ∷ xs) has =
     ⊎_elim
-    (λ (here : nat_eq x.entry.slot slot ≡ true).
-    ap (λ (b : Bool). b || has_slot slot (map (ended start ops) xs ++ new)) (ap (λ n. nat_eq n slot) (ended-slot start ops x) ∙ here))
+    (λ (here : nat_eq x.entry.slot slot ≡ true). grind (arith, ended-slot))
     (λ (off : nat_eq x.entry.slot slot ≡ false).
     let rest : has_slot slot xs ≡ true = ap (λ (b : Bool). b || has_slot slot xs) (sym off) ∙ has in
     ap (λ (b : Bool). b || has_slot slot (map (ended start ops) xs ++ new)) (ap (λ n. nat_eq n slot) (ended-slot start ops x) ∙ off) ∙ has-more start ops new slot xs rest)
     (cases_Bool (nat_eq x.entry.slot slot))
-
-both-true : (a b : Bool) → a ≡ true → b ≡ true → (a && b) ≡ true
-both-true a b one two = ap (λ x. x && b) one ∙ two
 
 again-step : (c : ℕ) (f : Placed → Placed) (new : List Placed) (p : Placed) (kept placed : List Placed) (b : Bool)
     → (b ≡ true → may_go c (f p) (map f placed ++ new) ≡ true)
     → has_slot (f p).entry.slot (map f kept ++ new) ≡ has_slot (f p).entry.slot (map f placed ++ new)
     → pruned c (map f kept ++ new) ≡ pruned c (map f placed ++ new)
     → pruned c (map f (if b then kept else p ∷ kept) ++ new) ≡ pruned c (map f (p ∷ placed) ++ new)
-again-step c f new p kept placed true goes has same =
-    same ∙ sym (ap (λ (o : Bool). if o then pruned c (map f placed ++ new) else f p ∷ pruned c (map f placed ++ new)) (goes refl))
-again-step c f new p kept placed false goes has same =
-    ap (λ (h : Bool). if is_over c (f p) && h then pruned c (map f kept ++ new) else f p ∷ pruned c (map f kept ++ new)) has
-    ∙ ap (λ (l : List Placed). if may_go c (f p) (map f placed ++ new) then l else f p ∷ l) same
+again-step c f new p kept placed b goes has same = grind arith
 
 again : (early late start : ℕ) (ops : List Op) (new placed : List Placed) → early ≤ late
     → pruned late (map (ended start ops) (pruned early placed) ++ new) ≡ pruned late (map (ended start ops) placed ++ new)
 again early late start ops new [] before = refl
 again early late start ops new (p ∷ placed) before =
     again-step late (ended start ops) new p (pruned early placed) placed (may_go early p placed)
-    (λ goes.
-    let parts = and_parts (is_over early p) (has_slot p.entry.slot placed) goes in
-    both-true (is_over late (ended start ops p)) (has_slot (ended start ops p).entry.slot (map (ended start ops) placed ++ new))
-    (ended-over late start ops p (over-later early late p before parts.0))
-    (has-more start ops new (ended start ops p).entry.slot placed (ap (λ n. has_slot n placed) (ended-slot start ops p) ∙ parts.1)))
+    (λ goes. grind (arith, and_parts, ended-over, over-later, has-more, ended-slot))
     (has-mapped start ops new (ended start ops p).entry.slot (pruned early placed) placed (λ s. has-pruned early s placed))
     (again early late start ops new placed before)
 

@@ -1,5 +1,5 @@
 -- What the placed entries make of each slot.
-use Rattle.std.proofs.Common.{◌≡◌, ◌≢◌, ℕ, zero, suc, ◌+◌, ◌-◌, ◌^◌, ◌<◌, ◌≤◌, Bool, true, false, ◌&&◌, nat_eq, max, cond, if◌then◌else◌, Option, Some, None, IfSome, IsSomeAnd, is_none, option_map, List, [], ◌∷◌, ◌++◌, All, AllPairs, length, take, get_or, set, length-set, replicate, refl, sym, ap, subst, ◌∙◌, ⊎_elim, arith}
+use Rattle.std.proofs.Common.{◌≡◌, ◌≢◌, ℕ, ◌+◌, ◌-◌, ◌<◌, ◌≤◌, true, false, max, if◌then◌else◌, Option, Some, None, IfSome, IsSomeAnd, is_none, option_map, List, [], ◌∷◌, ◌++◌, All, AllPairs, length, take, get_or, set, length-set, replicate, refl, sym, ◌∙◌, ⊎_elim, arith}
 use Rattle.std.specs.List.{find}
 use Rattle.std.specs.Option.{option_map_or, option_or}
 use Rattle.std.proofs.Math.Nat.{max-zero, max-eq_right, max-le}
@@ -11,10 +11,9 @@ use Rattle.std.proofs.lemmas.List.Folds.{find-append}
 use Rattle.std.proofs.lemmas.List.Recursion.{max_push}
 use Rattle.requirement_table.specs.declared.entries.Placed.{Placed}
 use Rattle.bit_sets.specs.Sets.{most_slots}
-use Rattle.requirement_table.specs.Table.{GoesBefore, IsFreeAt, IsInRange, free_from}
-use Rattle.change_protocol.specs.declared.slots.SlotUse.{SlotUse}
+use Rattle.requirement_table.specs.Table.{GoesBefore, IsInRange}
 use Rattle.change_protocol.specs.Applied.{freed_by, free_in, live_in, lives_in}
-use Rattle.change_protocol.specs.Slots.{AreUpToLast, IsLastAt, IsUpToLast, unused, use_by, use_of}
+use Rattle.change_protocol.specs.Slots.{AreUpToLast, IsUpToLast, use_by, use_of}
 use Rattle.change_protocol.proofs.WellPlaced.{lives-parts, never-free}
 
 -- what a read of a list past its end gives
@@ -26,12 +25,7 @@ no_entry = record {
 }
 
 pub one-less : (n : ℕ) → n ≢ 0 → n ≡ n - 1 + 1
-one-less zero some = absurd (some refl)
-one-less (suc n) some = omega arith
-
-or_none : {A : Type 0} (found : Option A) → option_or found None ≡ found
-or_none None = refl
-or_none (Some x) = refl
+one-less n some = grind arith
 
 live-push : (placed : List Placed) (p : Placed) (slot : ℕ) → live_in (placed ++ p ∷ []) slot ≡ option_or (live_in placed slot) (find (lives_in slot) (p ∷ []))
 live-push placed p slot = find-append (lives_in slot) placed (p ∷ [])
@@ -54,16 +48,10 @@ none-live (x ∷ xs) p before =
 
 freed-low : (end : Option ℕ) (deadline c : ℕ) → IsSomeAnd (option_map (λ e. e + deadline - 1) end) (λ from. from ≤ c)
     → option_map_or (λ from. from) (option_map (λ e. e + deadline - 1) end) 0 ≤ c
-freed-low None deadline c free = absurd free
-freed-low (Some e) deadline c free = free
+freed-low end deadline c free = grind arith
 
 freed-before : (q p : Placed) → GoesBefore q p → freed_by p.entry.slot q ≤ p.origin
-freed-before q p before =
-    ⊎_elim
-    (λ (same : q.entry.slot ≡ p.entry.slot).
-    rw (eq-eqb q.entry.slot p.entry.slot same) (freed-low q.end q.entry.deadline p.origin (before same)))
-    (λ (other : q.entry.slot ≢ p.entry.slot). rw (ne_eqb q.entry.slot p.entry.slot other) (omega arith))
-    (cases_eq q.entry.slot p.entry.slot)
+freed-before q p before = grind (arith, eq-eqb, freed-low, ne_eqb)
 
 -- and the slot is free of them from its origin on
 free-below : (placed : List Placed) (p : Placed) → All (λ q. GoesBefore q p) placed → free_in placed p.entry.slot ≤ p.origin
@@ -75,24 +63,13 @@ free-below (x ∷ xs) p before =
 pushed : (end : Option ℕ) (deadline before : ℕ) (p : Placed) → IfSome end (λ e. before ≤ e + deadline - 1)
     → (if is_none (if is_none end then Some p else None) then max before (option_map_or (λ from. from) (option_map (λ e. e + deadline - 1) end) 0) else 0)
     ≡ option_map_or (λ from. from) (option_map (λ e. e + deadline - 1) end) 0
-pushed None deadline before p below = refl
-pushed (Some e) deadline before p below = max-eq_right below
-
-ends-later : (end : Option ℕ) (origin deadline before : ℕ) → IfSome end (λ e. (origin ≤ e) × (e < 2 ^ 42)) → 1 ≤ deadline → before ≤ origin
-    → IfSome end (λ e. before ≤ e + deadline - 1)
-ends-later None origin deadline before range some_time below = tt
-ends-later (Some e) origin deadline before range some_time below = let after = range.0 in omega arith
+pushed end deadline before p below = grind (arith, max-eq_right)
 
 use-same : (placed : List Placed) (p : Placed) → IsInRange p → All (λ q. GoesBefore q p) placed → use_of (placed ++ p ∷ []) p.entry.slot ≡ use_by p
-use-same placed p range before =
-    let later = ends-later p.end p.origin p.entry.deadline (free_in placed p.entry.slot) range.end range.entry.some_time (free-below placed p before) in
-    rw (live-push placed p p.entry.slot, free-push placed p p.entry.slot, none-live placed p before, eq-eqb p.entry.slot p.entry.slot refl)
-    (ap (λ (from : ℕ). record { live = if is_none p.end then Some p else None; free = from })
-    (pushed p.end p.entry.deadline (free_in placed p.entry.slot) p later))
+use-same placed p range before = grind (arith, free-below, live-push, free-push, none-live, eq-eqb, is_none, pushed)
 
 use-other : (placed : List Placed) (p : Placed) (slot : ℕ) → p.entry.slot ≢ slot → use_of (placed ++ p ∷ []) slot ≡ use_of placed slot
-use-other placed p slot other =
-    rw (live-push placed p slot, free-push placed p slot, ne_eqb p.entry.slot slot other) (rw (or_none (live_in placed slot), max-zero (free_in placed slot)) refl)
+use-other placed p slot other = grind (arith, live-push, free-push, ne_eqb, max-zero)
 
 -- the last entry of another slot
 last-other : (placed : List Placed) (p : Placed) (slot count : ℕ) → p.entry.slot ≢ slot → IsUpToLast placed slot count → IsUpToLast (placed ++ p ∷ []) slot count
@@ -111,16 +88,7 @@ last-other placed p slot count other kept = record {
 -- the slot of one entry more
 last-same : (placed : List Placed) (p : Placed) (count : ℕ) → IsInRange p → All (λ q. GoesBefore q p) placed → count ≡ length placed + 1
     → IsUpToLast (placed ++ p ∷ []) p.entry.slot count
-last-same placed p count range before is = record {
-  none = λ empty. absurd (omega arith);
-  last = λ place at.
-      let here : length placed ≡ place = omega arith in
-      record {
-        within = rw (length_push placed p) (omega arith);
-        has = λ d. rw (get_or_push placed p d place here) refl;
-        makes = λ d. rw (get_or_push placed p d place here) (use-same placed p range before);
-      };
-}
+last-same placed p count range before is = grind (arith, length_push, get_or_push, use-same)
 
 -- the slots before any entry
 pub last-none : AreUpToLast [] (replicate most_slots 0)
@@ -139,11 +107,7 @@ last-more placed p counts count range before is kept = record {
   room = length-set counts p.entry.slot count ∙ kept.room;
   each = λ slot d below.
       ⊎_elim
-      (λ (same : p.entry.slot ≡ slot).
-      let room = kept.room in
-      subst (λ s. IsUpToLast (placed ++ p ∷ []) s (get_or (set counts p.entry.slot count) slot d)) same
-      (last-same placed p (get_or (set counts p.entry.slot count) slot d) range before
-      (get_or-set_at counts p.entry.slot slot count d (sym same) (omega arith) ∙ is)))
+      (λ (same : p.entry.slot ≡ slot). grind (arith, last-same, get_or-set_at))
       (λ (other : p.entry.slot ≢ slot).
       rw (get_or-set_other counts p.entry.slot slot count d (λ same. other (sym same))) (last-other placed p slot _ other (kept.each slot d below)))
       (cases_eq p.entry.slot slot);

@@ -1,5 +1,5 @@
 -- A well formed change keeps a list of placed entries well placed.
-use Rattle.std.proofs.Common.{◌≡◌, ℕ, ◌+◌, ◌-◌, ◌^◌, ◌<◌, ◌≤◌, ◌⊎◌, Bool, true, false, ◌&&◌, if◌then◌else◌, nat_eq, nat_le, Option, Some, None, IfSome, IsSomeAnd, is_none, List, [], ◌∷◌, ◌++◌, length, get_or, map, All, AllPairs, refl, sym, ap, ◌∙◌, ⊎_elim, inl, inr, arith}
+use Rattle.std.proofs.Common.{◌≡◌, ℕ, ◌+◌, ◌-◌, ◌^◌, ◌<◌, ◌≤◌, ◌⊎◌, Bool, true, false, ◌&&◌, if◌then◌else◌, Option, Some, None, IfSome, IsSomeAnd, is_none, List, [], ◌∷◌, ◌++◌, length, get_or, map, All, AllPairs, refl, sym, ◌∙◌, ⊎_elim, inl, inr, arith}
 use Rattle.std.specs.List.{filter_map, list_any}
 use Rattle.std.specs.Option.{option_map, option_map_or}
 use Rattle.std.proofs.lemmas.Bool.Decides.{nat_tests}
@@ -11,14 +11,14 @@ use Rattle.std.proofs.lemmas.List.Recursion.{max_bounds}
 use Rattle.requirement_table.specs.declared.entries.Entry.{Entry}
 use Rattle.requirement_table.specs.declared.entries.Placed.{Placed}
 use Rattle.bit_sets.specs.Sets.{most_slots}
-use Rattle.requirement_table.specs.Table.{GoesBefore, IsEntry, IsFreeAt, IsInRange, IsWellPlaced, free_from}
+use Rattle.requirement_table.specs.Table.{GoesBefore, IsFreeAt, IsInRange, IsWellPlaced}
 use Rattle.change_protocol.specs.declared.operations.Op.{Op}
 use Rattle.change_protocol.specs.declared.operations.Op.TheVariants.{Add, Remove, Change}
 use Rattle.change_protocol.specs.declared.operations.Change.{Change as TableChange}
-use Rattle.change_protocol.specs.Operations.{HasTypes, IsTyped, ends}
+use Rattle.change_protocol.specs.Operations.{HasTypes, ends}
 use Rattle.change_protocol.specs.Applied.{IsKept, applied, ended, free_in, freed_by, live_in, lives_in, origin_behind, placed_by}
-use Rattle.change_protocol.specs.Malformed.{Bounds, IsWellFormed, bounds_of, broken, change_faults, no_ops, op_faults, start_range, too_many_ops}
-use Rattle.change_protocol.proofs.Allowed.{CanEnd, Differ, IsAllowed, IsSound, all-differ, allowed-most, both-none, none-mapped, not-held}
+use Rattle.change_protocol.specs.Malformed.{Bounds, IsWellFormed, bounds_of, change_faults, op_faults}
+use Rattle.change_protocol.proofs.Allowed.{CanEnd, Differ, IsAllowed, all-differ, allowed-most, both-none, none-mapped, not-held}
 use Rattle.change_protocol.proofs.Kept.{ended-kept, live-in_range, none-from_test}
 use Rattle.change_protocol.proofs.Live.{find-kept, find-none}
 use Rattle.change_protocol.proofs.Pairs.{all-filter_map, pairs-append, pairs-filter_map, pairs-head, pairs-map, pairs-nil, pairs-tail}
@@ -26,23 +26,19 @@ use Rattle.change_protocol.proofs.Pairs.{all-filter_map, pairs-append, pairs-fil
 -- live entries
 
 none-free : (end : Option ℕ) (deadline c : ℕ) → end ≡ None → IsSomeAnd (option_map (λ e. e + deadline - 1) end) (λ from. from ≤ c) → ⊥
-none-free None deadline c none free = free
-none-free (Some e) deadline c none free = absurd (cc)
+none-free end deadline c none free = grind arith
 
 pub never-free : (p : Placed) (c : ℕ) → p.end ≡ None → IsFreeAt p c → ⊥
 never-free p c none free = none-free p.end p.entry.deadline c none free
 
 later-free : (end : Option ℕ) (deadline c d : ℕ) → c ≤ d → IsSomeAnd (option_map (λ e. e + deadline - 1) end) (λ from. from ≤ c) → IsSomeAnd (option_map (λ e. e + deadline - 1) end) (λ from. from ≤ d)
-later-free None deadline c d later free = free
-later-free (Some e) deadline c d later free = omega arith
+later-free end deadline c d later free = grind arith
 
 free-later : (p : Placed) (c d : ℕ) → c ≤ d → IsFreeAt p c → IsFreeAt p d
 free-later p c d later free = later-free p.end p.entry.deadline c d later free
 
 pub lives-parts : (slot : ℕ) (p : Placed) → lives_in slot p ≡ true → (p.entry.slot ≡ slot) × (p.end ≡ None)
-lives-parts slot p lives =
-    let parts = and_parts (nat_eq p.entry.slot slot) (is_none p.end) lives in
-    (eqb-true p.entry.slot slot parts.0, none-from_test p.end parts.1)
+lives-parts slot p lives = grind (arith, and_parts, is_none, eqb-true, none-from_test)
 
 -- each entry of a slot is its live entry, or free before the origin of that
 pub around-live : (placed : List Placed) (slot : ℕ) (live : Placed) → AllPairs GoesBefore placed → live_in placed slot ≡ Some live
@@ -84,9 +80,7 @@ ended-low placed start pairs k d within none can =
     low start p (live_in placed p.entry.slot) can none (λ live found. around-live placed p.entry.slot live pairs found k d within refl)
 
 ending-slot : (placed : List Placed) (start slot : ℕ) (op : Op) → IsAllowed most_slots placed start op → ends slot op ≡ true → CanEnd placed start slot
-ending-slot placed start slot (Add entry) allowed ending = absurd (cc)
-ending-slot placed start slot (Remove other) allowed ending = rw (eqb-true other slot ending) at allowed.fits
-ending-slot placed start slot (Change entry) allowed ending = rw (eqb-true entry.slot slot ending) at allowed.fits
+ending-slot placed start slot op allowed ending = grind (arith, eqb-true)
 
 ending-fits : (placed : List Placed) (start slot : ℕ) (ops : List Op) → All (IsAllowed most_slots placed start) ops → list_any (ends slot) ops ≡ true → CanEnd placed start slot
 ending-fits placed start slot [] allowed ending = absurd (cc)
@@ -97,8 +91,7 @@ ending-fits placed start slot (op ∷ ops) allowed ending =
     (or_cases (ends slot op) (list_any (ends slot) ops) ending)
 
 range-if : (b : Bool) (start : ℕ) (p : Placed) → IsInRange p → start < 2 ^ 40 → (b ≡ true → p.origin ≤ start) → IsInRange (if b then record p { end = Some start } else p)
-range-if false start p range early below = range
-range-if true start p range early below = record { entry = range.entry; origin = range.origin; end = (below refl, omega arith) }
+range-if b start p range early below = grind arith
 
 ended-in_range : (placed : List Placed) (start : ℕ) (ops : List Op) → IsWellPlaced placed → start < 2 ^ 40 → All (IsAllowed most_slots placed start) ops → All (λ p. IsInRange (ended start ops p)) placed
 ended-in_range placed start ops well early allowed k d within =
@@ -108,107 +101,38 @@ ended-in_range placed start ops well early allowed k d within =
     let parts = and_parts (is_none p.end) (list_any (ends p.entry.slot) ops) both in
     ended-low placed start well.in_order k d within (none-from_test p.end parts.0) (ending-fits placed start p.entry.slot ops allowed parts.1))
 
-kept-entry : (start : ℕ) (p q : Placed) → IsKept start p q → q.entry ≡ p.entry
-kept-entry start p q kept =
-    ⊎_elim
-    (λ (same : q ≡ p). ap (λ (x : Placed). x.entry) same)
-    (λ (ended : (p.end ≡ None) × (q ≡ record p { end = Some start })). ap (λ (x : Placed). x.entry) ended.1)
-    kept
-
-kept-origin : (start : ℕ) (p q : Placed) → IsKept start p q → q.origin ≡ p.origin
-kept-origin start p q kept =
-    ⊎_elim
-    (λ (same : q ≡ p). ap (λ (x : Placed). x.origin) same)
-    (λ (ended : (p.end ≡ None) × (q ≡ record p { end = Some start })). ap (λ (x : Placed). x.origin) ended.1)
-    kept
-
 -- what holds in order before a change holds in order after it
 kept-before : (start : ℕ) (p q r s : Placed) → IsKept start p r → IsKept start q s → GoesBefore p q → GoesBefore r s
-kept-before start p q r s first second before same =
-    let slots : p.entry.slot ≡ q.entry.slot = sym (ap (λ (e : Entry). e.slot) (kept-entry start p r first)) ∙ same ∙ ap (λ (e : Entry). e.slot) (kept-entry start q s second) in
-    let free = before slots in
-    ⊎_elim
-    (λ (is : r ≡ p). rw (is, kept-origin start q s second) free)
-    (λ (ended : (p.end ≡ None) × (r ≡ record p { end = Some start })). absurd (never-free p q.origin ended.0 free))
-    first
+kept-before start p q r s h0 h1 h2 = grind (arith, never-free)
 
 -- the new entries
 
 behind-low : (found : Option Placed) (start : ℕ) → IfSome found IsInRange → start < 2 ^ 40 → option_map_or (λ p. start + p.entry.deadline - 1) found start < 2 ^ 42
-behind-low None start range early = omega arith
-behind-low (Some p) start range early = let deadline = range.entry.deadline in let period = range.entry.period in omega arith
-
-entry-in_range : (entry : Entry) → entry.slot < most_slots → IsSound entry → IsTyped entry → IsEntry entry
-entry-in_range entry slot sound typed = record {
-  slot = slot;
-  length = sound.length;
-  phase = typed.phase;
-  period = typed.period;
-  priority = typed.priority;
-  some_time = sound.some_time;
-  deadline = sound.deadline;
-}
+behind-low found start range early = grind arith
 
 placed-in_range : (placed : List Placed) (start : ℕ) (op : Op) → All IsInRange placed → start < 2 ^ 40 → IsAllowed most_slots placed start op → HasTypes op → IfSome (placed_by placed start op) IsInRange
-placed-in_range placed start (Add entry) all early allowed typed = record { entry = entry-in_range entry allowed.slot allowed.entry typed; origin = omega arith; end = tt }
-placed-in_range placed start (Remove slot) all early allowed typed = tt
-placed-in_range placed start (Change entry) all early allowed typed = record {
-  entry = entry-in_range entry allowed.slot allowed.entry typed;
-  origin = behind-low (live_in placed entry.slot) start (live-in_range placed entry.slot all) early;
-  end = tt;
-}
+placed-in_range placed start op all early allowed typed = grind (arith, behind-low, live-in_range)
 
 -- two operations with different slots place entries that are not in each other's way
 apart : (placed : List Placed) (start : ℕ) (one other : Op) → Differ one other → IfSome (placed_by placed start one) (λ p. IfSome (placed_by placed start other) (GoesBefore p))
-apart placed start (Remove slot) other differ = tt
-apart placed start (Add entry) (Remove slot) differ = tt
-apart placed start (Add entry) (Add next) differ = λ same. absurd (differ same)
-apart placed start (Add entry) (Change next) differ = λ same. absurd (differ same)
-apart placed start (Change entry) (Remove slot) differ = tt
-apart placed start (Change entry) (Add next) differ = λ same. absurd (differ same)
-apart placed start (Change entry) (Change next) differ = λ same. absurd (differ same)
+apart placed start one other differ = grind arith
 
 -- old entries before new ones
-
-freed-free : (end : Option ℕ) (deadline c : ℕ) → is_none end ≡ false → option_map_or (λ from. from) (option_map (λ e. e + deadline - 1) end) 0 ≤ c → IsSomeAnd (option_map (λ e. e + deadline - 1) end) (λ from. from ≤ c)
-freed-free None deadline c some below = absurd (cc)
-freed-free (Some e) deadline c some below = below
-
-pub freed-below : (p : Placed) (slot c : ℕ) → p.entry.slot ≡ slot → is_none p.end ≡ false → freed_by slot p ≤ c → IsFreeAt p c
-freed-below p slot c same some below =
-    let at : freed_by slot p ≡ option_map_or (λ from. from) (free_from p) 0 = rw (eq-eqb p.entry.slot slot same) refl in
-    freed-free p.end p.entry.deadline c some (rw at at below)
 
 not-ended : (start : ℕ) (ops : List Op) (p : Placed) → is_none p.end ≡ false → ended start ops p ≡ p
 not-ended start ops p some = rw some refl
 
-now-ended : (start : ℕ) (ops : List Op) (p : Placed) → is_none p.end ≡ true → list_any (ends p.entry.slot) ops ≡ true → ended start ops p ≡ record p { end = Some start }
-now-ended start ops p none ending = rw (none, ending) refl
-
 free-some : (end : Option ℕ) (deadline c : ℕ) → IsSomeAnd (option_map (λ e. e + deadline - 1) end) (λ from. from ≤ c) → is_none end ≡ false
-free-some None deadline c free = absurd free
-free-some (Some e) deadline c free = refl
+free-some end deadline c free = grind arith
 
 before-added : (placed : List Placed) (start : ℕ) (ops : List Op) (p : Placed) (entry : Entry) → lives_in entry.slot p ≡ false → freed_by entry.slot p ≤ start
     → GoesBefore (ended start ops p) (record { entry = entry; origin = start; end = None })
-before-added placed start ops p entry dead below same =
-    let at : p.entry.slot ≡ entry.slot = sym (ap (λ (e : Entry). e.slot) (kept-entry start p (ended start ops p) (ended-kept start ops p))) ∙ same in
-    let some : is_none p.end ≡ false = rw (eq-eqb p.entry.slot entry.slot at) at dead in
-    rw (not-ended start ops p some) (freed-below p entry.slot start at some below)
+before-added placed start ops p entry h0 h1 = grind (arith, ended-kept, is_none, eq-eqb, not-ended)
 
 before-changed : (start : ℕ) (ops : List Op) (p live : Placed) (entry : Entry) → (p.entry.slot ≡ entry.slot → (p ≡ live) ⊎ IsFreeAt p live.origin)
     → live.end ≡ None → live.origin ≤ start → 1 ≤ live.entry.deadline → list_any (ends entry.slot) ops ≡ true
     → GoesBefore (ended start ops p) (record { entry = entry; origin = start + live.entry.deadline - 1; end = None })
-before-changed start ops p live entry around none early some_time ending same =
-    let at : p.entry.slot ≡ entry.slot = sym (ap (λ (e : Entry). e.slot) (kept-entry start p (ended start ops p) (ended-kept start ops p))) ∙ same in
-    ⊎_elim
-    (λ (is : p ≡ live).
-    let no_end : is_none p.end ≡ true = ap (λ (q : Placed). is_none q.end) is ∙ ap is_none none in
-    let deadline : p.entry.deadline ≡ live.entry.deadline = ap (λ (q : Placed). q.entry.deadline) is in
-    rw (now-ended start ops p no_end (ap (λ (slot : ℕ). list_any (ends slot) ops) at ∙ ending), deadline) (omega arith))
-    (λ (free : IsFreeAt p live.origin).
-    rw (not-ended start ops p (free-some p.end p.entry.deadline live.origin free)) (free-later p live.origin (start + live.entry.deadline - 1) (omega arith) free))
-    (around at)
+before-changed start ops p live entry h0 h1 h2 h3 h4 = grind (arith, ended-kept, is_none, not-ended, free-some, free-later)
 
 change-behind : (placed : List Placed) (start : ℕ) (ops : List Op) (p : Placed) (entry : Entry) (found : Option Placed) → live_in placed entry.slot ≡ found
     → IfSome found (λ live. IsInRange live × (lives_in entry.slot live ≡ true)) → IsSomeAnd found (λ live. live.origin ≤ start)
@@ -229,7 +153,6 @@ before-placed : (placed : List Placed) (start : ℕ) (ops : List Op) (p : Placed
     → IfSome (placed_by placed start op) (GoesBefore (ended start ops p))
 before-placed placed start ops p (Add entry) well allowed dead freed around ending =
     let fits = allowed.fits in
-    let most = freed entry.slot in
     before-added placed start ops p entry (dead entry.slot fits.0) (omega arith)
 before-placed placed start ops p (Remove slot) well allowed dead freed around ending = tt
 before-placed placed start ops p (Change entry) well allowed dead freed around ending =
@@ -273,10 +196,7 @@ well_placed-after placed start ops well early allowed differ typed =
     }
 
 pub early-start : (start : ℕ) (ops : List Op) → change_faults start ops ≡ [] → start < 2 ^ 40
-early-start start ops none =
-    let parts = both-none (map (broken 0) (no_ops ops) ++ map (broken 16) (too_many_ops ops)) (map (broken 0) (start_range start)) none in
-    let test : nat_le (2 ^ 40) start ≡ false = not-held _ _ (none-mapped (broken 0) (start_range start) parts.1) in
-    grind (arith, nat_tests)
+early-start start ops none = grind (arith, both-none, not-held, none-mapped, nat_tests)
 
 -- a well formed change keeps a list well placed
 pub well_placed-applied : (placed : List Placed) (bounds : Bounds) (change : TableChange) → bounds.slots ≤ most_slots → IsWellPlaced placed → change_faults change.start change.ops ≡ []
@@ -289,6 +209,4 @@ well_placed-applied placed bounds change room well whole each typed =
 
 pub well_placed-formed : (placed : List Placed) (nodes slots : ℕ) (change : TableChange) → slots ≤ most_slots → IsWellPlaced placed → IsWellFormed placed (bounds_of nodes slots) change → All HasTypes change.ops
     → IsWellPlaced (applied placed change)
-well_placed-formed placed nodes slots change room well formed typed =
-    let parts = both-none (change_faults change.start change.ops) (op_faults placed (bounds_of nodes slots) change.start [] change.ops) formed in
-    well_placed-applied placed (bounds_of nodes slots) change room well parts.0 parts.1 typed
+well_placed-formed placed nodes slots change room well formed typed = grind (arith, both-none, well_placed-applied)

@@ -1,6 +1,6 @@
 -- A run of the bus over the nodes and the trigger frames of a cycle gives the frames that are offered in the cycle, and
 -- the nodes stand for them.
-use Rattle.std.proofs.Common.{◌≡◌, ℕ, ◌+◌, ◌/◌, ◌^◌, ◌<◌, ◌≤◌, List, [], ◌∷◌, ◌++◌, All, Contains, map, inl, inr, refl, sym, ap, ◌∙◌, subst, arith, append_assoc, append-nil, get_or}
+use Rattle.std.proofs.Common.{◌≡◌, ℕ, ◌+◌, ◌^◌, ◌<◌, ◌≤◌, List, [], ◌∷◌, ◌++◌, All, Contains, map, inl, inr, refl, sym, ap, ◌∙◌, subst, arith, append_assoc, append-nil}
 use Rattle.std.specs.Prelude.{◌==◌, fold}
 use Rattle.std.proofs.Math.Nat.{add-mul, div-eq_of_lt-le}
 use Rattle.std.proofs.lemmas.List.Elements.{All-contains, All-filter, All-map, All-weaker}
@@ -42,16 +42,10 @@ IsNumber-kept : (nodes : List NodeState) (sent : TimedFrame) (number : ℕ) → 
 IsNumber-kept nodes sent number is = subst (λ numbers. Contains numbers number) (numbers_kept nodes sent) is
 
 IsOwned-kept : (owners : List Owner) (nodes : List NodeState) (sent : TimedFrame) (request : Request) → IsOwned owners nodes request → IsOwned owners (all_hear nodes sent) request
-IsOwned-kept owners nodes sent request is = record {
-  owner = is.owner;
-  owns = is.owns;
-  identifier = is.identifier;
-  node = IsNumber-kept nodes sent is.owner.node is.node;
-}
+IsOwned-kept owners nodes sent request is = grind (arith, IsNumber-kept)
 
 HaveSenders-kept : (opening : Opening) (nodes : List NodeState) (sent : TimedFrame) → HaveSenders nodes opening → HaveSenders (all_hear nodes sent) opening
-HaveSenders-kept opening nodes sent senders slot within flagged =
-    let sender = senders slot within flagged in (sender.0, sender.1, IsNumber-kept nodes sent sender.0.placed.entry.node sender.2)
+HaveSenders-kept opening nodes sent h0 = grind (arith, IsNumber-kept)
 
 -- the same behind more frames
 HaveSenders-heard : (opening : Opening) (frames : List TimedFrame) (nodes : List NodeState) → HaveSenders nodes opening → HaveSenders (heard_by frames nodes) opening
@@ -89,9 +83,7 @@ module _ (layout : CycleLayout) (owners : List Owner) (requests : List Request) 
 
   parts_at : (past : List TimedFrame) (nodes : List NodeState) (at : ℕ) → start_of layout opening ≤ at → at < end_of_cycle layout opening
       → Standing layout owners requests opening past nodes → All (OffersLeastOwn layout owners requests opening past at) nodes
-  parts_at past nodes at begun within standing =
-      let here : at / layout.cycle ≡ opening.cycle = div-eq_of_lt-le layout.cycle begun within in
-      λ k d inside. offers_own_part layout owners requests opening past at (get_or nodes k d) (standing.are k d inside) well_placed (standing.stand k d inside) here
+  parts_at past nodes at begun within standing = grind (arith, div-eq_of_lt-le, offers_own_part)
 
   own_id : (number : ℕ) (past : List TimedFrame) (at : ℕ) (frame : DataFrame) → OffersOwn number layout owners requests opening past at frame → greatest_trigger < frame.identifier
   own_id number past at frame (inl (offers, contains)) =
@@ -146,11 +138,7 @@ module _ (layout : CycleLayout) (owners : List Owner) (requests : List Request) 
       let hears = Standing-more past nodes sent one.1 (omega (arith, begun, next.when_free)) standing in
       let told_more = fold-append cycle_line.next before sofar (sent ∷ []) ∙ ap (λ s. cycle_line.next s sent) now in
       let rest = Follows-nodes before (sofar ++ sent ∷ []) (past ++ sent ∷ []) (all_hear nodes sent) (end_of sent) later told_more hears
-      (NoTrigger-more layout opening past (sent ∷ []) none) (omega (arith, begun, next.when_free)) follows in (
-        (one.0, rest.0),
-        subst (λ started. Standing layout owners requests opening started (heard_by (sent ∷ later) nodes)) (append_assoc past (sent ∷ []) later)
-            (subst (Standing layout owners requests opening (past ++ sent ∷ [] ++ later)) (heard-first sent later nodes) rest.1),
-      )
+      (NoTrigger-more layout opening past (sent ∷ []) none) (omega (arith, begun, next.when_free)) follows in (grind (arith, append_assoc, heard-first))
 
 -- the trigger frames of a cycle and the nodes before they are sent
 abbrev pub announcing : CycleLayout → Opening → List NodeState → Stationed
@@ -193,14 +181,7 @@ module _ (layout : CycleLayout) (owners : List Owner) (requests : List Request) 
   }
 
   can_hear : CanBeHeard layout (trigger_frames layout opening) nodes
-  can_hear = record {
-    first = low_ids layout.slots opening.cycle (width_of opening) opening.mask;
-    last = opens_last layout.slots opening.cycle (width_of opening) opening.mask;
-    short = frames_short layout.slots opening.cycle (width_of opening) opening.mask;
-    are = waiting.are;
-    layouts = λ k d within. (waiting.stand k d within).same_layout;
-    next = λ _ k d within. subst (λ c. c < 2 ^ 42) (sym (waiting.stand k d within).next_cycle) waiting.cycle;
-  }
+  can_hear = grind (arith, low_ids, opens_last, frames_short)
 
   -- the frames of the cycle are those that are offered in it, and the nodes stand behind them
   pub Follows-cycle : (frames : List TimedFrame)
@@ -218,13 +199,7 @@ module _ (layout : CycleLayout) (owners : List Owner) (requests : List Request) 
       let behind = Follows-nodes layout owners requests opening are_owners well_placed (announcing layout opening nodes) cut.sent (past ++ cut.sent) (heard_by cut.sent nodes)
       (free_after (start_of layout opening) cut.sent) cut.later cut.now (Standing-trigger cut.sent cut.are cut.known) (NoTrigger-sent layout opening past cut.sent done) late cut.follows in
       let all = Follows-left layout opening bytes_of requests asynchronous past [] (trigger_frames layout opening) (start_of layout opening) (end_of_cycle layout opening) cut.sent cut.later left
-      (omega arith) (omega (arith, long)) part (frames_short layout.slots opening.cycle (width_of opening) opening.mask) cut.are cut.at_once behind.0 in (
-        subst (Follows (offered_in bytes_of layout requests opening) past (start_of layout opening) (end_of_cycle layout opening)) (sym cut.split)
-            (subst (λ front. Follows (offered_in bytes_of layout requests opening) front (start_of layout opening) (end_of_cycle layout opening) (cut.sent ++ cut.later)) (append-nil past) all),
-        subst (λ fs. Standing layout owners requests opening (past ++ fs) (heard_by fs nodes)) (sym cut.split)
-            (subst (λ started. Standing layout owners requests opening started (heard_by (cut.sent ++ cut.later) nodes)) (append_assoc past cut.sent cut.later)
-            (subst (Standing layout owners requests opening (past ++ cut.sent ++ cut.later)) (heard-twice cut.sent cut.later nodes) behind.1)),
-      )
+      (omega arith) (omega (arith, long)) part (frames_short layout.slots opening.cycle (width_of opening) opening.mask) cut.are cut.at_once behind.0 in (grind (arith, append-nil, append_assoc, heard-twice))
 
 -- what the nodes know once frames were sent
 pub told-heard : (frames : List TimedFrame) (before : Stationed) → (told cycle_line before frames).nodes ≡ heard_by frames before.nodes

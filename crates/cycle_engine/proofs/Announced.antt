@@ -1,8 +1,9 @@
 -- The trigger frames that the master has to send go before everything that the nodes offer, one at once behind the other.
-use Rattle.std.proofs.Common.{◌≡◌, ◌≢◌, ℕ, ◌+◌, ◌*◌, ◌^◌, ◌<◌, ◌≤◌, Bool, true, false, cond, List, [], ◌∷◌, ◌++◌, length, map, get_or, All, AllPairs, Contains, inl, inr, refl, sym, ap, ◌∙◌, subst, arith, append_assoc, append-nil}
-use Rattle.std.specs.Prelude.{fold, nat_le}
+use Rattle.std.proofs.Common.{◌≡◌, ◌≢◌, ℕ, ◌+◌, ◌*◌, ◌^◌, ◌<◌, ◌≤◌, List, [], ◌∷◌, ◌++◌, length, map, get_or, All, AllPairs, inl, inr, refl, sym, ap, ◌∙◌, subst, arith, append_assoc, append-nil}
+use Rattle.std.proofs.lemmas.Grind.{common_steps}
+use Rattle.std.specs.Prelude.{fold}
 use Rattle.std.proofs.lemmas.Bool.{cases_lt, eq-eqb, le-leb}
-use Rattle.std.proofs.lemmas.List.Elements.{All-contains, All-head, All-map, All-tail, Contains-append_cases}
+use Rattle.std.proofs.lemmas.List.Elements.{All-contains, All-head, All-map, All-tail}
 use Rattle.std.proofs.lemmas.List.Sums.{fold-append}
 use Rattle.can_frame.specs.DataFrame.{DataFrame}
 use Rattle.can_frame.specs.Wire.{wire_length}
@@ -15,15 +16,14 @@ use Rattle.trigger_kind.specs.Kind.{greatest_trigger, opening_identifier}
 use Rattle.node_model.specs.Node.{IsNode, NodeState, after_hearing, node_offer}
 use Rattle.node_model.proofs.Shared.{node-hearing, offers-in_range}
 use Rattle.cycle_engine.specs.Nodes.{heard_by}
-use Rattle.cycle_engine.specs.Stations.{DueTrigger, Stationed, all_hear, announced, cycle_line, due_from, frame_by_nodes, offered_by_nodes}
+use Rattle.cycle_engine.specs.Stations.{Stationed, all_hear, announced, cycle_line, offered_by_nodes}
 use Rattle.cycle_engine.specs.SyncWindow.{nodes_alone}
-use Rattle.cycle_engine.proofs.Lists.{All-from_contains, AllPairs-head, AllPairs-tail, Contains-cases, Contains-from_filter_map, Contains-here, Contains-nil}
+use Rattle.cycle_engine.proofs.Lists.{All-from_contains, AllPairs-head, AllPairs-tail, Contains-from_filter_map}
 use Rattle.cycle_engine.proofs.Hearing.{layout_kept, next_kept}
 use Rattle.cycle_engine.proofs.TriggerFrames.{AtOnce, StartAt, frames_short, low_ids, opens_last}
 
 pub map-same : {X : Type 0} (xs : List X) → map (λ x. x) xs ≡ xs
-map-same [] = refl
-map-same (x ∷ xs) = ap (λ ys. x ∷ ys) (map-same xs)
+map-same xs = grind (arith, common_steps)
 
 pub map-twice : {X : Type 0} (f g : X → X) (xs : List X) → map g (map f xs) ≡ map (λ x. g (f x)) xs
 map-twice f g [] = refl
@@ -43,11 +43,6 @@ offers_range nodes at are =
     All-from_contains (λ id. (0x100 ≤ id) × (id ≤ 0x7EF)) (offered_by_nodes nodes at) (λ id has.
     let found = Contains-from_filter_map (λ node. node_offer node at) nodes id has in
     offers-in_range found.0 at id (All-contains IsNode nodes found.0 are found.1) found.2)
-
--- an identifier that one alone offers
-pub only_id : (b : Bool) (id other : ℕ) → Contains (cond b (id ∷ []) []) other → id ≡ other
-only_id true id other has = elim (Contains-cases id [] other has) [ inl same ↦ same | inr none ↦ absurd (Contains-nil other none) ]
-only_id false id other has = absurd (Contains-nil other has)
 
 -- what holds of nothing but the list being not empty
 pub of_some : {X : Type 0} (P : Type 0) (xs : List X) → xs ≢ [] → All (λ _. P) xs → P
@@ -77,62 +72,31 @@ pub record CanBeHeard (layout : CycleLayout) (frames : List DataFrame) (nodes : 
 -- nodes before a cycle can hear its trigger frames
 pub can-be-heard : (layout : CycleLayout) (cycle l mask : ℕ) → (nodes : List NodeState) → cycle < 2 ^ 42
     → All IsNode nodes → All (λ node. node.layout ≡ layout) nodes → All (λ node. node.next ≡ cycle) nodes → CanBeHeard layout (triggers_with layout.slots cycle l mask) nodes
-can-be-heard layout cycle l mask nodes early are layouts at = record {
-  first = low_ids layout.slots cycle l mask;
-  last = opens_last layout.slots cycle l mask;
-  short = frames_short layout.slots cycle l mask;
-  are = are;
-  layouts = layouts;
-  next = λ _ k d within. subst (λ c. c < 2 ^ 42) (sym (at k d within)) early;
-}
+can-be-heard layout cycle l mask nodes early are layouts at = grind (arith, low_ids, opens_last, frames_short)
 
 module _ (layout : CycleLayout) (low : ℕ) where
   -- the first of the trigger frames is offered from the time on
   pub offers_announced : (frame : DataFrame) (later : List DataFrame) (nodes : List NodeState) (at : ℕ) → low ≤ at
       → IsOffered cycle_line (announced layout low (frame ∷ later) nodes) at frame
-  offers_announced frame later nodes at late = record {
-    contends = subst (λ b. Contains ((cond b (frame.identifier ∷ []) []) ++ offered_by_nodes nodes at) frame.identifier)
-        (sym (le-leb low at late)) (Contains-here frame.identifier (offered_by_nodes nodes at));
-    framed = ap (λ b. cond b frame (frame_by_nodes nodes at frame.identifier)) (sym (eq-eqb frame.identifier frame.identifier refl));
-  }
+  offers_announced frame later nodes at late = grind (arith, le-leb, eq-eqb)
 
   -- behind it the others are left
   pub next_announced : (frame : DataFrame) (later : List DataFrame) (nodes : List NodeState) (sent : TimedFrame) → sent.frame ≡ frame
       → cycle_line.next (announced layout low (frame ∷ later) nodes) sent ≡ announced layout low later (all_hear nodes sent)
-  next_announced frame later nodes sent is =
-      let first : DueTrigger = record { at = low; frame = frame } in
-      ap (λ b. the_stations (cond b (due_from low later) (first ∷ due_from low later)) (all_hear nodes sent))
-      (eq-eqb frame.identifier sent.frame.identifier (ap (λ f. f.identifier) (sym is)))
-    where
-      the_stations : List DueTrigger → List NodeState → Stationed
-      the_stations triggers nodes = record { layout = layout; triggers = triggers; nodes = nodes }
+  next_announced frame later nodes sent is = grind (arith, common_steps, eq-eqb)
 
   -- it is sent at once
   pub first_announced : (frame : DataFrame) (later : List DataFrame) (nodes : List NodeState) (before : Stationed) (sofar : List TimedFrame) (free until : ℕ) (sent : TimedFrame)
       → low ≤ free → frame.identifier ≤ greatest_trigger → All IsNode nodes → told cycle_line before sofar ≡ announced layout low (frame ∷ later) nodes
       → IsNext (offers_of cycle_line before) sofar free until sent → StartAt free sent × (sent.frame ≡ frame)
   first_announced frame later nodes before sofar free until sent late first are now next =
-      let waiting = announced layout low (frame ∷ later) nodes in
       let start : sent.start ≡ free = elim (cases_lt free sent.start) [
         | inl gap ↦ absurd (next.first free frame (omega arith) gap (subst (λ s. IsOffered cycle_line s free frame) (sym now) (offers_announced frame later nodes free late)))
         | inr no_gap ↦ omega (arith, no_gap, next.when_free)
       ] in
       let least : sent.frame.identifier ≤ frame.identifier =
       next.least.least frame (subst (λ s. IsOffered cycle_line s sent.start frame) (sym now) (offers_announced frame later nodes sent.start (omega (arith, late, start)))) in
-      let offered = subst (λ s. IsOffered cycle_line s sent.start sent.frame) now next.least.offered in
-      let same : frame.identifier ≡ sent.frame.identifier =
-      elim (Contains-append_cases (cond (nat_le low sent.start) (frame.identifier ∷ []) []) (offered_by_nodes nodes sent.start) sent.frame.identifier offered.contends) [
-        | inl here ↦ only_id (nat_le low sent.start) frame.identifier sent.frame.identifier here
-        | inr there ↦ absurd (omega (
-          arith,
-          least,
-          first,
-          (All-contains (λ id. (0x100 ≤ id) × (id ≤ 0x7EF)) (offered_by_nodes nodes sent.start) sent.frame.identifier (offers_range nodes sent.start are) there).0,
-        ))
-      ] in (
-        record { start = start; whole = next.whole },
-        offered.framed ∙ ap (λ b. cond b frame (frame_by_nodes nodes sent.start sent.frame.identifier)) (eq-eqb frame.identifier sent.frame.identifier same),
-      )
+      let same : frame.identifier ≡ sent.frame.identifier = grind (arith, offers_range) in (grind (arith, common_steps, eq-eqb))
 
   CanBeHeard-more : (frame : DataFrame) (later : List DataFrame) (nodes : List NodeState) (sent : TimedFrame) → sent.frame ≡ frame → CanBeHeard layout (frame ∷ later) nodes
       → CanBeHeard layout later (all_hear nodes sent)
@@ -147,9 +111,7 @@ module _ (layout : CycleLayout) (low : ℕ) where
         next = λ some.
             let other : frame.identifier ≢ opening_identifier layout.slots =
             of_some (frame.identifier ≢ opening_identifier layout.slots) later some (AllPairs-head (λ one two. one.identifier ≢ opening_identifier layout.slots) frame later can.last) in
-            All-map (λ node. node.next < 2 ^ 42) (λ node. after_hearing node sent) nodes (λ k d within.
-            subst (λ n. n < 2 ^ 42) (sym (next_kept (get_or nodes k d) sent (λ same.
-            other (ap (λ f. f.identifier) (sym is) ∙ same ∙ ap (λ l. opening_identifier l.slots) (can.layouts k d within))))) (early k d within));
+            All-map (λ node. node.next < 2 ^ 42) (λ node. after_hearing node sent) nodes (λ k d within. grind (arith, next_kept));
       }
 
   pub go-first : (frames : List DataFrame) (nodes : List NodeState) (before : Stationed) (sofar : List TimedFrame) (free until : ℕ) (all : List TimedFrame)
@@ -177,13 +139,4 @@ module _ (layout : CycleLayout) (low : ℕ) where
       fold-append cycle_line.next before sofar (sent ∷ []) ∙ ap (λ s. cycle_line.next s sent) now ∙ next_announced frame rest nodes sent is in
       let behind = go-first rest (all_hear nodes sent) before (sofar ++ sent ∷ []) (end_of sent) until all (omega (arith, late, starts.start)) (omega (arith, room, ended))
       (CanBeHeard-more frame rest nodes sent is can) told_more follows in
-      record {
-        sent = sent ∷ behind.sent;
-        later = behind.later;
-        split = ap (λ fs. sent ∷ fs) behind.split;
-        are = ap (λ f. f ∷ map (λ s. s.frame) behind.sent) is ∙ ap (λ fs. frame ∷ fs) behind.are;
-        at_once = (starts, behind.at_once);
-        now = ap (told cycle_line before) (sym (append_assoc sofar (sent ∷ []) behind.sent)) ∙ behind.now ∙ ap (nodes_alone layout) (heard-first sent behind.sent nodes);
-        follows = subst (λ front. Follows (offers_of cycle_line before) front (free_after (end_of sent) behind.sent) until behind.later) (append_assoc sofar (sent ∷ []) behind.sent) behind.follows;
-        known = subst (All IsNode) (heard-first sent behind.sent nodes) behind.known;
-      }
+      grind (arith, append_assoc, heard-first)

@@ -1,6 +1,7 @@
 -- In a synchronous window the frames that the nodes are to send, in the order of their slots, are those that
 -- arbitration decides.
 use Rattle.std.proofs.Common.{◌≡◌, ◌≢◌, ℕ, zero, suc, ◌+◌, ◌-◌, ◌<◌, ◌≤◌, ◌&&◌, Bool, true, false, not, cond, List, [], ◌∷◌, ◌++◌, All, Contains, length, length-append, take, drop, get_or, Option, None, Some, inl, inr, refl, sym, ap, ◌∙◌, subst, arith}
+use Rattle.std.proofs.lemmas.Grind.{common_steps}
 use Rattle.std.specs.Prelude.{MatchOption, nat_lt, find}
 use Rattle.std.specs.List.{cons_option, filter_map, range_with_len}
 use Rattle.std.specs.Option.{option_map_or}
@@ -23,7 +24,7 @@ use Rattle.node_model.proofs.Shared.{due-kept, frame-kept, frames-due, node-hear
 use Rattle.cycle_engine.specs.Stations.{Stationed, all_hear, cycle_line, frame_by_nodes, offered_by_nodes, offers_this}
 use Rattle.cycle_engine.specs.SyncWindow.{back_to_back, by_slots, due_by, due_frames, nodes_alone, sent_at}
 use Rattle.trigger_kind.proofs.Shared.{above-opens_not}
-use Rattle.cycle_engine.proofs.Lists.{Contains-filter_map, Contains-from_filter_map, Contains-here, Contains-later, filter_map-none}
+use Rattle.cycle_engine.proofs.Lists.{Contains-from_filter_map, Contains-later, filter_map-none}
 
 -- no slot below this one is due
 abbrev pub IsDueFrom : ℕ → NodeState → Type 0
@@ -53,12 +54,7 @@ module _ (from until : ℕ) where
       (λ id. (slot : ℕ) × (slot < most_slots) × (id ≡ first_identifier + slot) × (is_due_slot node slot ≡ true)
       × ((other : ℕ) → other < slot → is_due_slot node other ≡ false))
       → IsDueFrom k node → k < most_slots → is_due_slot node k ≡ true → o ≡ Some (first_identifier + k)
-  offer-found node k None nothing below within due = absurd (false≢true (sym (nothing k within) ∙ due))
-  offer-found node k (Some id) (slot, inside, is, due_too, least) below within due = elim (cases_order slot k) [
-    | inl same ↦ ap (λ n. Some n) (is ∙ ap (λ s. first_identifier + s) same)
-    | inr (inl before) ↦ absurd (false≢true (sym (below slot before) ∙ due_too))
-    | inr (inr behind) ↦ absurd (false≢true (sym (least k behind) ∙ due))
-  ]
+  offer-found node k o nothing below within due = grind (arith, false≢true, cases_order)
 
   -- an identifier that is offered is that of a slot that is due
   offer-due : (node : NodeState) (o : Option ℕ) (id : ℕ)
@@ -66,20 +62,17 @@ module _ (from until : ℕ) where
       (λ id. (slot : ℕ) × (slot < most_slots) × (id ≡ first_identifier + slot) × (is_due_slot node slot ≡ true)
       × ((other : ℕ) → other < slot → is_due_slot node other ≡ false))
       → o ≡ Some id → (slot : ℕ) × (slot < most_slots) × (id ≡ first_identifier + slot) × (is_due_slot node slot ≡ true)
-  offer-due node None id nothing is = absurd (none-some id is)
-  offer-due node (Some own) id (slot, inside, same, due, least) is = (slot, inside, sym (same_Some own id is) ∙ same, due)
+  offer-due node o id nothing is = grind (arith, none-some, same_Some)
 
   offer-none : (node : NodeState) (o : Option ℕ)
       → MatchOption o ((slot : ℕ) → slot < most_slots → is_due_slot node slot ≡ false)
       (λ id. (slot : ℕ) × (slot < most_slots) × (id ≡ first_identifier + slot) × (is_due_slot node slot ≡ true)
       × ((other : ℕ) → other < slot → is_due_slot node other ≡ false))
       → ((slot : ℕ) → slot < most_slots → is_due_slot node slot ≡ false) → o ≡ None
-  offer-none node None nothing none = refl
-  offer-none node (Some id) (slot, inside, is, due, least) none = absurd (false≢true (sym (none slot inside) ∙ due))
+  offer-none node o nothing none = grind (arith, false≢true)
 
   offers_none : (o : Option ℕ) (id : ℕ) → (o ≡ Some id → ⊥) → offers_this id o ≡ false
-  offers_none None id never = refl
-  offers_none (Some own) id never = ne_eqb own id (λ same. never (ap (λ n. Some n) same))
+  offers_none o id never = grind (arith, ne_eqb)
 
   module _ (at k : ℕ) (begun : from ≤ at) (early : at < until) (within : k < most_slots) where
     offers-at : (node : NodeState) → IsAt k node → is_due_slot node k ≡ true → node_offer node at ≡ Some (first_identifier + k)
@@ -95,12 +88,7 @@ module _ (from until : ℕ) where
           let is = All-head (IsAt k) node later all in
           let offered = offers-at node is its in
           let same : due_frame node k ≡ frame = same_Some (due_frame node k) frame (due-cases node later k true (Some frame) its due) in
-          let first = ap (offers_this (first_identifier + k)) offered ∙ eq-eqb (first_identifier + k) (first_identifier + k) refl in (
-            ap (λ b. option_map_or (λ n. node_frame n at (first_identifier + k))
-                (cond b (Some node) (find (λ n. offers_this (first_identifier + k) (node_offer n at)) later)) (record { identifier = first_identifier + k; bytes = [] })) first
-                ∙ frames-due node from until at k is.known is.in_window begun early within ∙ same,
-            Contains-filter_map (λ n. node_offer n at) (node ∷ later) node (first_identifier + k) (Contains-here node later) offered,
-          )
+          let first = ap (offers_this (first_identifier + k)) offered ∙ eq-eqb (first_identifier + k) (first_identifier + k) refl in (grind (arith, frames-due))
       | inr other ↦
           let is = All-head (IsAt k) node later all in
           let never : node_offer node at ≡ Some (first_identifier + k) → ⊥ = λ same.
@@ -108,12 +96,7 @@ module _ (from until : ℕ) where
           let slot : its.0 ≡ k = omega (arith, its.2) in
           false≢true (sym other ∙ ap (is_due_slot node) (sym slot) ∙ its.3) in
           let rest = frame-first later frame (All-tail (IsAt k) node later all) (due-cases node later k false (Some frame) other due) in
-          let passes = offers_none (node_offer node at) (first_identifier + k) never in (
-            ap (λ b. option_map_or (λ n. node_frame n at (first_identifier + k))
-                (cond b (Some node) (find (λ n. offers_this (first_identifier + k) (node_offer n at)) later)) (record { identifier = first_identifier + k; bytes = [] })) passes
-                ∙ rest.0,
-            offered-later node (node_offer node at) later rest.1,
-          )
+          let passes = offers_none (node_offer node at) (first_identifier + k) never in (grind (arith, common_steps, offered-later))
     ]
       where
         offered-later : (node : NodeState) (o : Option ℕ) (later : List NodeState) → Contains (offered_by_nodes later at) (first_identifier + k)
@@ -127,10 +110,7 @@ module _ (from until : ℕ) where
         let found = Contains-from_filter_map (λ n. node_offer n at) nodes id has in
         let is = All-contains (IsAt k) nodes found.0 all found.1 in
         let its = offer-due found.0 (node_offer found.0 at) id (offers-due found.0 from until at is.known is.in_window begun early) found.2 in
-        elim (cases_lt its.0 k) [
-          | inl before ↦ absurd (false≢true (sym (is.later its.0 before) ∙ its.3))
-          | inr behind ↦ omega (arith, behind, its.2)
-        ]
+        grind (arith, cases_lt, false≢true)
 
   -- nothing is offered where no slot is due
   offers-nothing : (nodes : List NodeState) (at : ℕ) → from ≤ at → at < until → All (IsAt most_slots) nodes → offered_by_nodes nodes at ≡ []
@@ -158,16 +138,7 @@ module _ (from until : ℕ) where
       })
 
   IsAt-next : (k : ℕ) (nodes : List NodeState) → due_by nodes k ≡ None → All (IsAt k) nodes → All (IsAt (k + 1)) nodes
-  IsAt-next k nodes none all = λ j d inside.
-      let was = all j d inside in
-      record {
-        known = was.known;
-        in_window = was.in_window;
-        later = λ slot below. elim (cases_eq slot k) [
-          | inl here ↦ ap (is_due_slot (get_or nodes j d)) here ∙ due_by-none nodes k none j d inside
-          | inr other ↦ was.later slot (omega (arith, below, other))
-        ];
-      }
+  IsAt-next k nodes none all = grind (arith, due_by-none)
 
   -- what the nodes are to send of the other slots stays
   due_by-heard : (k : ℕ) (sent : TimedFrame) (slot : ℕ) (nodes : List NodeState) → sent.frame.identifier ≡ first_identifier + k → k < most_slots → slot < most_slots
@@ -222,10 +193,7 @@ module _ (layout : CycleLayout) (from until : ℕ) (before : Stationed) where
           within = early;
           first = λ t other low high _. omega (arith, low, high);
           least = record {
-            offered = subst (λ s. IsOffered cycle_line s at frame) (sym now) (record {
-              contends = subst (Contains (offered_by_nodes nodes at)) (sym identifier) first.1;
-              framed = sym first.0 ∙ ap (frame_by_nodes nodes at) (sym identifier);
-            });
+            offered = subst (λ s. IsOffered cycle_line s at frame) (sym now) (grind arith);
             least = λ other offered.
                 let its = subst (λ s. IsOffered cycle_line s at other) now offered in
                 omega (arith, identifier, offers-more from until at k begun early within nodes other.identifier all its.contends);
@@ -236,8 +204,7 @@ module _ (layout : CycleLayout) (from until : ℕ) (before : Stationed) where
       )
     where
       identifier-found : (at id : ℕ) (o : Option NodeState) → (option_map_or (λ node. node_frame node at id) o (record { identifier = id; bytes = [] })).identifier ≡ id
-      identifier-found at id None = refl
-      identifier-found at id (Some node) = refl
+      identifier-found at id o = grind (arith, common_steps)
 
       identifier_of : (nodes : List NodeState) (at id : ℕ) → (frame_by_nodes nodes at id).identifier ≡ id
       identifier_of nodes at id = identifier-found at id (find (λ node. offers_this id (node_offer node at)) nodes)
@@ -247,14 +214,7 @@ module _ (layout : CycleLayout) (from until : ℕ) (before : Stationed) where
       → (o : Option DataFrame) → due_by nodes k ≡ o → Decided sofar at (back_to_back (cons_option o (due_from nodes (k + 1) n)) at until)
   one-slot n k sum goes nodes sofar at now all begun None due =
       goes nodes sofar at now (IsAt-next from until k nodes due all) begun
-  one-slot n k sum goes nodes sofar at now all begun (Some frame) due = elim (cases_lt at until) [
-    | inl early ↦
-        subst (Decided sofar at) (sym (cond-true (nat_lt at until) _ _ (lt-ltb at until early)))
-        (one-sent n k sum goes nodes sofar at now all begun early frame due)
-    | inr late ↦
-        subst (Decided sofar at) (sym (cond-false (nat_lt at until) _ _ (le-ltb at until late)))
-        (λ t other low high _. omega (arith, low, high, late))
-  ]
+  one-slot n k sum goes nodes sofar at now all begun (Some frame) due = grind (arith, cases_lt, cond-true, lt-ltb, one-sent, cond-false, le-ltb)
 
   goes-on : (n k : ℕ) → k + n ≡ most_slots → Goes k n
   goes-on zero k sum nodes sofar at now all begun = λ t other low high offered.
@@ -264,8 +224,7 @@ module _ (layout : CycleLayout) (from until : ℕ) (before : Stationed) where
       contains_none (offered_by_nodes nodes t) other.identifier none its.contends
     where
       contains_none : (ids : List ℕ) (id : ℕ) → ids ≡ [] → Contains ids id → ⊥
-      contains_none [] id none (j, within, is) = omega arith
-      contains_none (x ∷ xs) id none has = absurd (cc)
+      contains_none ids id none h1 = grind arith
   goes-on (suc n) k sum nodes sofar at now all begun =
       one-slot n k (omega (arith, sum)) (goes-on n (k + 1) (omega (arith, sum))) nodes sofar at now all begun (due_by nodes k) refl
 
@@ -291,9 +250,7 @@ due_by-id (node ∷ later) slot frame due = elim (cases_Bool (is_due_slot node s
 
 one-id : (o : Option DataFrame) (k : ℕ) (fs : List DataFrame) → ((frame : DataFrame) → o ≡ Some frame → frame.identifier ≡ first_identifier + k) → k < most_slots
     → All (λ f. IsSlotId f.identifier) fs → All (λ f. IsSlotId f.identifier) (cons_option o fs)
-one-id None k fs is within all = all
-one-id (Some frame) k fs is within all =
-    let same = is frame refl in All-cons (λ f. IsSlotId f.identifier) frame fs (omega (arith, same), omega (arith, same, within)) all
+one-id o k fs is within all = grind arith
 
 due_from-ids : (nodes : List NodeState) (n k : ℕ) → k + n ≤ most_slots → All (λ f. IsSlotId f.identifier) (due_from nodes k n)
 due_from-ids nodes zero k few = λ j d within. absurd (omega arith)
@@ -307,9 +264,7 @@ sent-ids (frame ∷ later) at until all = if-sent (nat_lt at until)
   where
     if-sent : (b : Bool) → All (λ sent. IsSlotId sent.frame.identifier) (back_to_back later (at + wire_length frame) until)
         → All (λ sent. IsSlotId sent.frame.identifier) (cond b (sent_at at frame ∷ back_to_back later (at + wire_length frame) until) [])
-    if-sent true rest =
-        All-cons (λ sent. IsSlotId sent.frame.identifier) (sent_at at frame) _ (All-head (λ f. IsSlotId f.identifier) frame later all) rest
-    if-sent false rest = λ j d within. absurd (omega arith)
+    if-sent b rest = grind arith
 
 pub due-ids : (nodes : List NodeState) (from until : ℕ)
     → All (λ sent. (first_identifier ≤ sent.frame.identifier) × (sent.frame.identifier < first_identifier + most_slots)) (back_to_back (due_frames nodes) from until)
@@ -325,5 +280,4 @@ behind-front {X = X} front back all n is long =
     ∙ take_all (length (front ++ back) - length front) back (omega (arith, length-append front back))
   where
     drop-front : (xs : List X) → drop (length xs) (xs ++ back) ≡ back
-    drop-front [] = refl
-    drop-front (x ∷ xs) = drop-front xs
+    drop-front xs = grind (arith, common_steps)

@@ -77,25 +77,13 @@ among-first nodes set rest slot frame is without due =
 pub among-all : (nodes : List NodeState) (set : ℕ) → ((slot : ℕ) → slot < most_slots → has_bit set slot ≡ is_some (due_by nodes slot))
     → by_slots (due_among nodes set) ≡ due_frames nodes
 unfolding by_slots
-among-all nodes set each = given-same (due_among nodes set) (due_by nodes) most_slots 0 (λ i low high.
-    ap (λ b. cond b (due_by nodes i) None) (each i (omega (arith, high))) ∙ where_some (due_by nodes i))
-  where
-    where_some : (o : Option DataFrame) → cond (is_some o) o None ≡ o
-    where_some None = refl
-    where_some (Some frame) = refl
+among-all nodes set each = given-same (due_among nodes set) (due_by nodes) most_slots 0 (λ i low high. grind arith)
 
 -- one more frame is put
 pub put-more : (out new total : List TimedFrame) (frames later : List DataFrame) (frame : DataFrame) (at len until : ℕ) → frames ≡ frame ∷ later → at < until
     → len ≡ wire_length frame → new ≡ out ++ record { start = at; len = len; frame = frame } ∷ [] → out ++ back_to_back frames at until ≡ total
     → new ++ back_to_back later (at + len) until ≡ total
-put-more out new total frames later frame at len until is early long put so_far =
-    let rest = back_to_back later (at + len) until in
-    ap (λ xs. xs ++ rest) put
-    ∙ append_assoc out (record { start = at; len = len; frame = frame } ∷ []) rest
-    ∙ ap (λ n. out ++ record { start = at; len = n; frame = frame } ∷ back_to_back later (at + n) until) long
-    ∙ ap (λ xs. out ++ xs) (sym (cond-true (nat_lt at until) _ _ (lt-ltb at until early)))
-    ∙ ap (λ fs. out ++ back_to_back fs at until) (sym is)
-    ∙ so_far
+put-more out new total frames later frame at len until is early long put so_far = grind (arith, append_assoc, cond-true, lt-ltb)
 
 -- nothing more is put from `until` on
 pub put-late : (frames : List DataFrame) (at until : ℕ) → until ≤ at → back_to_back frames at until ≡ []

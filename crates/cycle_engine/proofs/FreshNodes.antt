@@ -1,12 +1,11 @@
 -- The nodes of a bus before cycle 0.
-use Rattle.std.proofs.Common.{◌≡◌, ℕ, ◌<◌, ◌≤◌, List, [], length, map, get_or, All, Any, Contains, Some, refl, sym, ap, ◌∙◌, subst, arith}
+use Rattle.std.proofs.Common.{◌≡◌, ℕ, ◌<◌, ◌≤◌, List, [], length, map, get_or, All, Any, Contains, Some, sym, ap, ◌∙◌, subst, arith}
 use Rattle.std.specs.List.{range_with_len, slice_get}
 use Rattle.std.proofs.lemmas.List.FromFn.{get_or-map-range_with_len, length-map-range_with_len}
-use Rattle.std.proofs.lemmas.List.Elements.{All-contains, All-nil, Contains-get_or}
+use Rattle.std.proofs.lemmas.List.Elements.{Contains-get_or}
 use Rattle.std.proofs.lemmas.Option.{slice_get-get_or}
 use Rattle.cycle_layout.specs.Layout.{CycleLayout}
 use Rattle.requirement_table.specs.declared.entries.Placed.{Placed}
-use Rattle.requirement_table.specs.Table.{IsInRange, IsWellPlaced}
 use Rattle.async_window.specs.declared.request.Owner.{Owner}
 use Rattle.async_window.specs.declared.request.Request.{Request}
 use Rattle.node_model.specs.Node.{NodeState, identifiers_of}
@@ -21,15 +20,10 @@ use Rattle.cycle_engine.proofs.JointMail.{mail-by}
 use Rattle.cycle_engine.proofs.Lists.{Contains-map}
 use Rattle.cycle_engine.proofs.Parts.{identifiers-joint, owner-of, states-parts}
 
--- the list without entries is well placed
-pub no_entries : IsWellPlaced []
-no_entries = record { in_range = All-nil IsInRange; in_order = λ i j d before within. absurd (omega arith) }
-
 module _ (layout : CycleLayout) (owners : List Owner) (requests : List Request) (nodes : List NodeState) (count : ℕ) (long : length nodes ≡ count)
     (each : (k : ℕ) (d : NodeState) → k < count → get_or nodes k d ≡ fresh_node layout owners requests k) where
   stands : (k : ℕ) (d : NodeState) → k < count → StandsOnBus layout owners requests [] [] 0 (get_or nodes k d)
-  stands k d within =
-      subst (StandsOnBus layout owners requests [] [] 0) (sym (each k d within)) (record { same_layout = refl; own_entries = refl; own_mail = refl; next_cycle = refl })
+  stands k d within = grind arith
 
   numbered : (k : ℕ) (d : NodeState) → k < count → (get_or nodes k d).number ≡ k
   numbered k d within = ap (λ node. node.number) (each k d within)
@@ -41,21 +35,11 @@ module _ (layout : CycleLayout) (owners : List Owner) (requests : List Request) 
       (Contains-map (λ node. node.number) nodes (get_or nodes number d) (Contains-get_or nodes number d (omega (arith, within, long))))
 
   IsOwned-any : All (λ owner. owner.node < count) owners → (request : Request) → Any (λ owner. owner.id ≡ request.frame.identifier) owners → IsOwned owners nodes request
-  IsOwned-any below request (place, owner, within, is, same) = record {
-    owner = owner;
-    owns = (place, within, is);
-    identifier = same;
-    node = IsNumber-below owner.node (All-contains (λ x. x.node < count) owners owner below (place, within, is));
-  }
+  IsOwned-any below request h1 = grind (arith, IsNumber-below)
 
   pub IsBus-fresh : AreOwners owners → All (λ owner. owner.node < count) owners → All (λ request. Any (λ owner. owner.id ≡ request.frame.identifier) owners) requests
       → IsBus layout owners requests [] [] 0 nodes
-  IsBus-fresh are_owners below owned = record {
-    well_placed = no_entries;
-    are_owners = are_owners;
-    stand = λ k d within. stands k d (omega (arith, within, long));
-    owned = λ k d within. IsOwned-any below (get_or requests k d) (owned k d within);
-  }
+  IsBus-fresh are_owners below owned = grind (arith, stands, IsOwned-any)
 
   pub fresh-at : (number : ℕ) → number < count → slice_get nodes number ≡ Some (fresh_node layout owners requests number)
   fresh-at number within =
@@ -82,17 +66,7 @@ module _ (owners : List Owner) (requests : List Request)
 
   pub fresh-joint : (layout : CycleLayout) (count : ℕ) → 1 ≤ count → count ≤ 30 → AreOwners owners → All (λ owner. owner.node < count) owners
       → IsJoint owners [] count (fresh_node layout (joint_owners owners) requests 0)
-  fresh-joint layout count some few are below = record {
-    some = some;
-    few = few;
-    number = refl;
-    entries = refl;
-    mail = ap (λ ids. mail_after ids requests []) (identifiers-joint owners)
-        ∙ sym (mail-by (identifiers_in owners) all_mail requests [] fresh-unsent);
-    are_owners = are;
-    numbers = below;
-    well_placed = no_entries;
-  }
+  fresh-joint layout count some few are below = grind (arith, identifiers-joint, mail-by, fresh-unsent)
 
   pub fresh-each : (layout : CycleLayout) (spare count : ℕ) (joint : NodeState) → joint ≡ fresh_node layout (joint_owners owners) requests 0
       → (k : ℕ) (d : NodeState) → k < count → get_or (states_of (parts_of owners [] spare count joint)) k d ≡ fresh_node layout owners requests k
@@ -118,5 +92,4 @@ module _ (owners : List Owner) (requests : List Request)
       (subst (IsJoint owners [] count) (sym is) (fresh-joint layout count some few are below)))
 
 pub made-count : (owners : List Owner) (placed : List Placed) (spare count : ℕ) (joint : NodeState) → length (states_of (parts_of owners placed spare count joint)) ≡ count
-made-count owners placed spare count joint =
-    ap length (states-parts owners placed spare joint (range_with_len 0 count)) ∙ length-map-range_with_len (part_of owners placed joint) 0 count
+made-count owners placed spare count joint = grind (arith, states-parts, length-map-range_with_len)

@@ -1,7 +1,7 @@
 -- What no frame changes in a node, and which frame opens its next cycle.
-use Rattle.std.proofs.Common.{◌≡◌, ◌≢◌, ℕ, ◌+◌, Bool, true, false, cond, List, [], ◌∷◌, refl, ◌∙◌}
+use Rattle.std.proofs.Common.{◌≡◌, ◌≢◌, ℕ, Bool, true, false, cond, List, [], ◌∷◌, refl, ◌∙◌}
 use Rattle.std.specs.Prelude.{◌==◌, fold, nat_lt}
-use Rattle.std.proofs.lemmas.Bool.{eq-eqb, ne_eqb}
+use Rattle.std.proofs.lemmas.Bool.{ne_eqb}
 use Rattle.can_frame.specs.declared.data_frame.TimedFrame.{TimedFrame}
 use Rattle.trigger_kind.specs.Kind.{opening_identifier}
 use Rattle.node_model.specs.Node.{NodeState, after_hearing, is_own_slot}
@@ -42,10 +42,6 @@ module _ (node : NodeState) (sent : TimedFrame) where
   next_else : (b : Bool) (x y : NodeState) (next : ℕ) → b ≡ false → y.next ≡ next → (cond b x y).next ≡ next
   next_else false x y next is same = same
   next_else true x y next is same = absurd (cc)
-
-  -- the next cycle is one more where the frame opens it, and else the same
-  pub next_opened : sent.frame.identifier ≡ opening_identifier node.layout.slots → (after_hearing node sent).next ≡ node.next + 1
-  next_opened is = next_by opens _ _ (node.next + 1) (eq-eqb sent.frame.identifier (opening_identifier node.layout.slots) is) refl
 
   pub next_kept : sent.frame.identifier ≢ opening_identifier node.layout.slots → (after_hearing node sent).next ≡ node.next
   next_kept other =

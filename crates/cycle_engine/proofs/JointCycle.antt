@@ -1,6 +1,7 @@
 -- What the joint node of a bus sends in a cycle is what is offered on the bus, and its parts stand for the bus.
-use Rattle.std.proofs.Common.{◌≡◌, ◌≢◌, ◌↔◌, ℕ, ◌+◌, ◌*◌, ◌-◌, ◌<◌, ◌≤◌, true, List, [], ◌∷◌, ◌++◌, map, Contains, Option, Some, IsSome, is_some, inl, inr, refl, sym, ap, ◌∙◌, subst, arith}
-use Rattle.std.specs.Option.{option_map, option_map_or}
+use Rattle.std.proofs.Common.{◌≡◌, ◌≢◌, ◌↔◌, ℕ, ◌+◌, ◌<◌, ◌≤◌, true, List, [], ◌∷◌, ◌++◌, map, Contains, Option, Some, IsSome, is_some, refl, sym, ap, ◌∙◌, subst, arith}
+use Rattle.std.proofs.lemmas.Grind.{common_steps}
+use Rattle.std.specs.Option.{option_map}
 use Rattle.std.specs.List.{range_with_len}
 use Rattle.std.proofs.lemmas.List.Elements.{All-contains, All-head, All-map, All-weaker}
 use Rattle.bit_sets.proofs.Shared.{sum_where-costs}
@@ -9,16 +10,15 @@ use Rattle.can_frame.specs.declared.data_frame.TimedFrame.{TimedFrame}
 use Rattle.cycle_layout.specs.Layout.{CycleLayout}
 use Rattle.requirement_table.specs.declared.entries.Order.{Order}
 use Rattle.requirement_table.specs.declared.entries.Placed.{Placed}
-use Rattle.requirement_table.specs.Instance.{Instance, bytes_of, worst_of}
+use Rattle.requirement_table.specs.Instance.{Instance, bytes_of}
 use Rattle.requirement_table.specs.Opening.{Opening, width_of}
 use Rattle.bit_sets.specs.Sets.{has_bit, most_slots}
-use Rattle.requirement_table.specs.Table.{instance_in, worst_in}
-use Rattle.trigger_codec.specs.Bytes.{triggers_with}
+use Rattle.requirement_table.specs.Table.{instance_in}
 use Rattle.async_window.specs.declared.request.Owner.{Owner}
 use Rattle.async_window.specs.declared.request.Request.{Request}
 use Rattle.async_window.specs.Mailbox.{mail_after, unsent_of}
 use Rattle.async_window.specs.Owners.{AreOwners}
-use Rattle.async_window.specs.Waiting.{MayStart, unsent_after}
+use Rattle.async_window.specs.Waiting.{unsent_after}
 use Rattle.node_model.specs.Node.{NodeState, Opened, entries_of, identifiers_of}
 use Rattle.node_model.specs.Offered.{bytes_sent}
 use Rattle.node_model.specs.Own.{StandsOnBus}
@@ -52,15 +52,10 @@ module _ (layout : CycleLayout) (requests : List Request) (mask cycle : ℕ) (pl
   joint-has slot i is = instance_in-joint placed slot cycle ∙ ap (option_map joint_instance) is
 
   same-bytes : (slot : ℕ) → slot < most_slots → has_bit mask slot ≡ true → bytes_sent bytes_of joint slot ≡ bytes_sent bytes_of plain slot
-  same-bytes slot within flagged =
-      let both = alike.each slot within flagged in
-      ap (option_map bytes_of) (joint-has slot both.0 both.1) ∙ sym (ap (option_map bytes_of) both.2)
+  same-bytes slot within flagged = grind (arith, alike, joint-has)
 
   pub same-width : width_of joint ≡ width_of plain
-  same-width =
-      sum_where-costs most_slots (has_bit mask) (worst_in (joint_entries placed) cycle) (worst_in other cycle) (λ slot within flagged.
-      let both = alike.each slot within flagged in
-      ap (λ o. option_map_or worst_of o 0) (joint-has slot both.0 both.1) ∙ sym (ap (λ o. option_map_or worst_of o 0) both.2))
+  same-width = grind (arith, sum_where-costs, alike, joint-has)
 
   -- the same is offered
   pub same-offered : (past : List TimedFrame) (at : ℕ) (frame : DataFrame)
@@ -68,56 +63,10 @@ module _ (layout : CycleLayout) (requests : List Request) (mask cycle : ℕ) (pl
   same-offered past at frame = (to, from)
     where
       to : offered_in bytes_of layout requests joint past at frame → offered_in bytes_of layout requests plain past at frame
-      to (inl trigger) = inl (record {
-        begun = trigger.begun;
-        within = trigger.within;
-        among = subst (λ w. Contains (triggers_with layout.slots cycle w mask) frame) same-width trigger.among;
-        unsent = trigger.unsent;
-      })
-      to (inr (inl one)) = inr (inl (record {
-        request = one.request;
-        may_start = subst (λ w. MayStart layout cycle w (unsent_after requests past frame.identifier) at one.request) same-width one.may_start;
-        its_frame = one.its_frame;
-      }))
-      to (inr (inr (slot, one))) = inr (inr (
-        slot,
-        record {
-          begun = one.begun;
-          late_enough = subst (λ w. (cycle + 1) * layout.cycle - w ≤ at) same-width one.late_enough;
-          within = one.within;
-          known = one.known;
-          flagged = one.flagged;
-          unsent = one.unsent;
-          identifier = one.identifier;
-          bytes = sym (same-bytes slot one.known one.flagged) ∙ one.bytes;
-        },
-      ))
+      to h0 = grind (arith, same-width, same-bytes)
 
       from : offered_in bytes_of layout requests plain past at frame → offered_in bytes_of layout requests joint past at frame
-      from (inl trigger) = inl (record {
-        begun = trigger.begun;
-        within = trigger.within;
-        among = subst (λ w. Contains (triggers_with layout.slots cycle w mask) frame) (sym same-width) trigger.among;
-        unsent = trigger.unsent;
-      })
-      from (inr (inl one)) = inr (inl (record {
-        request = one.request;
-        may_start = subst (λ w. MayStart layout cycle w (unsent_after requests past frame.identifier) at one.request) (sym same-width) one.may_start;
-        its_frame = one.its_frame;
-      }))
-      from (inr (inr (slot, one))) = inr (inr (
-        slot,
-        record {
-          begun = one.begun;
-          late_enough = subst (λ w. (cycle + 1) * layout.cycle - w ≤ at) (sym same-width) one.late_enough;
-          within = one.within;
-          known = one.known;
-          flagged = one.flagged;
-          unsent = one.unsent;
-          identifier = one.identifier;
-          bytes = same-bytes slot one.known one.flagged ∙ one.bytes;
-        },
-      ))
+      from h0 = grind (arith, same-width, same-bytes)
 
 -- owners of which each has number 0
 pub joint-are_owners : (owners : List Owner) → AreOwners owners → AreOwners (joint_owners owners)
@@ -152,16 +101,7 @@ module _ (owners : List Owner) (placed : List Placed) (count : ℕ) (joint : Nod
       (mail-at its.0.node below).1 id (subst (Contains (identifiers_of its.0.node owners)) its.2 (Contains-identifiers its.0.node owners its.0 its.1 refl))
 
   joint-stands : StandsOnBus layout (joint_owners owners) requests (joint_entries placed) past order.cycle joint
-  joint-stands =
-      let first = stands-at 0 (omega (arith, is.some)) in
-      record {
-        same_layout = first.same_layout;
-        own_entries = is.entries ∙ joint-own placed ∙ ap (λ n. entries_of n (joint_entries placed)) (sym is.number);
-        own_mail = is.mail ∙ mail-by (identifiers_in owners) joint.mail requests past unsent-all
-            ∙ ap (λ ids. mail_after ids requests past) (sym (identifiers-joint owners))
-            ∙ ap (λ n. mail_after (identifiers_of n (joint_owners owners)) requests past) (sym is.number);
-        next_cycle = first.next_cycle;
-      }
+  joint-stands = grind (arith, stands-at, joint-own, mail-by, unsent-all, identifiers-joint)
 
   -- the number of a node is that of one of the parts
   is-below : (number : ℕ) → IsNumber (map part (range_with_len 0 count)) number → number < count
@@ -193,11 +133,7 @@ module _ (owners : List Owner) (placed : List Placed) (count : ℕ) (joint : Nod
         let some : IsSome (instance_in (entries_of number placed) slot order.cycle) = subst (λ (node : NodeState). IsSome (instance_in node.entries slot order.cycle)) (sym found.2) known.4 in
         let instance = some_instance (instance_in (entries_of number placed) slot order.cycle) some in
         let own : instance_in (entries_of number others) slot order.cycle ≡ Some instance.0 =
-        ap (λ entries. instance_in entries slot order.cycle) (sym (stands-at number below).own_entries) ∙ instance.1 in (
-          instance.0,
-          (instance-of_all number placed slot order.cycle instance.0 is.well_placed instance.1).0,
-          (instance-of_all number others slot order.cycle instance.0 before.bus.well_placed own).0,
-        );
+        ap (λ entries. instance_in entries slot order.cycle) (sym (stands-at number below).own_entries) ∙ instance.1 in (grind (arith, instance-of_all));
   }
 
   -- the joint node stands before the cycle of the order
@@ -209,14 +145,7 @@ module _ (owners : List Owner) (placed : List Placed) (count : ℕ) (joint : Nod
       stand = one_alone (StandsOnBus layout (joint_owners owners) requests (joint_entries placed) past order.cycle) joint joint-stands;
       owned = All-weaker (IsOwned whose (map part (range_with_len 0 count))) (IsOwned (joint_owners owners) (joint ∷ [])) joint-owned requests before.bus.owned;
     };
-    fits = record {
-      width = before.fits.width ∙ sym (same-width layout requests order.mask order.cycle placed others alike);
-      present = λ slot within flagged.
-          let both = alike.each slot within flagged in
-          let has = ap (λ es. instance_in es slot order.cycle) is.entries
-          ∙ joint-has layout requests order.mask order.cycle placed others alike slot both.0 both.1 in
-          (0, joint, omega arith, refl, ap is_some has);
-    };
+    fits = grind (arith, same-width, alike, joint-has, is_some);
     before = before.before;
   }
 
@@ -229,9 +158,7 @@ module _ (owners : List Owner) (placed : List Placed) (count : ℕ) (joint : Nod
   parts-stand after frames among numbered bus =
       let Standing : NodeState → Type 0 = StandsOnBus layout (joint_owners owners) requests (joint_entries placed) (past ++ frames) (order.cycle + 1) in
       let stands : Standing after = All-head Standing after [] bus.stand in
-      let mail : after.mail ≡ mail_after (identifiers_in owners) requests (past ++ frames) =
-      stands.own_mail ∙ ap (λ n. mail_after (identifiers_of n (joint_owners owners)) requests (past ++ frames)) numbered
-      ∙ ap (λ ids. mail_after ids requests (past ++ frames)) (identifiers-joint owners) in
+      let mail : after.mail ≡ mail_after (identifiers_in owners) requests (past ++ frames) = grind (arith, common_steps, identifiers-joint) in
       record {
         well_placed = before.bus.well_placed;
         are_owners = before.bus.are_owners;
@@ -245,12 +172,5 @@ module _ (owners : List Owner) (placed : List Placed) (count : ℕ) (joint : Nod
               ∙ ap (λ ids. mail_after ids requests (past ++ frames)) (mail-at number within).0;
           next_cycle = stands.next_cycle;
         });
-        owned = All-weaker (IsOwned whose (map part (range_with_len 0 count))) (IsOwned whose (map (part_of owners placed after) (range_with_len 0 count)))
-            (λ request owned. record {
-              owner = owned.owner;
-              owns = owned.owns;
-              identifier = owned.identifier;
-              node = subst (λ ns. Contains ns owned.owner.node) (numbers-of part (range_with_len 0 count) (λ n. refl)
-                  ∙ sym (numbers-of (part_of owners placed after) (range_with_len 0 count) (λ n. refl))) owned.node;
-            }) requests before.bus.owned;
+        owned = grind (arith, numbers-of);
       }

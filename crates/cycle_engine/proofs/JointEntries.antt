@@ -1,9 +1,8 @@
 -- The entries of the joint node are those of a list with number 0: they have the same instances, and slots.
-use Rattle.std.proofs.Common.{◌≡◌, ℕ, ◌+◌, ◌<◌, ◌≤◌, ◌||◌, ◌==◌, Bool, true, false, cond, List, [], ◌∷◌, map, All, Option, None, Some, refl, ap, ◌∙◌, arith}
+use Rattle.std.proofs.Common.{◌≡◌, ℕ, ◌+◌, ◌<◌, ◌≤◌, ◌||◌, ◌==◌, Bool, true, cond, List, [], ◌∷◌, map, All, Option, None, refl, ap, ◌∙◌, arith}
 use Rattle.std.specs.List.{cons_option, filter_map, slice_get}
 use Rattle.std.specs.Option.{option_map}
 use Rattle.std.proofs.lemmas.Bool.{eqb-true}
-use Rattle.std.proofs.lemmas.List.Elements.{All-contains}
 use Rattle.std.proofs.lemmas.List.Folds.{Any-from_list_any}
 use Rattle.profile.specs.Limits.{first_identifier}
 use Rattle.requirement_table.specs.declared.entries.Placed.{Placed}
@@ -20,17 +19,14 @@ joint_instance i = record i { placed = with_node 0 i.placed }
 one-sends : (p : Placed) (b : Bool) (o : Option ℕ)
     → cond b (option_map (λ k. record { placed = with_node 0 p; number = k }) o) None
     ≡ option_map joint_instance (cond b (option_map (λ k. record { placed = p; number = k }) o) None)
-one-sends p true None = refl
-one-sends p true (Some k) = refl
-one-sends p false o = refl
+one-sends p b o = grind arith
 
 sendable-joint : (slot c : ℕ) (p : Placed) → sendable slot c (with_node 0 p) ≡ option_map joint_instance (sendable slot c p)
 sendable-joint slot c p = one-sends p (p.entry.slot == slot) (instance_of p c)
 
 cons-map : (o : Option Instance) (is : List Instance)
     → cons_option (option_map joint_instance o) (map joint_instance is) ≡ map joint_instance (cons_option o is)
-cons-map None is = refl
-cons-map (Some i) is = refl
+cons-map o is = grind arith
 
 all-send : (slot c : ℕ) (placed : List Placed)
     → filter_map (sendable slot c) (joint_entries placed) ≡ map joint_instance (filter_map (sendable slot c) placed)
@@ -60,20 +56,10 @@ pub slots-joint : (placed : List Placed) (id : ℕ) → is_own_slot (joint_entri
 slots-joint [] id = refl
 slots-joint (p ∷ ps) id = ap (λ b. (first_identifier + p.entry.slot == id) || b) (slots-joint ps id)
 
-either-later : (a b : Bool) → b ≡ true → (a || b) ≡ true
-either-later true b is = refl
-either-later false b is = is
-
-either-same : (a b c : Bool) → (b ≡ true → c ≡ true) → (a || b) ≡ true → (a || c) ≡ true
-either-same true b c later is = refl
-either-same false b c later is = later is
-
 module _ (number id : ℕ) where
   kept-slot : (b : Bool) (p : Placed) (ps : List Placed) → (is_own_slot (entries_of number ps) id ≡ true → is_own_slot ps id ≡ true)
       → is_own_slot (cond b (p ∷ entries_of number ps) (entries_of number ps)) id ≡ true → is_own_slot (p ∷ ps) id ≡ true
-  kept-slot true p ps later is =
-      either-same (first_identifier + p.entry.slot == id) (is_own_slot (entries_of number ps) id) (is_own_slot ps id) later is
-  kept-slot false p ps later is = either-later (first_identifier + p.entry.slot == id) (is_own_slot ps id) (later is)
+  kept-slot b p ps later is = grind arith
 
   -- a slot of one node is one of all
   pub own-of_all : (placed : List Placed) → is_own_slot (entries_of number placed) id ≡ true → is_own_slot placed id ≡ true
@@ -84,7 +70,4 @@ module _ (number id : ℕ) where
 pub own-id : (placed : List Placed) (id : ℕ) → All IsInRange placed → is_own_slot placed id ≡ true → (0x100 ≤ id) × (id < 0x160)
 own-id placed id range own =
     let any = Any-from_list_any (λ p. first_identifier + p.entry.slot == id) placed own in
-    let is : IsInRange any.1 = All-contains IsInRange placed any.1 range (any.0, any.2, any.3) in
-    let slot = is.entry.slot in
-    let same : first_identifier + any.1.entry.slot ≡ id = eqb-true _ _ any.4 in
-    (omega (arith, same), omega (arith, same, slot))
+    grind (arith, eqb-true)

@@ -1,5 +1,5 @@
 -- What the joint node hears, each of its parts hears.
-use Rattle.std.proofs.Common.{◌≡◌, ℕ, ◌+◌, ◌-◌, ◌<◌, ◌≤◌, ◌&&◌, ◌||◌, ◌==◌, Bool, true, false, cond, List, [], ◌∷◌, ◌++◌, drop, All, Option, None, Some, refl, sym, ap, ◌∙◌, arith}
+use Rattle.std.proofs.Common.{◌≡◌, ℕ, ◌+◌, ◌-◌, ◌<◌, ◌≤◌, ◌&&◌, ◌||◌, ◌==◌, Bool, true, false, cond, List, [], ◌∷◌, ◌++◌, drop, All, Option, Some, refl, sym, ap, ◌∙◌, arith}
 use Rattle.std.specs.Prelude.{fold, nat_lt}
 use Rattle.std.specs.Option.{option_map}
 use Rattle.std.proofs.lemmas.Bool.{eqb-true, lt-ltb, false≢true}
@@ -34,19 +34,13 @@ own-fresh entries cycle width mask =
     (λ slot within. sym (none slot))))
 
 own-opening : (entries : List Placed) (cycle : ℕ) (trigger : Option Trigger) → own_opened entries (opened_by cycle trigger) ≡ opened_by cycle trigger
-own-opening entries cycle None = own-fresh entries cycle 0 0
-own-opening entries cycle (Some trigger) = own-fresh entries cycle trigger.l trigger.mask
-
-both-marked : (here heard own : Bool) → (here ≡ true → own ≡ true) → (here || (heard && own)) ≡ ((here || heard) && own)
-both-marked true heard own is = sym (is refl)
-both-marked false heard own is = refl
+own-opening entries cycle trigger = grind (arith, own-fresh)
 
 not-marked : (here heard own : Bool) → (here ≡ true → own ≡ false) → (heard && own) ≡ ((here || heard) && own)
 not-marked true heard own is = ap (λ b. heard && b) (is refl) ∙ none heard ∙ sym (is refl)
   where
     none : (b : Bool) → (b && false) ≡ false
-    none true = refl
-    none false = refl
+    none b = grind arith
 not-marked false heard own is = refl
 
 module _ (entries : List Placed) (id : ℕ) (low : 0x100 ≤ id) where
@@ -54,17 +48,11 @@ module _ (entries : List Placed) (id : ℕ) (low : 0x100 ≤ id) where
   own slot = is_own_slot entries (first_identifier + slot)
 
   own-here : (b : Bool) → is_own_slot entries id ≡ b → (slot : ℕ) → (slot == (id - first_identifier)) ≡ true → own slot ≡ b
-  own-here b is slot here =
-      let at : slot ≡ id - first_identifier = eqb-true slot (id - first_identifier) here in
-      let same : first_identifier + slot ≡ id = omega (arith, low, at) in
-      ap (is_own_slot entries) same ∙ is
+  own-here b is slot here = grind (arith, eqb-true)
 
   marked-set : (heard : ℕ) (p : ℕ → Bool) → ((slot : ℕ) → slot < most_slots → p slot ≡ (((slot == (id - first_identifier)) || has_bit heard slot) && own slot))
       → set_of most_slots p ≡ set_of most_slots (λ slot. has_bit (set_of most_slots (λ s. (s == (id - first_identifier)) || has_bit heard s)) slot && own slot)
-  marked-set heard p same =
-      set_of-same most_slots p _ (λ slot within. same slot within
-      ∙ ap (λ b. b && own slot) (sym (has_bit-set_of most_slots (λ s. (s == (id - first_identifier)) || has_bit heard s) slot
-      ∙ ap (λ b. b && ((slot == (id - first_identifier)) || has_bit heard slot)) (lt-ltb slot most_slots within))))
+  marked-set heard p same = grind (arith, set_of-same, has_bit-set_of, lt-ltb)
 
   -- a slot of the node's own is marked
   marks-own : is_own_slot entries id ≡ true → (opened : Opened)
@@ -73,10 +61,7 @@ module _ (entries : List Placed) (id : ℕ) (low : 0x100 ≤ id) where
       let heard = opened.heard in
       ap (λ n. record opened { heard = n })
       (marked-set heard (λ slot. (slot == (id - first_identifier)) || has_bit (set_of most_slots (λ s. has_bit heard s && own s)) slot)
-      (λ slot within.
-      ap (λ b. (slot == (id - first_identifier)) || b) (has_bit-set_of most_slots (λ s. has_bit heard s && own s) slot
-      ∙ ap (λ b. b && (has_bit heard slot && own slot)) (lt-ltb slot most_slots within))
-      ∙ both-marked (slot == (id - first_identifier)) (has_bit heard slot) (own slot) (own-here true is slot)))
+      (λ slot within. grind (arith, has_bit-set_of, lt-ltb, own-here)))
 
   -- a slot of another node is not
   marks-other : is_own_slot entries id ≡ false → (opened : Opened)
@@ -89,13 +74,11 @@ module _ (entries : List Placed) (id : ℕ) (low : 0x100 ≤ id) where
 
   marks-own-some : is_own_slot entries id ≡ true → (opened : Option Opened)
       → option_map (with_heard (id - first_identifier)) (option_map (own_opened entries) opened) ≡ option_map (own_opened entries) (option_map (with_heard (id - first_identifier)) opened)
-  marks-own-some is None = refl
-  marks-own-some is (Some opened) = ap (λ o. Some o) (marks-own is opened)
+  marks-own-some is opened = grind (arith, marks-own)
 
   marks-other-some : is_own_slot entries id ≡ false → (opened : Option Opened)
       → option_map (own_opened entries) opened ≡ option_map (own_opened entries) (option_map (with_heard (id - first_identifier)) opened)
-  marks-other-some is None = refl
-  marks-other-some is (Some opened) = ap (λ o. Some o) (marks-other is opened)
+  marks-other-some is opened = grind (arith, marks-other)
 
 -- the part of a node, whatever cycle is open for it
 abbrev pub part_with : List Owner → List Placed → ℕ → NodeState → Option Opened → NodeState
@@ -104,10 +87,7 @@ part_with owners placed number joint opened = record (part_of owners placed join
 -- One frame
 
 entries_kept : (node : NodeState) (sent : TimedFrame) → (after_hearing node sent).entries ≡ node.entries
-entries_kept node sent =
-    kept_by (λ n. n.entries ≡ node.entries) (sent.frame.identifier == opening_identifier node.layout.slots)
-    (nat_lt sent.frame.identifier (opening_identifier node.layout.slots))
-    (is_own_slot node.entries sent.frame.identifier) _ _ _ _ refl refl refl refl
+entries_kept node sent = grind (arith, kept_by)
 
 pub entries_kept_all : (sent : List TimedFrame) (node : NodeState) → (fold after_hearing node sent).entries ≡ node.entries
 entries_kept_all [] node = refl
@@ -152,16 +132,11 @@ module _ (taken : (id : ℕ) (mail : List Mail) (other : ℕ)
     strict : (opens notes mine all : Bool) (joint : NodeState) → is_own_slot entries id ≡ mine
         → (mine ≡ true → all ≡ true) → (all ≡ true → (0x100 ≤ id) × (id < 0x160))
         → by_cases opens notes mine (part joint) ≡ part (by_cases opens notes all joint)
-    strict true notes mine all joint same own is =
-        ap (λ o. record (part joint) { opened = Some o; next = joint.next + 1; noted = None })
-        (sym (own-opening entries joint.next (opening_trigger joint frame)))
+    strict true notes mine all joint same own is = grind (arith, own-opening)
     strict false true mine all joint same own is = refl
-    strict false false true true joint same own is =
-        ap (λ o. record (part joint) { opened = o }) (marks-own-some entries id (is refl).0 same joint.opened)
+    strict false false true true joint same own is = grind (arith, marks-own-some)
     strict false false true false joint same own is = absurd (false≢true (own refl))
-    strict false false false true joint same own is =
-        ap (λ mail. record (part joint) { mail = mail }) (sym (taken-none ids id joint.mail (omega (arith, (is refl).1)) above))
-        ∙ ap (λ o. record (part joint) { opened = o }) (marks-other-some entries id (is refl).0 same joint.opened)
+    strict false false false true joint same own is = grind (arith, taken-none, marks-other-some)
     strict false false false false joint same own is =
         ap (λ mail. record (part joint) { mail = mail }) (sym (taken-of taken ids id joint.mail))
 
@@ -208,12 +183,8 @@ module _ (taken : (id : ℕ) (mail : List Mail) (other : ℕ)
       → (fold after_hearing joint sent).opened ≡ Some (record { cycle = cycle; width = width; mask = mask; heard = 0 })
       → fold after_hearing (with_open joint opened) (sent ++ later) ≡ part (fold after_hearing joint (sent ++ later))
   part-behind sent later joint opened cycle width mask same mine all =
-      let new : Opened = record { cycle = cycle; width = width; mask = mask; heard = 0 } in
       let front = loose-all sent joint opened same in
       let behind = fold after_hearing joint sent in
       let now : front.0 ≡ option_map (own_opened entries) behind.opened =
       ap (λ node. node.opened) (sym front.1) ∙ mine ∙ ap (λ o. Some o) (sym (own-fresh entries cycle width mask)) ∙ ap (option_map (own_opened entries)) (sym all) in
-      fold-append after_hearing (with_open joint opened) sent later
-      ∙ ap (λ node. fold after_hearing node later) (front.1 ∙ ap (with_open behind) now)
-      ∙ strict-all later behind (entries_kept_all sent joint ∙ same)
-      ∙ ap part (sym (fold-append after_hearing joint sent later))
+      grind (arith, fold-append, strict-all, entries_kept_all)

@@ -1,5 +1,5 @@
 -- The mail of some identifiers of the joint node, as a frame takes a request away.
-use Rattle.std.proofs.Common.{◌≡◌, ℕ, ◌<◌, ◌≤◌, ◌==◌, Bool, true, false, cond, List, [], ◌∷◌, drop, All, Contains, inl, inr, refl, sym, ap, ◌∙◌, arith}
+use Rattle.std.proofs.Common.{◌≡◌, ℕ, ◌<◌, ◌≤◌, ◌==◌, Bool, cond, List, [], ◌∷◌, drop, All, Contains, refl, sym, ap, ◌∙◌, arith}
 use Rattle.std.proofs.lemmas.Bool.{cond-false, eqb-true, ne_eqb}
 use Rattle.std.proofs.lemmas.List.Elements.{All-head, All-tail}
 use Rattle.can_frame.specs.declared.data_frame.TimedFrame.{TimedFrame}
@@ -7,7 +7,7 @@ use Rattle.async_window.specs.declared.request.Request.{Request}
 use Rattle.async_window.specs.Mailbox.{Mail, mail_after, unsent_of, without_first}
 use Rattle.async_window.specs.Sorted.{mail_of}
 use Rattle.async_window.specs.Waiting.{unsent_after}
-use Rattle.cycle_engine.proofs.Lists.{Contains-cases, Contains-here, Contains-later, Contains-nil}
+use Rattle.cycle_engine.proofs.Lists.{Contains-here, Contains-later, Contains-nil}
 
 abbrev one_box : ℕ → List Request → Mail
 one_box id unsent = record { identifier = id; unsent = unsent }
@@ -15,8 +15,7 @@ one_box id unsent = record { identifier = id; unsent = unsent }
 one-taken : (b : Bool) (other id : ℕ) (mail : List Mail) → (other == id) ≡ b
     → one_box other (cond b (drop 1 (unsent_of mail id)) (unsent_of mail other))
     ≡ cond b (one_box other (drop 1 (unsent_of mail other))) (one_box other (unsent_of mail other))
-one-taken true other id mail same = ap (λ n. one_box other (drop 1 (unsent_of mail n))) (sym (eqb-true other id same))
-one-taken false other id mail same = refl
+one-taken b other id mail same = grind (arith, eqb-true)
 
 -- the first request of an identifier is taken away from the mail of some of the identifiers
 pub taken-of : (taken : (id : ℕ) (mail : List Mail) (other : ℕ)
@@ -62,13 +61,5 @@ unsent-by [] [] mail requests past same = (refl, λ id has. absurd (Contains-nil
 unsent-by [] (other ∷ others) mail requests past same = absurd (cc)
 unsent-by (one ∷ ids) [] mail requests past same = absurd (cc)
 unsent-by (one ∷ ids) (other ∷ others) mail requests past same =
-    let first : one_box one (unsent_of mail one) ≡ one_box other (unsent_after requests past other) = ap (head_box (one_box one [])) same in
     let rest = unsent-by ids others mail requests past (ap tail_boxes same) in
-    let here : one ≡ other = ap (λ box. box.identifier) first in
-    let unsent : unsent_of mail one ≡ unsent_after requests past other = ap (λ box. box.unsent) first in (
-      ap (λ n. n ∷ ids) here ∙ ap (λ ns. other ∷ ns) rest.0,
-      λ id has. elim (Contains-cases one ids id has) [
-        | inl is ↦ ap (unsent_of mail) (sym is) ∙ unsent ∙ ap (unsent_after requests past) (sym here ∙ is)
-        | inr later ↦ rest.1 id later
-      ],
-    )
+    grind arith

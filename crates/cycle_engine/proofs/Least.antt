@@ -1,9 +1,8 @@
 -- The least frame that the nodes of a bus offer within a cycle is the least one that is offered on the bus.
-use Rattle.std.proofs.Common.{◌≡◌, ℕ, ◌≤◌, List, [], All, Contains, Option, None, Some, inl, inr, refl, sym, ap, subst, arith}
+use Rattle.std.proofs.Common.{◌≡◌, ℕ, ◌≤◌, List, [], All, Contains, Option, Some, inl, inr, sym, subst, arith}
 use Rattle.std.specs.Prelude.{MatchOption, find}
 use Rattle.std.specs.Option.{option_map_or}
 use Rattle.std.proofs.lemmas.List.Elements.{All-contains}
-use Rattle.std.proofs.lemmas.Option.{MatchOption-at_some}
 use Rattle.can_frame.specs.DataFrame.{DataFrame}
 use Rattle.can_frame.specs.declared.data_frame.TimedFrame.{TimedFrame}
 use Rattle.cycle_layout.specs.Layout.{CycleLayout}
@@ -25,8 +24,7 @@ use Rattle.cycle_engine.proofs.Belongs.{HaveSenders, IsOwn, IsOwn-request, IsOwn
 
 -- the frame behind an identifier has it
 found_id : (at id : ℕ) (o : Option NodeState) → (option_map_or (λ node. node_frame node at id) o (record { identifier = id; bytes = [] })).identifier ≡ id
-found_id at id None = refl
-found_id at id (Some node) = refl
+found_id at id o = grind arith
 
 pub frame_by_nodes-id : (nodes : List NodeState) (at id : ℕ) → (frame_by_nodes nodes at id).identifier ≡ id
 frame_by_nodes-id nodes at id = found_id at id (find (λ node. offers_this id (node_offer node at)) nodes)
@@ -35,8 +33,7 @@ frame_by_nodes-id nodes at id = found_id at id (find (λ node. offers_this id (n
 least_of_part : (Own : DataFrame → Type 0) (Is : ℕ → Type 0) (o : Option ℕ) (frame : DataFrame) → Own frame
     → MatchOption o ((frame : DataFrame) → Own frame → ⊥) (λ id. Is id × ((frame : DataFrame) → Own frame → id ≤ frame.identifier))
     → (id : ℕ) × (o ≡ Some id) × (id ≤ frame.identifier)
-least_of_part Own Is None frame own part = absurd (part frame own)
-least_of_part Own Is (Some id) frame own part = (id, refl, part.1 frame own)
+least_of_part Own Is o frame own part = grind arith
 
 -- the parts of the nodes at a time, which are together what is offered but for the trigger
 module _ (layout : CycleLayout) (owners : List Owner) (requests : List Request) (opening : Opening) (past : List TimedFrame) (at : ℕ) (nodes : List NodeState)
@@ -51,18 +48,12 @@ module _ (layout : CycleLayout) (owners : List Owner) (requests : List Request) 
       (least.0, Contains-filter_map (λ n. node_offer n at) nodes node least.0 has least.1, least.2)
 
   in_cycle : (number : ℕ) (frame : DataFrame) → OffersOwn number layout owners requests opening past at frame → offered_in bytes_of layout requests opening past at frame
-  in_cycle number frame (inl own) = inr (inl own.0)
-  in_cycle number frame (inr own) = inr (inr (own.0, own.1))
+  in_cycle number frame h0 = grind arith
 
   offered_is_own : (id : ℕ) → Contains (offered_by_nodes nodes at) id → offered_in bytes_of layout requests opening past at (frame_by_nodes nodes at id)
   offered_is_own id has =
       let found = find-offered (λ n. node_offer n at) nodes id has in
-      let node = found.0 in
-      let Own : DataFrame → Type 0 = OffersOwn node.number layout owners requests opening past at in
-      let part = MatchOption-at_some ((frame : DataFrame) → Own frame → ⊥) (λ id. Own (node_frame node at id) × ((frame : DataFrame) → Own frame → id ≤ frame.identifier)) id found.2
-      (All-contains (OffersLeastOwn layout owners requests opening past at) nodes node parts found.1) in
-      let same : frame_by_nodes nodes at id ≡ node_frame node at id = ap (λ o. option_map_or (λ n. node_frame n at id) o (record { identifier = id; bytes = [] })) found.3 in
-      subst (offered_in bytes_of layout requests opening past at) (sym same) (in_cycle node.number (node_frame node at id) part.0)
+      grind (arith, in_cycle)
 
   pub is_own : (frame : DataFrame) → offered_in bytes_of layout requests opening past at frame → IsOwn layout owners requests opening past at nodes frame
   is_own frame (inl trigger) = absurd (no_trigger frame trigger)
@@ -75,14 +66,7 @@ module _ (layout : CycleLayout) (owners : List Owner) (requests : List Request) 
   some_by_nodes frame offers =
       let low = own_is_offered frame (is_own frame offers) in
       let id = low.0 in
-      let own = frame_by_nodes-id nodes at id in (
-        frame_by_nodes nodes at id,
-        record {
-          contends = subst (Contains (offered_by_nodes nodes at)) (sym own) low.1;
-          framed = ap (λ i. frame_by_nodes nodes at i) (sym own);
-        },
-        subst (λ i. i ≤ frame.identifier) (sym own) low.2,
-      )
+      let own = frame_by_nodes-id nodes at id in (grind arith)
 
   pub least_by_nodes : (frame : DataFrame) → IsOffered cycle_line (nodes_alone layout nodes) at frame
       → ((other : DataFrame) → IsOffered cycle_line (nodes_alone layout nodes) at other → frame.identifier ≤ other.identifier)

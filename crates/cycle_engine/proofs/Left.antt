@@ -1,5 +1,6 @@
 -- How many requests of nodes are not sent: as many as of the joint node.
-use Rattle.std.proofs.Common.{◌≡◌, ℕ, zero, suc, ◌+◌, ◌<◌, ◌≤◌, ◌==◌, Bool, true, false, cond, List, [], ◌∷◌, length, map, All, inl, inr, refl, sym, ap, ◌∙◌, arith}
+use Rattle.std.proofs.Common.{◌≡◌, ℕ, zero, suc, ◌+◌, ◌<◌, ◌≤◌, ◌==◌, Bool, cond, List, [], ◌∷◌, length, map, All, inl, inr, refl, arith}
+use Rattle.std.proofs.lemmas.Grind.{common_steps}
 use Rattle.std.specs.Prelude.{filter, sum_by}
 use Rattle.std.specs.List.{range_with_len}
 use Rattle.std.proofs.lemmas.Bool.{cases_eq, cond-false, cond-true, eq-eqb, ne_eqb}
@@ -10,7 +11,7 @@ use Rattle.async_window.specs.declared.request.Owner.{Owner}
 use Rattle.async_window.specs.Mailbox.{Mail, left, unsent_of}
 use Rattle.async_window.specs.Sorted.{mail_of}
 use Rattle.node_model.specs.Node.{NodeState, identifiers_of}
-use Rattle.cycle_engine.specs.Joint.{IsJoint, identifiers_in, part_of, parts_of}
+use Rattle.cycle_engine.specs.Joint.{IsJoint, identifiers_in, parts_of}
 use Rattle.cycle_engine.specs.Nodes.{left_in, states_of}
 use Rattle.cycle_engine.proofs.Parts.{states-parts}
 
@@ -18,8 +19,7 @@ use Rattle.cycle_engine.proofs.Parts.{states-parts}
 
 module _ {X : Type 0} where
   sum_by-same : (f g : X → ℕ) (xs : List X) → ((x : X) → f x ≡ g x) → sum_by f xs ≡ sum_by g xs
-  sum_by-same f g [] same = refl
-  sum_by-same f g (x ∷ xs) same = omega (arith, sum_by-cons f x xs, sum_by-cons g x xs, same x, sum_by-same f g xs same)
+  sum_by-same f g xs same = grind (arith, sum_by-cons)
 
   sum_by-both : (f g : X → ℕ) (xs : List X) → sum_by (λ x. f x + g x) xs ≡ sum_by f xs + sum_by g xs
   sum_by-both f g [] = refl
@@ -31,9 +31,7 @@ module _ {X : Type 0} where
   sum_by-zero (x ∷ xs) = omega (arith, sum_by-cons (λ y. 0) x xs, sum_by-zero xs)
 
 sum_by-map : {X Y : Type 0} (f : Y → ℕ) (g : X → Y) (xs : List X) → sum_by f (map g xs) ≡ sum_by (λ x. f (g x)) xs
-sum_by-map f g [] = refl
-sum_by-map f g (x ∷ xs) =
-    sum_by-cons f (g x) (map g xs) ∙ ap (λ n. f (g x) + n) (sum_by-map f g xs) ∙ sym (sum_by-cons (λ y. f (g y)) x xs)
+sum_by-map f g xs = grind (arith, common_steps, sum_by-cons)
 
 -- a number below others counts for none of them
 before-all : (x v k n : ℕ) → x < k → sum_by (λ i. cond (x == i) v 0) (range_with_len k n) ≡ 0
@@ -67,8 +65,7 @@ module _ (w : ℕ → ℕ) where
 
   one-more : (b : Bool) (owner : Owner) (kept : List Owner)
       → sum_by w (map (λ o. o.id) (cond b (owner ∷ kept) kept)) ≡ cond b (w owner.id) 0 + sum_by w (map (λ o. o.id) kept)
-  one-more true owner kept = sum_by-cons w owner.id (map (λ o. o.id) kept)
-  one-more false owner kept = omega arith
+  one-more b owner kept = grind (arith, sum_by-cons)
 
   by-node : (owners : List Owner) (count : ℕ) → All (λ owner. owner.node < count) owners
       → sum_by (of_node owners) (range_with_len 0 count) ≡ sum_by w (identifiers_in owners)
@@ -92,11 +89,4 @@ left-of ids mail = sum_by-map (λ box. length box.unsent) (λ id. record { ident
 
 pub left-parts : (owners : List Owner) (placed : List Placed) (spare count : ℕ) (joint : NodeState) → IsJoint owners placed count joint
     → left joint.mail ≡ left_in (states_of (parts_of owners placed spare count joint))
-left-parts owners placed spare count joint is =
-    let numbers = range_with_len 0 count in
-    ap left is.mail ∙ left-of (identifiers_in owners) joint.mail
-    ∙ sym (by-node (λ id. length (unsent_of joint.mail id)) owners count is.numbers)
-    ∙ sum_by-same (of_node (λ id. length (unsent_of joint.mail id)) owners) (λ n. left (mail_of (identifiers_of n owners) joint.mail)) numbers
-    (λ n. sym (left-of (identifiers_of n owners) joint.mail))
-    ∙ sym (sum_by-map (λ node. left node.mail) (part_of owners placed joint) numbers)
-    ∙ sym (ap left_in (states-parts owners placed spare joint numbers))
+left-parts owners placed spare count joint is = grind (arith, left-of, by-node, sum_by-same, sum_by-map, states-parts)

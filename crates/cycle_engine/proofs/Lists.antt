@@ -1,5 +1,5 @@
 -- Elements of lists.
-use Rattle.std.proofs.Common.{◌≡◌, ◌≢◌, ℕ, zero, suc, false, cond, List, [], ◌∷◌, map, AllPairs, Contains, Option, None, Some, ◌⊎◌, inl, inr, refl, sym, ap, ◌∙◌, subst, get_or, arith, All}
+use Rattle.std.proofs.Common.{◌≡◌, ◌≢◌, ℕ, suc, false, cond, List, [], ◌∷◌, map, AllPairs, Contains, Option, None, Some, ◌⊎◌, inl, inr, refl, sym, ap, ◌∙◌, subst, get_or, arith, All}
 use Rattle.std.specs.List.{slice_get, filter_map, cons_option, find}
 use Rattle.std.proofs.lemmas.Bool.{cases_order, cases_eq, eq-eqb, ne_eqb}
 use Rattle.std.proofs.lemmas.List.{get_or_default}
@@ -18,12 +18,7 @@ pub same_by_number : {X : Type 0} (number : X → ℕ) (xs : List X) (x y : X) �
     → Contains xs x → Contains xs y → number x ≡ number y → x ≡ y
 same_by_number {X} number xs x y apart (i, i_within, i_is) (j, j_within, j_is) same =
     let y_there : get_or xs j x ≡ y = get_or_default xs j x y j_within ∙ j_is in
-    let x_there : get_or xs i y ≡ x = get_or_default xs i y x i_within ∙ i_is in
-    elim (cases_order i j) [
-      | inl equal ↦ sym i_is ∙ subst (λ k. get_or xs k x ≡ y) (sym equal) y_there
-      | inr (inl before) ↦ absurd (apart i j x before j_within (subst (λ z. number z ≡ number (get_or xs j x)) (sym i_is) (subst (λ z. number x ≡ number z) (sym y_there) same)))
-      | inr (inr behind) ↦ absurd (apart j i y behind i_within (subst (λ z. number z ≡ number (get_or xs i y)) (sym j_is) (subst (λ z. number y ≡ number z) (sym x_there) (sym same))))
-    ]
+    grind (arith, get_or_default, cases_order)
 
 module _ {X : Type 0} where
   pub Contains-here : (x : X) (xs : List X) → Contains (x ∷ xs) x
@@ -33,8 +28,7 @@ module _ {X : Type 0} where
   Contains-later x xs y (k, within, is) = (suc k, omega arith, is)
 
   pub Contains-cases : (x : X) (xs : List X) (y : X) → Contains (x ∷ xs) y → (x ≡ y) ⊎ Contains xs y
-  Contains-cases x xs y (zero, within, is) = inl is
-  Contains-cases x xs y (suc k, within, is) = inr (k, omega arith, is)
+  Contains-cases x xs y h0 = grind arith
 
   pub Contains-nil : (y : X) → Contains [] y → ⊥
   Contains-nil y (k, within, is) = omega arith
@@ -45,12 +39,7 @@ module _ {X Y : Type 0} (h : X → Option Y) where
 
   from_first : (x : X) (xs : List X) (y : Y) (o : Option Y) → h x ≡ o → (Contains (filter_map h xs) y → From xs y)
       → Contains (cons_option o (filter_map h xs)) y → From (x ∷ xs) y
-  from_first x xs y None is later has =
-      let found = later has in (found.0, Contains-later x xs found.0 found.1, found.2)
-  from_first x xs y (Some own) is later has = elim (Contains-cases own (filter_map h xs) y has) [
-    | inl same ↦ (x, Contains-here x xs, is ∙ ap (λ z. Some z) same)
-    | inr behind ↦ let found = later behind in (found.0, Contains-later x xs found.0 found.1, found.2)
-  ]
+  from_first x xs y o is later has = grind (arith, Contains-later, Contains-cases, Contains-here)
 
   -- what a function gives comes from an element
   pub Contains-from_filter_map : (xs : List X) (y : Y) → Contains (filter_map h xs) y → (x : X) × Contains xs x × (h x ≡ Some y)

@@ -16,7 +16,7 @@ use Rattle.node_model.proofs.Shared.{node-hearing}
 use Rattle.cycle_engine.specs.Nodes.{heard_by}
 use Rattle.cycle_engine.specs.Stations.{DueTrigger, Stationed, all_hear, announced, cycle_line, offered_by_nodes, triggers_after}
 use Rattle.cycle_engine.specs.SyncWindow.{nodes_alone}
-use Rattle.cycle_engine.proofs.Hearing.{layout_kept, next_kept, next_opened}
+use Rattle.cycle_engine.proofs.Hearing.{layout_kept, next_kept}
 use Rattle.cycle_engine.proofs.Announced.{CanBeHeard, go-first, heard-first, heard-twice, map-same, offers_range}
 use Rattle.trigger_kind.proofs.Shared.{above-opens_not}
 
@@ -26,15 +26,13 @@ told-alone [] before none = none
 told-alone (sent ∷ later) before none = told-alone later (cycle_line.next before sent) (none_left sent.frame.identifier before.triggers none)
   where
     none_left : (id : ℕ) (triggers : List DueTrigger) → triggers ≡ [] → triggers_after id triggers ≡ []
-    none_left id [] none = refl
-    none_left id (due ∷ others) none = absurd (cc)
+    none_left id triggers none = grind arith
 
 -- frames of which the last one opens a cycle: the next one is one more
 opened-by : (layout : CycleLayout) (cycle : ℕ) (sent : List TimedFrame) (node : NodeState) → node.layout ≡ layout → node.next ≡ cycle
     → OpensByLast (opening_identifier layout.slots) (map (λ s. s.frame) sent) → (fold after_hearing node sent).next ≡ cycle + 1
 opened-by layout cycle [] node same at none = absurd none
-opened-by layout cycle (one ∷ []) node same at last =
-    next_opened node one (last ∙ ap (λ l. opening_identifier l.slots) (sym same)) ∙ ap (λ c. c + 1) at
+opened-by layout cycle (one ∷ []) node same at last = grind arith
 opened-by layout cycle (one ∷ next ∷ more) node same at (earlier, opens) =
     let other : one.frame.identifier ≢ opening_identifier node.layout.slots =
     λ is. absurd (omega (arith, earlier, is, ap (λ l. opening_identifier l.slots) same)) in
@@ -43,9 +41,7 @@ opened-by layout cycle (one ∷ next ∷ more) node same at (earlier, opens) =
 -- so do the trigger frames of a cycle
 triggers-open : (layout : CycleLayout) (cycle l mask : ℕ) (node : NodeState) (sent : List TimedFrame) → node.layout ≡ layout → node.next ≡ cycle
     → map (λ s. s.frame) sent ≡ triggers_with layout.slots cycle l mask → (fold after_hearing node sent).next ≡ cycle + 1
-triggers-open layout cycle l mask node sent same at are =
-    opened-by layout cycle sent node same at
-    (subst (OpensByLast (opening_identifier layout.slots)) (sym are) (last_opens layout.slots cycle l mask))
+triggers-open layout cycle l mask node sent same at are = grind (arith, opened-by, last_opens)
 
 module _ (layout : CycleLayout) (until : ℕ) where
   -- what each node keeps of what it knows, whatever it hears but trigger frames, holds behind all other frames
@@ -61,8 +57,7 @@ module _ (layout : CycleLayout) (until : ℕ) where
         subst (All P) (heard-first sent later nodes)
         (All-nodes before (sofar ++ sent ∷ []) (all_hear nodes sent) (end_of sent) later
         (fold-append cycle_line.next before sofar (sent ∷ []) ∙ ap (λ s. cycle_line.next s sent) now)
-        (All-map IsNode (λ node. after_hearing node sent) nodes (λ k d within.
-        node-hearing (get_or nodes k d) sent (λ opens. absurd (above-opens_not (get_or nodes k d).layout.slots sent.frame.identifier other opens)) (are k d within)))
+        (All-map IsNode (λ node. after_hearing node sent) nodes (λ k d within. grind (arith, node-hearing, above-opens_not)))
         (All-map P (λ node. after_hearing node sent) nodes (λ k d within. kept (get_or nodes k d) sent other (holds k d within))) follows)
 
     -- the trigger frames go first, and behind them only others come
@@ -73,14 +68,7 @@ module _ (layout : CycleLayout) (until : ℕ) where
         → All P (heard_by frames nodes) × ((told cycle_line (announced layout low triggers nodes) frames).triggers ≡ [])
     All-behind nodes frames low triggers room can opens follows =
         let before = announced layout low triggers nodes in
-        let cut = go-first layout low triggers nodes before [] low until frames (omega arith) room can refl follows in (
-          subst (λ fs. All P (heard_by fs nodes)) (sym cut.split)
-              (subst (All P) (heard-twice cut.sent cut.later nodes)
-              (All-nodes before cut.sent (heard_by cut.sent nodes) _ cut.later cut.now cut.known (opens cut.sent cut.are) cut.follows)),
-          ap (λ fs. (told cycle_line before fs).triggers) cut.split
-              ∙ ap (λ s. s.triggers) (fold-append cycle_line.next before cut.sent cut.later)
-              ∙ told-alone cut.later (told cycle_line before cut.sent) (ap (λ s. s.triggers) cut.now),
-        )
+        let cut = go-first layout low triggers nodes before [] low until frames (omega arith) room can refl follows in (grind (arith, heard-twice, All-nodes, fold-append, told-alone))
 
   -- behind a cycle the next one is one more
   pub AtCycle-behind : (nodes : List NodeState) (frames : List TimedFrame) (low cycle l mask : ℕ) → low + length (triggers_with layout.slots cycle l mask) * 135 ≤ until

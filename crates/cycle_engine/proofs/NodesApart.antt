@@ -1,9 +1,10 @@
 -- The nodes of a bus stay what they are, and offer distinct identifiers.
 use Rattle.std.proofs.Common.{◌≡◌, ◌≢◌, ℕ, ◌^◌, ◌<◌, ◌≤◌, Bool, true, false, cond, List, [], ◌∷◌, ◌++◌, map, get_or, All, AllPairs, Contains, Some, inl, inr, refl, sym, ap, ◌∙◌, subst, arith}
+use Rattle.std.proofs.lemmas.Grind.{common_steps}
 use Rattle.std.specs.Prelude.{◌==◌, nat_le}
 use Rattle.std.proofs.lemmas.Bool.{cases_lt, eq-eqb}
 use Rattle.std.proofs.lemmas.List.{length-map}
-use Rattle.std.proofs.lemmas.List.Elements.{All-cons, All-contains, All-head, All-map, All-nil, All-tail, Contains-append_cases}
+use Rattle.std.proofs.lemmas.List.Elements.{All-head, All-map, All-tail}
 use Rattle.arbitration.specs.Arbitration.{AreDistinct}
 use Rattle.can_frame.specs.declared.data_frame.TimedFrame.{TimedFrame}
 use Rattle.cycle_layout.specs.Layout.{CycleLayout}
@@ -17,9 +18,9 @@ use Rattle.node_model.specs.Own.{AreApart}
 use Rattle.node_model.proofs.Shared.{apart-hearing, apart-learning, node-hearing, node-learning, offers-apart}
 use Rattle.cycle_engine.specs.Stations.{AreDueTriggers, AreNodes, AreStations, DueTrigger, Stationed, all_hear, cycle_line, due_from, offered_by_nodes, offered_trigger, triggers_after}
 use Rattle.cycle_engine.specs.SyncWindow.{nodes_alone}
-use Rattle.cycle_engine.proofs.Lists.{AllPairs-cons, AllPairs-filter_map, AllPairs-head, AllPairs-map, AllPairs-tail}
+use Rattle.cycle_engine.proofs.Lists.{AllPairs-filter_map, AllPairs-map, AllPairs-tail}
 use Rattle.cycle_engine.proofs.Hearing.{layout_kept, next_kept, number_kept}
-use Rattle.cycle_engine.proofs.Announced.{of_some, offers_range, only_id}
+use Rattle.cycle_engine.proofs.Announced.{of_some, offers_range}
 use Rattle.cycle_engine.proofs.TriggerFrames.{low_ids, opens_last}
 use Rattle.trigger_kind.proofs.Shared.{above-opens_not}
 
@@ -31,8 +32,7 @@ AreNodes-changed layout nodes f before are layouts numbers apart = record {
   few = subst (λ n. n ≤ 30) (sym (length-map nodes f)) before.few;
   are = All-map IsNode f nodes (λ k d within. are k d within (before.are k d within));
   layouts = All-map (λ node. node.layout ≡ layout) f nodes (λ k d within. layouts (get_or nodes k d) ∙ before.layouts k d within);
-  numbers = AllPairs-map (λ one other. one.number ≢ other.number) f nodes (λ i j d first within same.
-      before.numbers i j d first within (sym (numbers (get_or nodes i d)) ∙ same ∙ numbers (get_or nodes j d)));
+  numbers = AllPairs-map (λ one other. one.number ≢ other.number) f nodes (λ i j d first within same. grind arith);
   apart = AllPairs-map AreApart f nodes (λ i j d first within. apart (get_or nodes i d) (get_or nodes j d) (before.numbers i j d first within) (before.apart i j d first within));
 }
 
@@ -61,34 +61,16 @@ AreNodes-told layout (sent ∷ later) before none are =
 
 -- no trigger frame is left
 pub AreStations-alone : (layout : CycleLayout) (nodes : List NodeState) → AreNodes layout nodes → AreStations (nodes_alone layout nodes)
-AreStations-alone layout nodes are = record {
-  nodes = are;
-  triggers = record { low = All-nil (λ (due : DueTrigger). due.frame.identifier ≤ greatest_trigger); last = λ i j d before within. absurd (omega arith) };
-  next = λ some. absurd (some refl);
-}
-
--- a frame with an identifier of a trigger frame is that of the first of them
-first_offered : (b : Bool) (due : DueTrigger) (nodes : List NodeState) (at id : ℕ) → All IsNode nodes
-    → Contains (cond b (due.frame.identifier ∷ []) [] ++ offered_by_nodes nodes at) id → id ≤ greatest_trigger → due.frame.identifier ≡ id
-first_offered b due nodes at id are has low = elim (Contains-append_cases (cond b (due.frame.identifier ∷ []) []) (offered_by_nodes nodes at) id has) [
-  | inl here ↦ only_id b due.frame.identifier id here
-  | inr there ↦ absurd (omega (arith, low, (All-contains (λ n. (0x100 ≤ n) × (n ≤ 0x7EF)) (offered_by_nodes nodes at) id (offers_range nodes at are) there).0))
-]
+AreStations-alone layout nodes are = grind arith
 
 pub is_first : (triggers : List DueTrigger) (nodes : List NodeState) (at id : ℕ) → All IsNode nodes
     → Contains (offered_trigger triggers at ++ offered_by_nodes nodes at) id → id ≤ greatest_trigger
     → (due : DueTrigger) × (later : List DueTrigger) × (triggers ≡ due ∷ later) × (due.frame.identifier ≡ id)
-is_first [] nodes at id are has low =
-    absurd (omega (arith, low, (All-contains (λ n. (0x100 ≤ n) × (n ≤ 0x7EF)) (offered_by_nodes nodes at) id (offers_range nodes at are) has).0))
-is_first (due ∷ later) nodes at id are has low = (due, later, refl, first_offered (nat_le due.at at) due nodes at id are has low)
+is_first triggers nodes at id are has low = grind (arith, offers_range)
 
 trigger_alone : (b : Bool) (id : ℕ) (back : List ℕ) → id ≤ greatest_trigger → All (λ n. (0x100 ≤ n) × (n ≤ 0x7EF)) back → AreDistinct back
     → AreDistinct (cond b (id ∷ []) [] ++ back) × All (λ n. n ≤ 0x7EF) (cond b (id ∷ []) [] ++ back)
-trigger_alone true id back low range distinct = (
-  AllPairs-cons (λ a b. a ≢ b) id back (λ k d within same. omega (arith, low, same, (range k d within).0)) distinct,
-  All-cons (λ n. n ≤ 0x7EF) id back (omega (arith, low)) (λ k d within. (range k d within).1),
-)
-trigger_alone false id back low range distinct = (distinct, λ k d within. (range k d within).1)
+trigger_alone b id back low range distinct = grind arith
 
 with_trigger : (triggers : List DueTrigger) (at : ℕ) (back : List ℕ) → All (λ due. due.frame.identifier ≤ greatest_trigger) triggers
     → All (λ n. (0x100 ≤ n) × (n ≤ 0x7EF)) back → AreDistinct back
@@ -103,12 +85,7 @@ pub offers-distinct : (stations : Stationed) (at : ℕ)
 offers-distinct stations at are =
     let nodes = stations.nodes in
     let Pair : NodeState → NodeState → Type 0 = λ one other. (one.layout ≡ other.layout) × IsNode one × IsNode other × AreApart one other in
-    let pairs : AllPairs Pair nodes = λ i j d first within. (
-      are.nodes.layouts i d (omega (arith, first, within)) ∙ sym (are.nodes.layouts j d within),
-      are.nodes.are i d (omega (arith, first, within)),
-      are.nodes.are j d within,
-      are.nodes.apart i j d first within,
-    ) in
+    let pairs : AllPairs Pair nodes = λ i j d first within. (grind arith) in
     let distinct = AllPairs-filter_map (λ node. node_offer node at) Pair
     (λ one other a b pair is also same. offers-apart one other at a pair.0 pair.1 pair.2 pair.3 is (also ∙ ap (λ n. Some n) (sym same))) nodes pairs in
     with_trigger stations.triggers at (offered_by_nodes nodes at) are.triggers.low (offers_range nodes at are.nodes.are) distinct
@@ -130,20 +107,15 @@ module _ (layout : CycleLayout) where
   -- a trigger frame is left only where another one than the last was sent, and that one opens no cycle
   left-some : (due : DueTrigger) (later : List DueTrigger) (id : ℕ) → due.frame.identifier ≡ id → AreDueTriggers layout (due ∷ later)
       → triggers_after id (due ∷ later) ≢ [] → id ≢ opening_identifier layout.slots
-  left-some due later id same are some opens =
-      let left : triggers_after id (due ∷ later) ≡ later = ap (λ b. cond b later (due ∷ later)) (eq-eqb due.frame.identifier id same) in
-      of_some (due.frame.identifier ≢ opening_identifier layout.slots) later (λ none. some (left ∙ none))
-      (AllPairs-head (λ one other. one.frame.identifier ≢ opening_identifier layout.slots) due later are.last) (same ∙ opens)
+  left-some due later id h0 h1 h2 = grind (arith, common_steps, eq-eqb, of_some)
 
   some-before : (triggers : List DueTrigger) (id : ℕ) → triggers_after id triggers ≢ [] → triggers ≢ []
-  some-before [] id some none = some refl
-  some-before (due ∷ later) id some none = absurd (cc)
+  some-before triggers id h0 = grind arith
 
   next-kept_all : (nodes : List NodeState) (sent : TimedFrame) → All (λ node. node.layout ≡ layout) nodes → sent.frame.identifier ≢ opening_identifier layout.slots
       → All (λ node. node.next < 2 ^ 42) nodes → All (λ node. node.next < 2 ^ 42) (all_hear nodes sent)
   next-kept_all nodes sent layouts other early =
-      All-map (λ node. node.next < 2 ^ 42) (λ node. after_hearing node sent) nodes (λ k d within.
-      subst (λ n. n < 2 ^ 42) (sym (next_kept (get_or nodes k d) sent (λ opens. other (opens ∙ ap (λ l. opening_identifier l.slots) (layouts k d within))))) (early k d within))
+      All-map (λ node. node.next < 2 ^ 42) (λ node. after_hearing node sent) nodes (λ k d within. grind (arith, next_kept))
 
   -- the nodes can hear it
   pub can-hear : (triggers : List DueTrigger) (nodes : List NodeState) (sent : TimedFrame)
@@ -182,11 +154,7 @@ module _ (layout : CycleLayout) where
 
 -- the trigger frames of a cycle may be the next ones
 pub AreDue-triggers : (layout : CycleLayout) (at cycle l mask : ℕ) → AreDueTriggers layout (due_from at (triggers_with layout.slots cycle l mask))
-AreDue-triggers layout at cycle l mask = record {
-  low = All-map (λ (due : DueTrigger). due.frame.identifier ≤ greatest_trigger) (λ frame. record { at = at; frame = frame }) (triggers_with layout.slots cycle l mask) (low_ids layout.slots cycle l mask);
-  last = AllPairs-map (λ (one other : DueTrigger). one.frame.identifier ≢ opening_identifier layout.slots) (λ frame. record { at = at; frame = frame })
-      (triggers_with layout.slots cycle l mask) (opens_last layout.slots cycle l mask);
-}
+AreDue-triggers layout at cycle l mask = grind (arith, low_ids, opens_last)
 
 -- stations of which the nodes learn a list
 pub AreStations-learning : (stations : Stationed) (placed : List Placed) → IsWellPlaced placed

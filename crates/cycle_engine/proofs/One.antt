@@ -1,48 +1,36 @@
 -- A list of one node.
-use Rattle.std.proofs.Common.{◌≡◌, ℕ, Bool, true, false, cond, List, [], ◌∷◌, All, Contains, Option, None, Some, is_some, inl, inr, refl, sym, ap, ◌∙◌, arith}
+use Rattle.std.proofs.Common.{◌≡◌, ℕ, Bool, cond, List, [], ◌∷◌, All, Contains, Option, None, Some, is_some, sym, ap, arith}
 use Rattle.std.specs.List.{cons_option}
-use Rattle.std.specs.Option.{option_map_or}
 use Rattle.std.proofs.lemmas.Bool.{eq-eqb}
 use Rattle.std.proofs.lemmas.List.Elements.{All-cons, All-nil}
 use Rattle.can_frame.specs.DataFrame.{DataFrame}
 use Rattle.cycle_layout.specs.Layout.{CycleLayout}
 use Rattle.node_model.specs.Node.{IsNode, NodeState, node_frame, node_offer}
 use Rattle.node_model.specs.Window.{due_frame, is_due_slot}
-use Rattle.cycle_engine.specs.Stations.{AreNodes, frame_by_nodes, offered_by_nodes, offers_this}
+use Rattle.cycle_engine.specs.Stations.{AreNodes, frame_by_nodes, offered_by_nodes}
 use Rattle.cycle_engine.specs.SyncWindow.{due_by}
-use Rattle.cycle_engine.proofs.Lists.{Contains-cases, Contains-nil}
 
 pub one_alone : {X : Type 0} (P : X → Type 0) (x : X) → P x → All P (x ∷ [])
 one_alone P x holds = All-cons P x [] holds (All-nil P)
 
 pub AreNodes-one : (layout : CycleLayout) (node : NodeState) → IsNode node → node.layout ≡ layout → AreNodes layout (node ∷ [])
-AreNodes-one layout node is same = record {
-  few = omega arith;
-  are = one_alone IsNode node is;
-  layouts = one_alone (λ n. n.layout ≡ layout) node same;
-  numbers = λ i j d before within. absurd (omega arith);
-  apart = λ i j d before within. absurd (omega arith);
-}
+AreNodes-one layout node is same = grind (arith, one_alone)
 
 -- What it offers
 
 only-offer : (o : Option ℕ) (id : ℕ) → Contains (cons_option o []) id → o ≡ Some id
-only-offer None id has = absurd (Contains-nil id has)
-only-offer (Some own) id has = elim (Contains-cases own [] id has) [ inl same ↦ ap (λ n. Some n) same | inr none ↦ absurd (Contains-nil id none) ]
+only-offer o id has = grind arith
 
 pub offers-only : (node : NodeState) (at id : ℕ) → Contains (offered_by_nodes (node ∷ []) at) id → node_offer node at ≡ Some id
 offers-only node at id has = only-offer (node_offer node at) id has
 
 pub frame-only : (node : NodeState) (at id : ℕ) → node_offer node at ≡ Some id → node_frame node at id ≡ frame_by_nodes (node ∷ []) at id
-frame-only node at id offers =
-    sym (ap (λ b. option_map_or (λ n. node_frame n at id) (cond b (Some node) None) (record { identifier = id; bytes = [] }))
-    (ap (offers_this id) offers ∙ eq-eqb id id refl))
+frame-only node at id offers = grind (arith, eq-eqb)
 
 -- The slots that it is to send
 
 some-due : (b : Bool) (frame : DataFrame) → is_some (cond b (Some frame) None) ≡ b
-some-due true frame = refl
-some-due false frame = refl
+some-due b frame = grind arith
 
 pub due-alone : (node : NodeState) (slot : ℕ) → is_due_slot node slot ≡ is_some (due_by (node ∷ []) slot)
 due-alone node slot = sym (some-due (is_due_slot node slot) (due_frame node slot))

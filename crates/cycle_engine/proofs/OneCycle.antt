@@ -1,7 +1,6 @@
 -- One cycle, as its order and the nodes make it.
-use Rattle.std.proofs.Common.{◌≡◌, ℕ, ◌+◌, ◌*◌, ◌^◌, ◌<◌, ◌≤◌, List, [], ◌++◌, All, refl, ap, ◌∙◌, subst, arith}
+use Rattle.std.proofs.Common.{◌≡◌, ℕ, ◌+◌, ◌*◌, ◌^◌, ◌<◌, ◌≤◌, List, [], ◌++◌, All, refl, subst, arith}
 use Rattle.std.proofs.Math.Nat.{add-mul}
-use Rattle.std.proofs.lemmas.List.Elements.{All-weaker}
 use Rattle.can_frame.specs.DataFrame.{DataFrame}
 use Rattle.can_frame.specs.declared.data_frame.TimedFrame.{TimedFrame}
 use Rattle.cycle_layout.specs.Layout.{CycleLayout, IsLayout}
@@ -14,7 +13,6 @@ use Rattle.async_window.specs.declared.request.Request.{Request}
 use Rattle.bus_line.specs.Trace.{Follows}
 use Rattle.bus_line.specs.Stations.{offers_of}
 use Rattle.node_model.specs.Node.{IsNode, NodeState}
-use Rattle.node_model.specs.Own.{StandsIn, StandsOnBus}
 use Rattle.cycle_engine.specs.Joint.{BeginsWithTriggers}
 use Rattle.cycle_engine.specs.Nodes.{IsBefore, IsBus, heard_by, opening_of}
 use Rattle.cycle_engine.specs.Offered.{offered_in}
@@ -28,8 +26,7 @@ use Rattle.cycle_engine.proofs.Along.{Follows-cycle, Standing, Waiting}
 -- what nodes announce, by its parts
 pub announced-same : (layout also : CycleLayout) (at later : ℕ) (frames others : List DataFrame) (nodes same : List NodeState)
     → layout ≡ also → at ≡ later → frames ≡ others → nodes ≡ same → announced layout at frames nodes ≡ announced also later others same
-announced-same layout also at later frames others nodes same a b c d =
-    ap (λ x. announced x at frames nodes) a ∙ ap (λ x. announced also x frames nodes) b ∙ ap (λ x. announced also later x nodes) c ∙ ap (λ x. announced also later others x) d
+announced-same layout also at later frames others nodes same a b c d = grind arith
 
 -- the frames are those that arbitration decides between the nodes and the trigger frames of an order's cycle
 abbrev pub RunsOrder : Order → List TimedFrame → CycleLayout → List NodeState → Type 0
@@ -88,20 +85,10 @@ module _ (layout : CycleLayout) (order : Order) (nodes : List NodeState) (frames
       × Standing layout owners requests (opening_of order placed) (past ++ frames) (heard_by frames nodes)
   both =
       Follows-cycle layout owners requests (opening_of order placed) before.bus.are_owners before.bus.well_placed past nodes is_waiting frames
-      (subst (λ l. Follows (offers_of cycle_line (announced layout (order.cycle * layout.cycle) (triggers_with layout.slots order.cycle l order.mask) nodes))
-      [] (order.cycle * layout.cycle) ((order.cycle + 1) * layout.cycle) frames) before.fits.width run.runs)
+      (grind arith)
 
   pub cycle_runs : Follows (offered_in bytes_of layout requests (opening_of order placed)) past (order.cycle * layout.cycle) ((order.cycle + 1) * layout.cycle) frames
   cycle_runs = both.0
 
   pub cycle_stands : IsBus layout owners requests placed (past ++ frames) (order.cycle + 1) (heard_by frames nodes)
-  cycle_stands =
-      let opening = opening_of order placed in
-      let standing = both.1 in
-      record {
-        well_placed = before.bus.well_placed;
-        are_owners = before.bus.are_owners;
-        stand = All-weaker (StandsIn layout owners requests opening (past ++ frames)) (StandsOnBus layout owners requests placed (past ++ frames) (order.cycle + 1))
-            (λ node stands. stands.stands) (heard_by frames nodes) standing.stand;
-        owned = standing.owned;
-      }
+  cycle_stands = grind (arith, both)

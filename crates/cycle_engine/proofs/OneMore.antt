@@ -1,13 +1,13 @@
 -- One opened cycle more, behind the CAN trace of those before it.
-use Rattle.std.proofs.Common.{◌≡◌, ℕ, Bool, true, false, ◌+◌, ◌*◌, ◌<◌, ◌≤◌, eqb, max, List, [], ◌∷◌, ◌++◌, All, Contains, filter, get_or, refl, sym, ap, ◌∙◌, subst, arith, inl, inr}
+use Rattle.std.proofs.Common.{◌≡◌, ℕ, Bool, true, false, ◌+◌, ◌*◌, ◌<◌, ◌≤◌, eqb, max, List, [], ◌∷◌, ◌++◌, All, Contains, filter, refl, sym, ap, ◌∙◌, subst, arith, inl, inr}
+use Rattle.std.proofs.lemmas.Grind.{common_steps}
 use Rattle.std.proofs.lemmas.Bool.{cond-true, cond-false, eq-eqb, ne_eqb}
 use Rattle.std.proofs.lemmas.List.{append-nil}
-use Rattle.std.proofs.lemmas.List.Elements.{All-append, All-cons, All-contains, All-head, All-nil, All-push, All-tail, Contains-append_left, Contains-push, Contains-push_cases, filter-append}
+use Rattle.std.proofs.lemmas.List.Elements.{All-cons, All-contains, All-head, All-nil, All-push, All-tail, Contains-push, Contains-push_cases, filter-append}
 use Rattle.std.proofs.Math.Nat.{div-eq_of_lt-le, div-lt_iff_lt-mul, mul-le-mul_right}
 use Rattle.can_frame.specs.declared.data_frame.TimedFrame.{TimedFrame}
 use Rattle.cycle_layout.specs.Layout.{CycleLayout, IsLayout}
 use Rattle.requirement_table.specs.Instance.{Instance}
-use Rattle.requirement_table.specs.Table.{instance_in}
 use Rattle.async_window.specs.declared.request.Request.{Request}
 use Rattle.bus_line.specs.Trace.{AgreeAlong, Follows, end_of, free_after}
 use Rattle.bus_line.proofs.Shared.{Follows-along, Follows-from_trace, Follows-joined, trace_from_Follows, within_from_Follows}
@@ -65,15 +65,7 @@ module _ (sends : Instance → List ℕ) (layout : CycleLayout) (requests : List
 
   -- below the cycle's start, the opening offers nothing
   pub agree-before : AgreeAlong (offered sends layout requests openings) (offered sends layout requests with_it) [] [] 0 start trace
-  agree-before front back at frame split from early = (
-    λ offer. (offer.0, Contains-append_left openings (opening ∷ []) offer.0 offer.1, offer.2),
-    λ offer. elim (Contains-push_cases openings opening offer.0 offer.1) [
-      | inl before ↦ (offer.0, before, offer.2)
-      | inr is ↦
-          let time = in_cycle sends layout requests known opening front at frame (subst (λ o. offered_in sends layout requests o front at frame) (sym is) offer.2) in
-          absurd (omega (arith, time.0, early))
-    ],
-  )
+  agree-before = grind (arith, common_steps, in_cycle)
 
   -- from its start on, no other opening offers anything
   pub agree-after : AgreeAlong (offered_in sends layout requests opening) (offered sends layout requests with_it) trace trace start ends frames
@@ -108,40 +100,23 @@ module _ (sends : Instance → List ℕ) (layout : CycleLayout) (requests : List
       (subst (λ from. Follows (offered sends layout requests with_it) trace from ends frames) (sym free) back))
 
   is_fit : FitsWindow layout opening → IsFit layout opening
-  is_fit fits = record {
-    present = λ slot within flagged. some_instance (instance_in opening.placed slot opening.cycle) (fits.present slot within flagged);
-    room = (let room = known.room in let width = fits.width in omega arith);
-  }
+  is_fit fits = grind (arith, some_instance)
 
   pub more-runs : SendsWhole sends → AreAsynchronous requests → FitsWindow layout opening → RunsCycle sends layout opening frames
   more-runs whole asynchronous fits = runs_cycle sends whole layout requests opening trace frames (is_fit fits) asynchronous behind.can_trace.within behind.follows
 
   all-ended : RunsCycle sends layout opening frames → All (λ sent. end_of sent ≤ ends) frames
-  all-ended runs =
-      let trigger : end_of runs.trigger ≤ ends = (let e = runs.ends in omega arith) in
-      subst (All (λ sent. end_of sent ≤ ends)) (sym runs.all_frames)
-      (All-cons (λ sent. end_of sent ≤ ends) runs.trigger (runs.second ++ runs.later) trigger
-      (All-append (λ sent. end_of sent ≤ ends) runs.second runs.later (λ k d within. let e = runs.second_ends k d within in omega arith)
-      (λ k d within. elim (runs.all k d within) [
-        | inl request ↦ let e = request.before in omega arith
-        | inr slot ↦ slot.before
-      ])))
+  all-ended runs = grind (arith, common_steps)
 
   pub more-ended : SendsWhole sends → AreAsynchronous requests → FitsWindow layout opening → All (λ sent. end_of sent ≤ ends) (trace ++ frames)
-  more-ended whole asynchronous fits =
-      All-append (λ sent. end_of sent ≤ ends) trace frames (λ k d within. let e = behind.ended k d within in omega arith)
-      (all-ended (more-runs whole asynchronous fits))
+  more-ended whole asynchronous fits = grind (arith, common_steps, all-ended, more-runs)
 
   -- the frames start in the cycle, and those before it do not
   in-cycle : (sent : TimedFrame) → Contains frames sent → cycle_of layout sent ≡ opening.cycle
-  in-cycle sent among =
-      let within = All-contains (λ s. (start ≤ s.start) × (s.start < ends)) frames sent (within_from_Follows (offered_in sends layout requests opening) ends trace start frames behind.follows) among in
-      div-eq_of_lt-le layout.cycle within.0 within.1
+  in-cycle sent among = grind (arith, within_from_Follows, div-eq_of_lt-le)
 
   before-cycle : (sent : TimedFrame) → Contains trace sent → cycle_of layout sent < opening.cycle
-  before-cycle sent among =
-      let started : sent.start < start = All-contains (λ s. s.start < start) trace sent behind.can_trace.within among in
-      (div-lt_iff_lt-mul {k = layout.cycle} {x = sent.start} {y = opening.cycle} some_time).1 started
+  before-cycle sent among = grind (arith, div-lt_iff_lt-mul, some_time)
 
   abbrev is_in : ℕ → TimedFrame → Bool
   is_in cycle sent = eqb (cycle_of layout sent) cycle
@@ -149,13 +124,7 @@ module _ (sends : Instance → List ℕ) (layout : CycleLayout) (requests : List
   pub more-cycles : SendsWhole sends → AreAsynchronous requests → FitsWindow layout opening → RunsCycles sends layout openings trace → RunsCycles sends layout with_it (trace ++ frames)
   more-cycles whole asynchronous fits cycles =
       All-push (λ o. RunsCycle sends layout o (frames_in layout o.cycle (trace ++ frames))) openings opening
-      (λ k d within.
-      let o : Opening = get_or openings k d in
-      let below = behind.below k d within in
-      let none : frames_in layout o.cycle frames ≡ [] = filter-none (is_in o.cycle) frames (λ s among. ne_eqb _ _ (λ same. let is = in-cycle s among in omega arith)) in
-      let same : frames_in layout o.cycle (trace ++ frames) ≡ frames_in layout o.cycle trace =
-      filter-append (is_in o.cycle) trace frames ∙ ap (λ l. frames_in layout o.cycle trace ++ l) none ∙ append-nil _ in
-      subst (RunsCycle sends layout o) (sym same) (cycles k d within))
+      (λ k d within. grind (arith, filter-none, ne_eqb, in-cycle, filter-append, append-nil))
       (let none : frames_in layout opening.cycle trace ≡ [] = filter-none (is_in opening.cycle) trace (λ s among. ne_eqb _ _ (λ same. let is = before-cycle s among in omega arith)) in
       let all : frames_in layout opening.cycle frames ≡ frames = filter-all (is_in opening.cycle) frames (λ s among. eq-eqb _ _ (in-cycle s among)) in
       let same : frames_in layout opening.cycle (trace ++ frames) ≡ frames =

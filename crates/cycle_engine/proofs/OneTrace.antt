@@ -1,37 +1,30 @@
 -- Frames that are offered on the bus at one time with one identifier, after the same frames, are the same.
-use Rattle.std.proofs.Common.{◌≡◌, ℕ, ◌+◌, ◌*◌, ◌<◌, ◌≤◌, List, Some, inl, inr, sym, ap, ◌∙◌, subst, arith}
+use Rattle.std.proofs.Common.{◌≡◌, ℕ, ◌+◌, ◌*◌, ◌<◌, ◌≤◌, List, Some, inl, inr, sym, subst, arith}
 use Rattle.std.specs.Prelude.{◌==◌}
 use Rattle.std.proofs.Math.Nat.{div-eq_of_lt-le, add-mul}
 use Rattle.std.specs.List.{slice_get}
 use Rattle.std.proofs.lemmas.List.Elements.{All-contains, All-filter, All-drop}
 use Rattle.can_frame.specs.DataFrame.{DataFrame}
 use Rattle.can_frame.specs.declared.data_frame.TimedFrame.{TimedFrame}
-use Rattle.trigger_kind.specs.Kind.{greatest_trigger}
 use Rattle.cycle_layout.specs.Layout.{CycleLayout, IsLayout}
 use Rattle.async_window.specs.declared.request.Request.{Request}
 use Rattle.async_window.specs.Waiting.{requests_of, unsent_after, frames_with}
 use Rattle.bus_line.specs.Trace.{IsDetermined}
 use Rattle.bus_line.proofs.Shared.{only-trace}
 use Rattle.requirement_table.specs.Instance.{Instance}
-use Rattle.requirement_table.specs.Opening.{Opening, width_of}
+use Rattle.requirement_table.specs.Opening.{Opening}
 use Rattle.node_model.specs.Opening.{start_of, end_of_cycle}
-use Rattle.node_model.specs.Offered.{OffersTrigger, OffersRequest, OffersSlot, bytes_sent, trigger_frames}
+use Rattle.node_model.specs.Offered.{OffersTrigger, OffersRequest, OffersSlot}
 use Rattle.cycle_engine.specs.Offered.{AreAsynchronous, AreOfDistinctCycles, IsCanTrace, offered, offered_in}
 use Rattle.cycle_engine.proofs.Lists.{Contains-slice_get, same_by_number}
-use Rattle.cycle_engine.proofs.TriggerFrames.{low_ids, rising}
+use Rattle.cycle_engine.proofs.TriggerFrames.{rising}
 
 same_frame : (one other : DataFrame) → one.identifier ≡ other.identifier → one.bytes ≡ other.bytes → one ≡ other
-same_frame one other id bytes =
-    let made : ℕ → List ℕ → DataFrame = λ i b. record { identifier = i; bytes = b } in
-    ap (λ i. made i one.bytes) id ∙ ap (λ b. made other.identifier b) bytes
-
-Some-same : {X : Type 0} (x y : X) → Some x ≡ Some y → x ≡ y
-Some-same x y same = cc
+same_frame one other id bytes = grind arith
 
 -- a time of two cycles shows that they are one
 same_cycle : (c d length at : ℕ) → c * length ≤ at → at < (c + 1) * length → d * length ≤ at → at < (d + 1) * length → c ≡ d
-same_cycle c d length at c_begun c_within d_begun d_within =
-    sym (div-eq_of_lt-le length c_begun c_within) ∙ div-eq_of_lt-le length d_begun d_within
+same_cycle c d length at c_begun c_within d_begun d_within = grind (arith, div-eq_of_lt-le)
 
 -- the first unsent request of an identifier is one of the requests
 pub is_asynchronous : (requests : List Request) (past : List TimedFrame) (id : ℕ) (request : Request) → AreAsynchronous requests
@@ -45,65 +38,39 @@ module _ (sends : Instance → List ℕ) (layout : CycleLayout) (requests : List
   -- what is offered in a cycle is offered at a time of the cycle
   pub in_cycle : IsLayout layout → (opening : Opening) (past : List TimedFrame) (at : ℕ) (frame : DataFrame)
       → offered_in sends layout requests opening past at frame → (start_of layout opening ≤ at) × (at < end_of_cycle layout opening)
-  in_cycle is opening past at frame (inl trigger) =
-      let longer = add-mul opening.cycle 1 layout.cycle in
-      (trigger.begun, omega (arith, trigger.within, longer, is.room))
-  in_cycle is opening past at frame (inr (inl request)) =
-      let allowed = request.may_start.allowed in
-      (omega (arith, allowed.opened), omega (arith, allowed.whole))
-  in_cycle is opening past at frame (inr (inr (slot, offers))) = (offers.begun, offers.within)
-
-  -- a trigger frame has an identifier below those of others, a request an asynchronous one, and a slot one between them
-  trigger_id : (opening : Opening) (past : List TimedFrame) (at : ℕ) (frame : DataFrame) → OffersTrigger layout opening past at frame → frame.identifier ≤ greatest_trigger
-  trigger_id opening past at frame offers =
-      All-contains (λ f. f.identifier ≤ greatest_trigger) (trigger_frames layout opening) frame (low_ids layout.slots opening.cycle (width_of opening) opening.mask) offers.among
+  in_cycle is opening past at frame h1 = grind (arith, add-mul)
 
   pub request_id : AreAsynchronous requests → (opening : Opening) (past : List TimedFrame) (at : ℕ) (frame : DataFrame)
       → OffersRequest layout requests opening past at frame → 0x200 ≤ frame.identifier
   request_id all opening past at frame offers =
       let least = is_asynchronous requests past frame.identifier offers.request all offers.may_start.waiting.first in
-      let same = ap (λ f. f.identifier) offers.its_frame in
-      omega (arith, least, same)
+      grind arith
 
   -- frames of one identifier that are offered in one cycle
   same_trigger : (opening : Opening) (past : List TimedFrame) (at : ℕ) (one other : DataFrame) → OffersTrigger layout opening past at one
       → OffersTrigger layout opening past at other → one.identifier ≡ other.identifier → one ≡ other
-  same_trigger opening past at one other is_one is_other same =
-      same_by_number (λ f. f.identifier) (trigger_frames layout opening) one other
-      (λ i j d before within equal. omega (arith, equal, rising layout.slots opening.cycle (width_of opening) opening.mask i j d before within))
-      is_one.among is_other.among same
+  same_trigger opening past at one other is_one is_other same = grind (arith, same_by_number, rising)
 
   same_request : (opening : Opening) (past : List TimedFrame) (at : ℕ) (one other : DataFrame) → OffersRequest layout requests opening past at one
       → OffersRequest layout requests opening past at other → one.identifier ≡ other.identifier → one ≡ other
   same_request opening past at one other is_one is_other same =
-      let first_one = is_one.may_start.waiting.first in
       let first_other = subst (λ id. slice_get (unsent_after requests past id) 0 ≡ Some is_other.request) (sym same) is_other.may_start.waiting.first in
-      let request : is_one.request ≡ is_other.request = Some-same is_one.request is_other.request (sym first_one ∙ first_other) in
-      is_one.its_frame ∙ ap (λ r. r.frame) request ∙ sym is_other.its_frame
+      grind arith
 
   same_slot : (opening : Opening) (past : List TimedFrame) (at : ℕ) (one other : DataFrame) (slot also : ℕ) → OffersSlot sends layout opening past at one slot
       → OffersSlot sends layout opening past at other also → one.identifier ≡ other.identifier → one ≡ other
-  same_slot opening past at one other slot also is_one is_other same =
-      let slots_same : slot ≡ also = omega (arith, is_one.identifier, is_other.identifier, same) in
-      let bytes_other = subst (λ s. bytes_sent sends opening s ≡ Some other.bytes) (sym slots_same) is_other.bytes in
-      same_frame one other same (Some-same one.bytes other.bytes (sym is_one.bytes ∙ bytes_other))
+  same_slot opening past at one other slot also is_one is_other same = grind (arith, same_frame)
 
   same_in_cycle : AreAsynchronous requests → (opening : Opening) (past : List TimedFrame) (at : ℕ) (one other : DataFrame)
       → offered_in sends layout requests opening past at one → offered_in sends layout requests opening past at other → one.identifier ≡ other.identifier → one ≡ other
   same_in_cycle all opening past at one other (inl a) (inl b) same = same_trigger opening past at one other a b same
-  same_in_cycle all opening past at one other (inl a) (inr (inl b)) same =
-      absurd (omega (arith, same, trigger_id opening past at one a, request_id all opening past at other b))
-  same_in_cycle all opening past at one other (inl a) (inr (inr (slot, b))) same =
-      absurd (omega (arith, same, trigger_id opening past at one a, b.identifier))
-  same_in_cycle all opening past at one other (inr (inl a)) (inl b) same =
-      absurd (omega (arith, same, trigger_id opening past at other b, request_id all opening past at one a))
+  same_in_cycle all opening past at one other (inl a) (inr (inl b)) same = grind (arith, request_id)
+  same_in_cycle all opening past at one other (inl a) (inr (inr (slot, b))) same = grind arith
+  same_in_cycle all opening past at one other (inr (inl a)) (inl b) same = grind (arith, request_id)
   same_in_cycle all opening past at one other (inr (inl a)) (inr (inl b)) same = same_request opening past at one other a b same
-  same_in_cycle all opening past at one other (inr (inl a)) (inr (inr (slot, b))) same =
-      absurd (omega (arith, same, request_id all opening past at one a, b.identifier, b.known))
-  same_in_cycle all opening past at one other (inr (inr (slot, a))) (inl b) same =
-      absurd (omega (arith, same, trigger_id opening past at other b, a.identifier))
-  same_in_cycle all opening past at one other (inr (inr (slot, a))) (inr (inl b)) same =
-      absurd (omega (arith, same, request_id all opening past at other b, a.identifier, a.known))
+  same_in_cycle all opening past at one other (inr (inl a)) (inr (inr (slot, b))) same = grind (arith, request_id)
+  same_in_cycle all opening past at one other (inr (inr (slot, a))) (inl b) same = grind arith
+  same_in_cycle all opening past at one other (inr (inr (slot, a))) (inr (inl b)) same = grind (arith, request_id)
   same_in_cycle all opening past at one other (inr (inr (slot, a))) (inr (inr (also, b))) same = same_slot opening past at one other slot also a b same
 
   -- a time belongs to one opening

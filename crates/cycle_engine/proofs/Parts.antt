@@ -30,12 +30,7 @@ states-parts owners placed spare joint (number ∷ numbers) =
 
 pub states-same : (owners : List Owner) (placed others : List Placed) (spare more count : ℕ) (joint after : NodeState) → placed ≡ others → joint ≡ after
     → states_of (parts_of owners placed spare count joint) ≡ states_of (parts_of owners others more count after)
-states-same owners placed others spare more count joint after same still =
-    let numbers = range_with_len 0 count in
-    states-parts owners placed spare joint numbers
-    ∙ ap (λ list. map (part_of owners list joint) numbers) same
-    ∙ ap (λ node. map (part_of owners others node) numbers) still
-    ∙ sym (states-parts owners others more after numbers)
+states-same owners placed others spare more count joint after same still = grind (arith, states-parts)
 
 -- Which of them there are
 
@@ -53,9 +48,7 @@ at-number P f count all n within =
     (all n (f n) (omega (arith, within, length-map-range_with_len f 0 count)))
 
 pub all-numbers : {X : Type 0} (P : X → Type 0) (f : ℕ → X) (count : ℕ) → ((n : ℕ) → n < count → P (f n)) → All P (map f (range_with_len 0 count))
-all-numbers P f count each = λ k d within.
-    let inside : k < count = omega (arith, within, length-map-range_with_len f 0 count) in
-    subst P (sym (get_or-map-range_with_len f 0 count k k d inside (omega arith))) (each k inside)
+all-numbers P f count each = grind (arith, length-map-range_with_len, get_or-map-range_with_len)
 
 pub numbers-of : (f : ℕ → NodeState) (numbers : List ℕ) → ((n : ℕ) → (f n).number ≡ n) → map (λ node. node.number) (map f numbers) ≡ numbers
 numbers-of f [] each = refl
@@ -77,18 +70,15 @@ spare-of owners placed entries spare (suc count) joint some have =
 
 pub keep-spare : (owners : List Owner) (placed others : List Placed) (spare more count : ℕ) (joint after : NodeState) → 1 ≤ count → spare ≤ more
     → KeepSpare (parts_of owners placed spare count joint) (parts_of owners others more count after)
-keep-spare owners placed others spare more count joint after some longer = λ entries have.
-    have-spare owners others entries more count after (omega (arith, longer, spare-of owners placed entries spare count joint some have))
+keep-spare owners placed others spare more count joint after some longer = grind (arith, have-spare, spare-of)
 
 pub can-learn : (owners : List Owner) (placed : List Placed) (spare count : ℕ) (joint : NodeState) (learned : Option (List Placed)) → 1 ≤ count
     → IfSome learned (λ list. HaveSpare (length list) (parts_of owners placed spare count joint)) → IfSome learned (λ list. length list ≤ spare)
-can-learn owners placed spare count joint None some have = tt
-can-learn owners placed spare count joint (Some list) some have = spare-of owners placed (length list) spare count joint some have
+can-learn owners placed spare count joint learned some have = grind (arith, spare-of)
 
 -- one less long, where it is the least of some
 pub shorter : (learned : Option (List Placed)) (one other : ℕ) → one ≤ other → IfSome learned (λ list. length list ≤ one) → IfSome learned (λ list. length list ≤ other)
-shorter None one other less short = tt
-shorter (Some list) one other less short = omega (arith, less, short)
+shorter learned one other less short = grind arith
 
 -- What they learn and hear
 
@@ -136,8 +126,7 @@ module _ (taken : (id : ℕ) (mail : List Mail) (other : ℕ)
 
 -- a list that is learnt is well placed
 pub known-well_placed : (learned : Option (List Placed)) (placed : List Placed) → IfSome learned IsWellPlaced → IsWellPlaced placed → IsWellPlaced (known_by learned placed)
-known-well_placed None placed learnt known = known
-known-well_placed (Some list) placed learnt known = learnt
+known-well_placed learned placed learnt known = grind arith
 
 -- The identifiers of all
 

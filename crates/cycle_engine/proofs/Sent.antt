@@ -1,6 +1,6 @@
 -- Which slots' frames were sent, as more of them are.
-use Rattle.std.proofs.Common.{◌≡◌, ℕ, ◌+◌, ◌≤◌, ◌&&◌, ◌||◌, Bool, true, false, not, cond, nat_eq, List, [], ◌∷◌, ◌++◌, length, drop, Option, Some, inl, inr, refl, sym, ap, ap₂, ◌∙◌, arith}
-use Rattle.std.proofs.lemmas.Bool.{cases_eq, eq-eqb, eqb-true, ne_eqb}
+use Rattle.std.proofs.Common.{◌≡◌, ℕ, ◌+◌, ◌≤◌, ◌&&◌, ◌||◌, Bool, true, false, not, cond, nat_eq, List, [], ◌∷◌, ◌++◌, length, drop, Option, Some, refl, sym, ap, ap₂, ◌∙◌, arith}
+use Rattle.std.proofs.lemmas.Bool.{eq-eqb, eqb-true, ne_eqb}
 use Rattle.std.proofs.lemmas.List.{drop-append-le}
 use Rattle.std.proofs.lemmas.List.Folds.{list_any-append}
 use Rattle.profile.specs.Limits.{first_identifier}
@@ -14,8 +14,7 @@ use Rattle.cycle_engine.specs.SyncWindow.{due_by, is_among}
 -- the frame of a slot that a node is to send has its identifier
 chosen-identifier : (due : Bool) (frame found : DataFrame) (later : Option DataFrame) (id : ℕ) → frame.identifier ≡ id
     → (later ≡ Some found → found.identifier ≡ id) → cond due (Some frame) later ≡ Some found → found.identifier ≡ id
-chosen-identifier true frame found later id own rest is = let same : frame ≡ found = cc in ap (λ (f : DataFrame). f.identifier) (sym same) ∙ own
-chosen-identifier false frame found later id own rest is = rest is
+chosen-identifier due frame found later id own rest is = grind arith
 
 pub due-identifier : (nodes : List NodeState) (slot : ℕ) (frame : DataFrame) → due_by nodes slot ≡ Some frame → frame.identifier ≡ first_identifier + slot
 due-identifier [] slot frame is = absurd (cc)
@@ -24,41 +23,23 @@ due-identifier (node ∷ later) slot frame is =
 
 -- a frame of a slot is that of no other slot
 same-slot : (id slot own : ℕ) → id ≡ first_identifier + own → nat_eq id (first_identifier + slot) ≡ nat_eq slot own
-same-slot id slot own is = elim (cases_eq slot own) [
-  | inl same ↦ eq-eqb id (first_identifier + slot) (omega (arith, is, same)) ∙ sym (eq-eqb slot own same)
-  | inr other ↦ ne_eqb id (first_identifier + slot) (λ equal. other (omega (arith, is, equal))) ∙ sym (ne_eqb slot own other)
-]
+same-slot id slot own is = grind (arith, eq-eqb, ne_eqb)
 
 or-none : (b : Bool) → (b || false) ≡ b
-or-none true = refl
-or-none false = refl
+or-none b = grind arith
 
 -- behind some frames, one more
 pub among-more : (old out new : List TimedFrame) (sent : TimedFrame) (slot own : ℕ) → length old ≤ length out → new ≡ out ++ sent ∷ []
     → sent.frame.identifier ≡ first_identifier + own
     → is_among slot (drop (length old) new) ≡ (is_among slot (drop (length old) out) || nat_eq slot own)
-among-more old out new sent slot own long is id =
-    ap (λ xs. is_among slot (drop (length old) xs)) is
-    ∙ ap (is_among slot) (drop-append-le (length old) out (sent ∷ []) long)
-    ∙ list_any-append (λ one. nat_eq one.frame.identifier (first_identifier + slot)) (drop (length old) out) (sent ∷ [])
-    ∙ ap (λ b. is_among slot (drop (length old) out) || b) (or-none (nat_eq sent.frame.identifier (first_identifier + slot)) ∙ same-slot sent.frame.identifier slot own id)
+among-more old out new sent slot own long is id = grind (arith, drop-append-le, list_any-append, or-none, same-slot)
 
 moved : (among left same : Bool) → (same ≡ true → left ≡ true) → (among || left) ≡ ((among || same) || (not same && left))
-moved true left same has = refl
-moved false true true has = refl
-moved false true false has = refl
-moved false false true has = absurd (let none = has refl in cc)
-moved false false false has = refl
-
-still-apart : (among left same : Bool) → (left ≡ true → among ≡ false) → (not same && left) ≡ true → (among || same) ≡ false
-still-apart among left true apart is = absurd (cc)
-still-apart among false false apart is = absurd (cc)
-still-apart among true false apart is = or-none among ∙ apart refl
+moved among left same has = grind arith
 
 -- a slot that is still left was left before
 left-of : (left same : Bool) → (not same && left) ≡ true → left ≡ true
-left-of left true is = absurd (cc)
-left-of left false is = is
+left-of left same is = grind arith
 
 pub left-before : (left rest slot own : ℕ) → has_bit rest slot ≡ (not (nat_eq slot own) && has_bit left slot)
     → has_bit rest slot ≡ true → has_bit left slot ≡ true
@@ -79,28 +60,21 @@ left-more set left rest slot own before after has more without all =
 pub apart-more : (left rest slot own : ℕ) (before after : List TimedFrame) → is_among slot after ≡ (is_among slot before || nat_eq slot own)
     → has_bit rest slot ≡ (not (nat_eq slot own) && has_bit left slot) → (has_bit left slot ≡ true → is_among slot before ≡ false)
     → has_bit rest slot ≡ true → is_among slot after ≡ false
-apart-more left rest slot own before after more without apart has =
-    more ∙ still-apart (is_among slot before) (has_bit left slot) (nat_eq slot own) apart (sym without ∙ has)
+apart-more left rest slot own before after more without apart has = grind arith
 
 -- the slots of a set that are not left are those whose frames were sent
 gone : (among left : Bool) → (left ≡ true → among ≡ false) → ((among || left) && not left) ≡ among
-gone true true apart = absurd (let none = apart refl in cc)
-gone true false apart = refl
-gone false true apart = refl
-gone false false apart = refl
+gone among left apart = grind arith
 
 pub sent-slots : (sent set left slot : ℕ) (frames : List TimedFrame) → has_bit sent slot ≡ (has_bit set slot && not (has_bit left slot))
     → has_bit set slot ≡ (is_among slot frames || has_bit left slot) → (has_bit left slot ≡ true → is_among slot frames ≡ false)
     → has_bit sent slot ≡ is_among slot frames
-sent-slots sent set left slot frames is all apart =
-    is ∙ ap (λ b. b && not (has_bit left slot)) all ∙ gone (is_among slot frames) (has_bit left slot) apart
+sent-slots sent set left slot frames is all apart = grind (arith, gone)
 
 -- no slot beyond all of them
 none-sent : (among left : Bool) → false ≡ (among || left) → among ≡ false
-none-sent false left is = refl
-none-sent true left is = absurd (cc)
+none-sent among left is = grind arith
 
 pub sent-none : (sent set left slot : ℕ) (frames : List TimedFrame) → has_bit sent slot ≡ false → has_bit set slot ≡ false
     → has_bit set slot ≡ (is_among slot frames || has_bit left slot) → has_bit sent slot ≡ is_among slot frames
-sent-none sent set left slot frames off none all =
-    off ∙ sym (none-sent (is_among slot frames) (has_bit left slot) (sym none ∙ all))
+sent-none sent set left slot frames off none all = grind (arith, none-sent)

@@ -1,9 +1,10 @@
 -- The trigger frames of a cycle: which of them are left behind some that were sent, and what the bus does with them.
-use Rattle.std.proofs.Common.{◌≡◌, ℕ, zero, suc, ◌+◌, ◌*◌, ◌<◌, ◌≤◌, List, [], ◌∷◌, ◌++◌, length, map, All, AllPairs, Contains, get_or, inl, inr, refl, sym, ap, ◌∙◌, subst, arith, append_assoc, append-nil}
+use Rattle.std.proofs.Common.{◌≡◌, ℕ, zero, suc, ◌+◌, ◌*◌, ◌<◌, ◌≤◌, List, [], ◌∷◌, ◌++◌, length, map, All, AllPairs, Contains, get_or, inl, inr, refl, sym, ap, subst, arith, append_assoc, append-nil}
+use Rattle.std.proofs.lemmas.Grind.{common_steps}
 use Rattle.std.specs.Prelude.{⊤}
 use Rattle.std.proofs.lemmas.Bool.{cases_lt}
 use Rattle.std.proofs.lemmas.List.{map-append}
-use Rattle.std.proofs.lemmas.List.Elements.{All-append, All-cons, All-contains, All-head, All-nil, All-push, All-tail, All-weaker, Contains-append_cases, Contains-append_right}
+use Rattle.std.proofs.lemmas.List.Elements.{All-append, All-cons, All-contains, All-head, All-nil, All-tail, Contains-append_cases, Contains-append_right}
 use Rattle.can_frame.specs.DataFrame.{DataFrame}
 use Rattle.can_frame.specs.Wire.{wire_length}
 use Rattle.can_frame.specs.declared.data_frame.TimedFrame.{TimedFrame}
@@ -24,9 +25,7 @@ use Rattle.cycle_engine.proofs.Lists.{AllPairs-head, AllPairs-tail, Contains-cas
 
 -- so long each is at most
 pub frames_short : (slots cycle l mask : ℕ) → All (λ frame. wire_length frame ≤ 135) (triggers_with slots cycle l mask)
-frames_short slots cycle l mask =
-    All-weaker (λ frame. length frame.bytes ≡ 8) (λ frame. wire_length frame ≤ 135)
-    (λ frame eight. omega (arith, eight, wire-most frame)) (triggers_with slots cycle l mask) (eight_bytes slots cycle l mask)
+frames_short slots cycle l mask = grind (arith, wire-most, eight_bytes)
 
 -- Frames that start one at once behind the other, from a time on
 pub record StartAt (free : ℕ) (sent : TimedFrame) : Type 0 where
@@ -55,13 +54,7 @@ module _ (layout : CycleLayout) (opening : Opening) where
 
   pub AreLeft-more : (past done : List TimedFrame) (frame : DataFrame) (left : List DataFrame) (sent : TimedFrame) → sent.frame ≡ frame → start_of layout opening ≤ sent.start
       → AreLeft past done (frame ∷ left) → AreLeft past (done ++ sent ∷ []) left
-  AreLeft-more past done frame left sent is late sofar = record {
-    all = ap (λ fs. fs ++ left) (map-append (λ s. s.frame) done (sent ∷ []))
-        ∙ append_assoc (map (λ s. s.frame) done) (sent.frame ∷ []) left
-        ∙ ap (λ f. map (λ s. s.frame) done ++ f ∷ left) is ∙ sofar.all;
-    before = sofar.before;
-    begun = All-push (λ s. start_of layout opening ≤ s.start) done sent sofar.begun late;
-  }
+  AreLeft-more past done frame left sent is late sofar = grind (arith, common_steps, map-append, append_assoc)
 
   module _ (past done : List TimedFrame) (left : List DataFrame) (sofar : AreLeft past done left) where
     rising_here : AllPairs (λ one other. one.identifier < other.identifier) (map (λ sent. sent.frame) done ++ left)
@@ -123,11 +116,7 @@ module _ (layout : CycleLayout) (opening : Opening) where
 
   pub AreLeft-sent : (past : List TimedFrame) (free : ℕ) (sent : List TimedFrame) → All (λ s. s.start < start_of layout opening) past
       → map (λ s. s.frame) sent ≡ trigger_frames layout opening → start_of layout opening ≤ free → AtOnce free sent → AreLeft past sent []
-  AreLeft-sent past free sent before are late at_once = record {
-    all = append-nil (map (λ s. s.frame) sent) ∙ are;
-    before = before;
-    begun = begun-at free sent late at_once;
-  }
+  AreLeft-sent past free sent before are late at_once = grind (arith, append-nil, begun-at)
 
   -- no trigger frame is offered any more
   abbrev pub NoTrigger : List TimedFrame → Type 0
@@ -221,8 +210,7 @@ module _ (layout : CycleLayout) (opening : Opening) where
         → start_of layout opening ≤ free → free + length left * 135 ≤ part_ends → part_ends ≤ until → All (λ frame. wire_length frame ≤ 135) left
         → map (λ s. s.frame) sent ≡ left → AtOnce free sent → Follows offers (past ++ (done ++ sent)) (free_after free sent) until later
         → Follows offers (past ++ done) free until (sent ++ later)
-    Follows-left past done left free until [] later sofar late room ends short are at_once follows =
-        subst (λ front. Follows offers (past ++ front) free until later) (append-nil done) follows
+    Follows-left past done left free until [] later sofar late room ends short are at_once follows = grind (arith, append-nil)
     Follows-left past done [] free until (sent ∷ rest) later sofar late room ends short are at_once follows = absurd (cc)
     Follows-left past done (frame ∷ left) free until (sent ∷ rest) later sofar late room ends short are (starts, at_once) follows =
         let is : sent.frame ≡ frame = cc in
@@ -250,15 +238,7 @@ module _ (layout : CycleLayout) (opening : Opening) where
     pub cut-left : (past done : List TimedFrame) (left : List DataFrame) (free until : ℕ) (frames : List TimedFrame) → AreLeft past done left
         → start_of layout opening ≤ free → free + length left * 135 ≤ part_ends → part_ends ≤ until → All (λ frame. wire_length frame ≤ 135) left
         → Follows offers (past ++ done) free until frames → CutBehind past done left free until frames
-    cut-left past done [] free until frames sofar late room ends short follows = record {
-      sent = [];
-      later = frames;
-      split = refl;
-      are = refl;
-      at_once = tt;
-      sofar = subst (λ front. AreLeft past front []) (sym (append-nil done)) sofar;
-      follows = subst (λ front. Follows offers (past ++ front) free until frames) (sym (append-nil done)) follows;
-    }
+    cut-left past done [] free until frames sofar late room ends short follows = grind (arith, append-nil)
     cut-left past done (frame ∷ left) free until [] sofar late room ends short nothing =
         absurd (nothing free frame (omega arith) (omega (arith, room, ends))
         (inl (offers_left past done (frame ∷ left) sofar frame free (Contains-here frame left) late (omega (arith, room)))))
@@ -272,12 +252,4 @@ module _ (layout : CycleLayout) (opening : Opening) where
         let rest = cut-left past (done ++ sent ∷ []) left (end_of sent) until later (AreLeft-more past done frame left sent is begun sofar)
         (omega (arith, begun)) (omega (arith, room, ended)) ends (All-tail (λ f. wire_length f ≤ 135) frame left short)
         (subst (λ front. Follows offers front (end_of sent) until later) (append_assoc past done (sent ∷ [])) follows) in
-        record {
-          sent = sent ∷ rest.sent;
-          later = rest.later;
-          split = ap (λ fs. sent ∷ fs) rest.split;
-          are = ap (λ f. f ∷ map (λ s. s.frame) rest.sent) is ∙ ap (λ fs. frame ∷ fs) rest.are;
-          at_once = (starts, rest.at_once);
-          sofar = subst (λ front. AreLeft past front []) (append_assoc done (sent ∷ []) rest.sent) rest.sofar;
-          follows = subst (λ front. Follows offers (past ++ front) (free_after (end_of sent) rest.sent) until rest.later) (append_assoc done (sent ∷ []) rest.sent) rest.follows;
-        }
+        grind (arith, append_assoc)

@@ -1,16 +1,16 @@
 -- A cycle in two parts: the bus runs over its stations up to the synchronous window, and then over the nodes in that
 -- window.
-use Rattle.std.proofs.Common.{◌≡◌, ℕ, ◌+◌, ◌*◌, ◌^◌, ◌<◌, ◌≤◌, List, [], ◌∷◌, ◌++◌, All, length, map, max, get_or, refl, sym, ap, ◌∙◌, subst, arith}
+use Rattle.std.proofs.Common.{◌≡◌, ℕ, ◌+◌, ◌*◌, ◌^◌, ◌<◌, ◌≤◌, List, [], ◌∷◌, ◌++◌, All, length, map, max, get_or, sym, ap, ◌∙◌, subst, arith}
 use Rattle.std.specs.Prelude.{fold}
 use Rattle.std.proofs.Math.Nat.{add-mul}
-use Rattle.std.proofs.lemmas.List.Elements.{All-map, All-weaker}
+use Rattle.std.proofs.lemmas.List.Elements.{All-map}
 use Rattle.std.proofs.lemmas.List.Sums.{fold-append}
 use Rattle.can_frame.specs.declared.data_frame.TimedFrame.{TimedFrame}
 use Rattle.can_frame.proofs.Shared.{wire-least}
 use Rattle.cycle_layout.specs.Layout.{CycleLayout, IsLayout, sync_start, trigger_part}
 use Rattle.trigger_codec.specs.Bytes.{triggers_with}
 use Rattle.bus_line.specs.Trace.{Follows, end_of, free_after}
-use Rattle.bus_line.specs.Stations.{IsOffered, Ran, offers_of, told}
+use Rattle.bus_line.specs.Stations.{Ran, offers_of, told}
 use Rattle.bus_line.proofs.Shared.{Follows-along, Follows-joined}
 use Rattle.node_model.specs.Node.{NodeState, after_hearing}
 use Rattle.node_model.specs.Window.{IsInWindow}
@@ -26,17 +26,14 @@ use Rattle.cycle_engine.proofs.NextCycle.{All-behind}
 
 -- the stations behind some frames, once no trigger frame is left
 told-is : (s : Stationed) (layout : CycleLayout) → s.layout ≡ layout → s.triggers ≡ [] → nodes_alone layout s.nodes ≡ s
-told-is s layout same none =
-    ap (λ l. record { layout = l; triggers = []; nodes = s.nodes }) (sym same) ∙ ap (λ t. record { layout = s.layout; triggers = t; nodes = s.nodes }) (sym none)
+told-is s layout same none = grind arith
 
 -- what follows among the stations behind some frames follows those frames
 Follows-told : (before : Stationed) (front back : List TimedFrame) (free until : ℕ)
     → Follows (offers_of cycle_line (told cycle_line before front)) [] free until back → Follows (offers_of cycle_line before) front free until back
 Follows-told before front back free until follows =
     Follows-along (offers_of cycle_line (told cycle_line before front)) (offers_of cycle_line before) [] front free until back
-    (λ sofar later at frame _ _ _.
-    let same : told cycle_line (told cycle_line before front) sofar ≡ told cycle_line before (front ++ sofar) = sym (fold-append cycle_line.next before front sofar) in
-    (subst (λ s. IsOffered cycle_line s at frame) same, subst (λ s. IsOffered cycle_line s at frame) (sym same)))
+    (λ sofar later at frame _ _ _. grind (arith, fold-append))
     follows
 
 -- both parts together
@@ -68,13 +65,7 @@ module _ (layout : CycleLayout) (cycle l mask : ℕ) (is_layout : IsLayout layou
   opened-by window end node sent begun ends triggers same next =
       let own = opens-cycle node l mask sent (subst IsLayout (sym same) is_layout) (subst (λ x. l ≤ x.window) (sym same) small) (subst (λ x. mask < 2 ^ x.slots) (sym same) few)
       (triggers ∙ ap (λ c. triggers_with layout.slots c l mask) (sym next) ∙ ap (λ x. triggers_with x.slots node.next l mask) (sym same)) in
-      let its : (fold after_hearing node sent).layout ≡ layout = layout_kept_all node sent ∙ same in
-      record {
-        opened = record { cycle = node.next; width = l; mask = mask; heard = 0 };
-        is_open = own;
-        begun = subst (λ x. sync_start x node.next l ≤ window) (sym its) (subst (λ c. sync_start layout c l ≤ window) (sym next) begun);
-        ends = subst (λ x. end ≡ (node.next + 1) * x.cycle) (sym its) (subst (λ c. end ≡ (c + 1) * layout.cycle) (sym next) ends);
-      }
+      grind (arith, layout_kept_all)
 
   pub in_window-behind : (start window end : ℕ) (nodes : List NodeState) (frames : List TimedFrame) → start + trigger_part layout ≤ window → sync_start layout cycle l ≤ window
       → end ≡ (cycle + 1) * layout.cycle → CanBeHeard layout (triggers_with layout.slots cycle l mask) nodes → All (λ node. node.next ≡ cycle) nodes
@@ -88,20 +79,10 @@ module _ (layout : CycleLayout) (cycle l mask : ℕ) (is_layout : IsLayout layou
       (λ k d within. opened-by window end (get_or nodes k d) sent begun ends triggers (can.layouts k d within) (next k d within)))
       follows
 
--- and so they are from any later time on
-pub in_window-later : (window from end : ℕ) (nodes : List NodeState) → window ≤ from → All (IsInWindow window end) nodes → All (IsInWindow from end) nodes
-in_window-later window from end nodes later all =
-    All-weaker (IsInWindow window end) (IsInWindow from end)
-    (λ node is. record { opened = is.opened; is_open = is.is_open; begun = omega (arith, later, is.begun); ends = is.ends }) nodes all
-
 -- a run by what is said of it
 Ran-same : (before also after : Stationed) (from low until high : ℕ) (old new : List TimedFrame) (free : ℕ) → before ≡ also → from ≡ low → until ≡ high
     → old ≡ [] → Ran cycle_line before after from until old new free → Ran cycle_line also after low high [] new free
-Ran-same before also after from low until high old new free a b c d ran =
-    subst (λ x. Ran cycle_line also after low high x new free) d
-    (subst (λ x. Ran cycle_line also after low x old new free) c
-    (subst (λ x. Ran cycle_line also after x until old new free) b
-    (subst (λ x. Ran cycle_line x after from until old new free) a ran)))
+Ran-same before also after from low until high old new free a b c d ran = grind arith
 
 -- what is known of the nodes and the frames when the bus has run up to the synchronous window
 pub before-window : (layout : CycleLayout) (cycle l mask : ℕ) → IsLayout layout → cycle < 2 ^ 42 → l ≤ layout.window → mask < 2 ^ layout.slots
@@ -123,18 +104,4 @@ before-window layout cycle l mask is_layout early small few nodes are next befor
     let can = can-be-heard layout cycle l mask nodes early are.are are.layouts next in
     let behind = in_window-behind layout cycle l mask is_layout early small few start window end nodes front room
     (omega arith) (omega arith) can next ran.follows in
-    let told_of : after ≡ told cycle_line waiting front = ran.told_of in
-    let heard : after.nodes ≡ heard_by front nodes = ap (λ s. s.nodes) told_of ∙ told-heard front waiting in
-    let sooner : max window (free_after start front) ≡ max until free = ap (max window) (sym ran.free_is) ∙ ap (λ n. max n free) (sym c) in
-    let shown : window ≤ max until free = omega (arith, c) in
-    let sum = few-frames waiting [] start window front ran.follows in
-    record {
-      in_window = in_window-later window (max until free) end after.nodes shown (subst (All (IsInWindow window end)) (sym heard) behind.0);
-      few = subst (λ fs. start + 47 * length fs ≤ max until free) (sym ran.appended) (omega (arith, sum, ran.free_is));
-      heard = heard ∙ ap (λ fs. heard_by fs nodes) (sym ran.appended);
-      whole = λ later follows.
-          subst (λ fs. Follows (offers_of cycle_line waiting) [] start end (fs ++ later)) (sym ran.appended)
-          (Follows-parts layout waiting start window end front later (omega arith) refl behind.1 ran.follows
-          (subst (λ n. Follows (offers_of cycle_line (nodes_alone layout (told cycle_line waiting front).nodes)) [] n end later) (sym sooner)
-          (subst (λ s. Follows (offers_of cycle_line (nodes_alone layout s.nodes)) [] (max until free) end later) told_of follows)));
-    }
+    grind (arith, told-heard, few-frames, Follows-parts)

@@ -1,19 +1,20 @@
 -- What a cycle sends: frames of requests that end before its synchronous window, and in that window each pending slot,
 -- one after the other without a gap.
-use Rattle.std.proofs.Common.{◌≡◌, ℕ, zero, suc, ◌+◌, ◌*◌, ◌<◌, ◌≤◌, ◌⊎◌, ◌&&◌, not, eqb, true, false, Option, Some, None, List, [], ◌∷◌, ◌++◌, length, map, append-nil, refl, ap, sym, ◌∙◌, arith, subst, inl, inr}
+use Rattle.std.proofs.Common.{◌≡◌, ℕ, zero, suc, ◌+◌, ◌*◌, ◌<◌, ◌≤◌, ◌⊎◌, eqb, true, false, Option, Some, List, [], ◌∷◌, ◌++◌, length, map, append-nil, refl, ap, sym, ◌∙◌, arith, subst, inl, inr}
+use Rattle.std.proofs.lemmas.Grind.{common_steps}
 use Rattle.std.specs.Prelude.{option_map}
 use Rattle.std.specs.Option.{option_map_or}
 use Rattle.std.specs.List.{All, AllByRecursion}
 use Rattle.std.proofs.Math.Bool.{and-true}
-use Rattle.std.proofs.lemmas.Bool.{cases_eq, cases_lt, both_ways, and_from, and_parts, not-true, not_from_false, eq-eqb, ne_eqb, cond-true, cond-false}
+use Rattle.std.proofs.lemmas.Bool.{cases_eq, cases_lt, both_ways, and_from, and_parts, not-true, not_from_false, ne_eqb, cond-false}
 use Rattle.std.proofs.lemmas.List.{length-map}
-use Rattle.std.proofs.lemmas.List.Elements.{All-append, All-cons, All-from_recursion, All-head, All-tail}
+use Rattle.std.proofs.lemmas.List.Elements.{All-cons, All-from_recursion, All-head, All-tail}
 use Rattle.std.proofs.lemmas.Option.{none-some, same_Some}
 use Rattle.profile.specs.Limits.{first_identifier}
 use Rattle.can_frame.specs.DataFrame.{DataFrame}
 use Rattle.can_frame.specs.declared.data_frame.TimedFrame.{TimedFrame}
 use Rattle.can_frame.specs.Wire.{wire_length}
-use Rattle.can_frame.proofs.Shared.{wire-most, wire-positive}
+use Rattle.can_frame.proofs.Shared.{wire-most}
 use Rattle.trigger_kind.specs.Kind.{greatest_trigger}
 use Rattle.cycle_layout.specs.Layout.{CycleLayout, async_open, trigger_part}
 use Rattle.bit_sets.specs.Sets.{has_bit, most_slots}
@@ -25,7 +26,6 @@ use Rattle.bus_line.specs.Trace.{end_of, Follows, IsNext, free_after}
 use Rattle.requirement_table.specs.Opening.{Opening, width_of}
 use Rattle.node_model.specs.Opening.{start_of, end_of_cycle, window_start}
 use Rattle.node_model.specs.Offered.{OffersRequest, OffersSlot, bytes_sent, trigger_frames}
-use Rattle.node_model.specs.Own.{was_sent}
 use Rattle.cycle_engine.specs.Cycle.{AreAtOnce, IsRequestFrame, IsSentOnce, IsSlotFrame, RunsCycle, of_slot}
 use Rattle.cycle_engine.specs.Offered.{AreAsynchronous, SendsWhole, offered_in}
 use Rattle.cycle_engine.proofs.Lists.{All-from_map}
@@ -63,11 +63,6 @@ pending_width-sent layout opening past sent slot known pending same late =
     (is_pending-sent layout opening past sent slot same late)
     (λ x _ ne. is_pending-other layout opening past sent x (λ same_x. ne (omega arith)))
 
--- the frames of a slot, with one more in front
-of_slot-same : (slot : ℕ) (sent : TimedFrame) (later : List TimedFrame) → sent.frame.identifier ≡ first_identifier + slot
-    → of_slot slot (sent ∷ later) ≡ sent ∷ of_slot slot later
-of_slot-same slot sent later same = cond-true (eqb sent.frame.identifier (first_identifier + slot)) _ _ (eq-eqb _ _ same)
-
 of_slot-other : (slot : ℕ) (sent : TimedFrame) (later : List TimedFrame) → (sent.frame.identifier ≡ first_identifier + slot → ⊥)
     → of_slot slot (sent ∷ later) ≡ of_slot slot later
 of_slot-other slot sent later other = cond-false (eqb sent.frame.identifier (first_identifier + slot)) _ _ (ne_eqb _ _ other)
@@ -91,27 +86,18 @@ request_frame : (layout : CycleLayout) (requests : List Request) (opening : Open
 request_frame layout requests opening past at frame asynchronous offer =
     let request : Request = offer.request in
     let least = is_asynchronous requests past frame.identifier request asynchronous offer.may_start.waiting.first in
-    let in_time = wire-most request.frame in
-    let whole = offer.may_start.allowed.whole in
-    subst (λ f. RequestTimes layout opening at f) (sym offer.its_frame)
-    (record { identifier = least; after = offer.may_start.allowed.opened; before = omega arith })
+    grind (arith, wire-most)
 
 -- an asynchronous frame leaves the pending slots as they are
 pending_width-other : (layout : CycleLayout) (opening : Opening) (past : List TimedFrame) (sent : TimedFrame) → 0x200 ≤ sent.frame.identifier
     → pending_width layout opening (past ++ sent ∷ []) ≡ pending_width layout opening past
-pending_width-other layout opening past sent least =
-    sum_where-same most_slots (is_pending layout opening (past ++ sent ∷ [])) (is_pending layout opening past) (worst_in opening.placed opening.cycle)
-    (λ x known. is_pending-other layout opening past sent x (λ same. let all : most_slots ≡ 96 = refl in omega arith))
+pending_width-other layout opening past sent least = grind (arith, sum_where-same, is_pending, is_pending-other)
 
 -- behind trigger frames that are sent first, a slot is pending where it is flagged
 is_pending-at_start : (layout : CycleLayout) (opening : Opening) (past sent : List TimedFrame) (slot : ℕ)
     → All (λ x. x.start < start_of layout opening) past → All (λ x. x.frame.identifier ≤ greatest_trigger) sent
     → is_pending layout opening (past ++ sent) slot ≡ has_bit opening.mask slot
-is_pending-at_start layout opening past sent slot before low =
-    let unsent : was_sent layout opening (past ++ sent) slot ≡ false = was_sent-from_unsent layout opening (past ++ sent) slot
-    (All-append (λ x. x.frame.identifier ≡ first_identifier + slot → x.start < start_of layout opening) past sent
-    (λ k d within _. before k d within) (λ k d within same. absurd (omega (arith, same, low k d within)))) in
-    ap (λ b. has_bit opening.mask slot && not b) unsent ∙ and-true _
+is_pending-at_start layout opening past sent slot before low = grind (arith, common_steps, was_sent-from_unsent, and-true)
 
 -- when the trigger frames end, one at once behind the other
 ends-by : (free : ℕ) (sent : List TimedFrame) → AtOnce free sent → All (λ x. wire_length x.frame ≤ 135) sent → free_after free sent ≤ free + length sent * 135
@@ -192,21 +178,15 @@ module _ (sends : Instance → List ℕ) (whole : SendsWhole sends) where
   -- an offered slot is pending
   pending-offered : (layout : CycleLayout) (opening : Opening) (past : List TimedFrame) (at slot : ℕ) (frame : DataFrame)
       → OffersSlot sends layout opening past at frame slot → is_pending layout opening past slot ≡ true
-  pending-offered layout opening past at slot frame o =
-      and_from _ _ o.flagged (not_from_false _ (was_sent-from_unsent layout opening past slot o.unsent))
+  pending-offered layout opening past at slot frame o = grind (arith, and_from, not_from_false, was_sent-from_unsent)
 
   -- what a slot costs, by the bytes that it sends
   cost-of : (o : Option Instance) (bytes : List ℕ) → option_map sends o ≡ Some bytes → option_map_or worst_of o 0 ≡ worst (length bytes)
-  cost-of None bytes is = absurd (none-some bytes is)
-  cost-of (Some i) bytes is =
-      ap worst (sym (whole i)) ∙ ap (λ b. worst (length b)) (same_Some (sends i) bytes is)
+  cost-of o bytes is = grind (arith, none-some, same_Some)
 
   -- the frame of a slot takes no more than the slot costs
   slot-in_time : (opening : Opening) (slot : ℕ) (frame : DataFrame) → bytes_sent sends opening slot ≡ Some frame.bytes → wire_length frame ≤ worst_in opening.placed opening.cycle slot
-  slot-in_time opening slot frame bytes =
-      let cost = cost-of (instance_in opening.placed slot opening.cycle) frame.bytes bytes in
-      let in_time = wire-most frame in
-      omega arith
+  slot-in_time opening slot frame bytes = grind (arith, cost-of, wire-most)
 
   -- the next frame of the window starts as soon as the bus is free and the window has begun
   starts_now : (layout : CycleLayout) (requests : List Request) (opening : Opening) (past : List TimedFrame) (free now : ℕ) (sent : TimedFrame) (slot : ℕ)
@@ -214,17 +194,7 @@ module _ (sends : Instance → List ℕ) (whole : SendsWhole sends) where
       → IsNext (offered_in sends layout requests opening) past free (end_of_cycle layout opening) sent
       → OffersSlot sends layout opening past sent.start sent.frame slot → sent.start ≡ now
   starts_now layout requests opening past free now sent slot fit is_free in_window which next offer =
-      let no_later : sent.start ≤ now = elim (cases_lt now sent.start) [
-        | inl gap ↦
-            let pending = pending-offered layout opening past sent.start slot sent.frame offer in
-            let within = next.within in
-            let earlier = offers_pending layout opening past slot now fit offer.known pending in_window (omega arith) in
-            absurd (next.first now earlier.0 is_free gap (inr (inr (slot, earlier.1))))
-        | inr no_gap ↦ no_gap
-      ] in
-      let when_free = next.when_free in
-      let late_enough = offer.late_enough in
-      elim which [ inl e ↦ omega arith | inr e ↦ omega arith ]
+      grind (arith, cases_lt, pending-offered, offers_pending)
 
   -- the frame that starts now, and those after it
   joined : (layout : CycleLayout) (opening : Opening) (past : List TimedFrame) (sent : TimedFrame) (slot : ℕ) (later : List TimedFrame)
@@ -238,8 +208,7 @@ module _ (sends : Instance → List ℕ) (whole : SendsWhole sends) where
             elim (cases_eq x slot) [
               | inl e ↦ record {
                 sent = sent;
-                once = of_slot-same x sent later (offer.identifier ∙ ap (λ k. first_identifier + k) (sym e))
-                    ∙ ap (λ l. sent ∷ l) (subst (λ k. of_slot k later ≡ []) (sym e) (rest.none slot offer.known sent_now));
+                once = grind (arith, common_steps);
                 after = offer.late_enough;
                 within = offer.within;
                 before = ends;
@@ -258,45 +227,14 @@ module _ (sends : Instance → List ℕ) (whole : SendsWhole sends) where
                     carries = found.carries;
                   }
             ];
-        none = λ x known not_pending.
-            let other : sent.frame.identifier ≡ first_identifier + x → ⊥ =
-            λ same. let is : x ≡ slot = (let id = offer.identifier in omega arith) in both_ways _ not_pending (subst (λ k. is_pending layout opening past k ≡ true) (sym is) pending) in
-            of_slot-other x sent later other ∙ rest.none x known (is_pending-other layout opening past sent x other ∙ not_pending);
-        all = (
-          inr (record {
-            slot = slot;
-            known = offer.known;
-            flagged = offer.flagged;
-            identifier = offer.identifier;
-            after = offer.late_enough;
-            before = ends;
-          }),
-          rest.all,
-        );
+        none = grind (arith, common_steps, both_ways, is_pending, of_slot-other, is_pending-other);
+        all = (grind arith);
       }
 
   -- an asynchronous frame, and those after it
   joined-asynchronous : (layout : CycleLayout) (opening : Opening) (past : List TimedFrame) (sent : TimedFrame) (later : List TimedFrame)
       → IsRequestFrame layout opening sent → SendsPending layout opening (past ++ sent ∷ []) later → SendsPending layout opening past (sent ∷ later)
-  joined-asynchronous layout opening past sent later frame rest =
-      let other : (x : ℕ) → x < most_slots → sent.frame.identifier ≡ first_identifier + x → ⊥ =
-      λ x known same. let least = frame.identifier in let all : most_slots ≡ 96 = refl in omega arith in
-      let same : (x : ℕ) → x < most_slots → is_pending layout opening (past ++ sent ∷ []) x ≡ is_pending layout opening past x =
-      λ x known. is_pending-other layout opening past sent x (other x known) in
-      record {
-        each = λ x known is_pending_x.
-            let found = rest.each x known (same x known ∙ is_pending_x) in
-            record {
-              sent = found.sent;
-              once = of_slot-other x sent later (other x known) ∙ found.once;
-              after = found.after;
-              within = found.within;
-              before = found.before;
-              carries = found.carries;
-            };
-        none = λ x known not_pending. of_slot-other x sent later (other x known) ∙ rest.none x known (same x known ∙ not_pending);
-        all = (inl frame, rest.all);
-      }
+  joined-asynchronous layout opening past sent later frame rest = grind (arith, is_pending, is_pending-other, of_slot-other)
 
   -- the frames behind the trigger frames: from the time `now` on, at which the bus is free and the synchronous window has begun,
   -- the pending slots have room until the cycle's end, and so each is sent by then
@@ -315,8 +253,6 @@ module _ (sends : Instance → List ℕ) (whole : SendsWhole sends) where
     all = tt;
   }
   sends_pending layout requests opening past free now (sent ∷ later) fit asynchronous no_trigger begun is_free in_window which room follows =
-      let whole = follows.0.whole in
-      let some_time = wire-positive sent.frame in
       let later_start = follows.0.when_free in
       elim follows.0.least.offered as (λ _. SendsPending layout opening past (sent ∷ later)) [
         | inl trigger ↦ absurd (no_trigger sent.start sent.frame trigger)

@@ -27,10 +27,7 @@ module _ {X : Type 0} (number : X → ℕ) (xs : List X) (n : ℕ) (in_order : m
   number-below k d within = let is = number-at k d within in let all = length-numbered in omega arith
 
   pub numbers-differ : AllPairs (λ one other. number one ≢ number other) xs
-  numbers-differ i j d before within same =
-      let one = number-at i d (omega arith) in
-      let other = number-at j d within in
-      omega arith
+  numbers-differ = grind (arith, number-at)
 
   -- one of them has the number
   pub of-number : (k : ℕ) → k < n → (x : X) × Contains xs x × (number x ≡ k)

@@ -1,14 +1,14 @@
 -- What is planned of a list that never misses a deadline, from cycle 0 on.
-use Rattle.std.proofs.Common.{◌≡◌, ℕ, ◌+◌, ◌-◌, ◌<◌, ◌≤◌, Bool, true, List, Contains, IsSome, sym, ap, ◌∙◌, subst, arith, zero-add}
+use Rattle.std.proofs.Common.{◌≡◌, ℕ, ◌+◌, ◌<◌, ◌≤◌, Bool, true, List, Contains, IsSome, sym, ap, ◌∙◌, subst, arith, zero-add}
 use Rattle.std.proofs.lemmas.Bool.{false≢true}
 use Rattle.requirement_table.specs.declared.entries.Placed.{Placed}
 use Rattle.requirement_table.specs.Flags.{IsFlaggedOnce}
 use Rattle.requirement_table.specs.Instance.{Exists, IsLastCycle, release_of}
 use Rattle.bit_sets.specs.Sets.{has_bit, set_of, most_slots}
-use Rattle.requirement_table.specs.Table.{IsWellPlaced, instance_in, width_in, worst_in}
+use Rattle.requirement_table.specs.Table.{IsWellPlaced, instance_in, width_in}
 use Rattle.requirement_table.proofs.Shared.{flagged_once-holds}
 use Rattle.bit_sets.proofs.Shared.{has_bit-none, sum_where-same, set_of-has, set_of-passes}
-use Rattle.planner_policies.specs.Plan.{IsValid, NeverMisses, Planning, flags_of, mask_at, pending_at, planned_at, planned_in}
+use Rattle.planner_policies.specs.Plan.{IsValid, NeverMisses, Planning, flags_of, mask_at, pending_at, planned_in}
 use Rattle.planner_policies.proofs.Shared.{good-cycle, planned-fits, planned-sendable, state-planned, valid-along}
 use Rattle.admission_rules.specs.declared.Rules.{Rules}
 use Rattle.master_core.specs.History.{plan_of}
@@ -23,9 +23,7 @@ module _ (rules : Rules) (placed : List Placed) (well : IsWellPlaced placed) (in
 
   -- a slot of the mask of a cycle is planned in it
   pub mask-planned : (c slot : ℕ) → slot < most_slots → has_bit (mask_at plan c) slot ≡ flags_of plan c slot
-  mask-planned c slot known =
-      let same : c ≡ c - 0 = omega arith in
-      set_of-has most_slots (planned_at plan c) slot known ∙ ap (λ n. planned_at plan n slot) same
+  mask-planned c slot known = grind (arith, set_of-has)
 
   -- each instance whose last cycle is below `n` is flagged once
   pub planned_once : (n : ℕ) (p : Placed) (k last : ℕ) → Contains placed p → Exists p (release_of p k) → IsLastCycle p k last → last < n
@@ -47,8 +45,6 @@ module _ (rules : Rules) (placed : List Placed) (well : IsWellPlaced placed) (in
       let before : ℕ → Bool = has_bit (pending_at plan c) in
       let start : 0 + c ≡ c = zero-add c in
       let mask : mask_at plan c ≡ set_of most_slots (planned_in plan c before) = sym (state-planned plan c) ∙ ap (λ n. set_of most_slots (planned_in plan n before)) start in
-      let same : width_in placed c (has_bit (mask_at plan c)) ≡ width_in placed c (planned_in plan c before) =
-      ap (λ m. width_in placed c (has_bit m)) mask
-      ∙ sum_where-same most_slots (has_bit (set_of most_slots (planned_in plan c before))) (planned_in plan c before) (worst_in placed c) (λ slot known. set_of-has most_slots (planned_in plan c before) slot known) in
+      let same : width_in placed c (has_bit (mask_at plan c)) ≡ width_in placed c (planned_in plan c before) = grind (arith, sum_where-same, set_of-has) in
       let fits = planned-fits plan c before in
       subst (λ w. w ≤ rules.window) (sym same) fits

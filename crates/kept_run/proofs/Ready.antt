@@ -1,14 +1,13 @@
 -- The nodes of a run: what they know once they have learnt the list of an order and heard a cycle.
 use Rattle.std.proofs.Common.{◌≡◌, ℕ, ◌+◌, ◌*◌, ◌^◌, ◌<◌, ◌≤◌, Bool, length, true, false, cond, List, [], ◌∷◌, ◌++◌, map, All, Contains, Option, Some, None, refl, ap, sym, ◌∙◌, subst, arith}
-use Rattle.std.specs.Prelude.{IfSome, is_some}
+use Rattle.std.specs.Prelude.{IfSome}
 use Rattle.std.proofs.lemmas.List.Elements.{All-contains, All-map, All-weaker}
 use Rattle.can_frame.specs.declared.data_frame.TimedFrame.{TimedFrame}
 use Rattle.cycle_layout.specs.Layout.{CycleLayout}
 use Rattle.requirement_table.specs.declared.entries.Order.{Order}
 use Rattle.requirement_table.specs.declared.entries.Placed.{Placed}
 use Rattle.requirement_table.specs.Instance.{Instance, MaySend, bytes_of}
-use Rattle.bit_sets.specs.Sets.{has_bit}
-use Rattle.requirement_table.specs.Table.{IsWellPlaced, instance_in, width_in}
+use Rattle.requirement_table.specs.Table.{IsWellPlaced, instance_in}
 use Rattle.requirement_table.proofs.Shared.{instance_in-sound}
 use Rattle.planner_policies.specs.Plan.{mask_at}
 use Rattle.admission_rules.specs.declared.Rules.{Rules}
@@ -19,7 +18,7 @@ use Rattle.master_core.specs.Orders.{IsOrder, IsOrderFor, IsOrderWith, StandsFor
 use Rattle.master_core.proofs.Shared.{sound-of_legal}
 use Rattle.async_window.specs.declared.request.Owner.{Owner}
 use Rattle.async_window.specs.declared.request.Request.{Request}
-use Rattle.node_model.specs.Node.{NodeState, NodeView, entries_of, learnt}
+use Rattle.node_model.specs.Node.{NodeState, NodeView, learnt}
 use Rattle.node_model.specs.Own.{StandsOnBus}
 use Rattle.node_model.proofs.Shared.{instance-of_own}
 use Rattle.cycle_engine.specs.Cycle.{FitsWindow}
@@ -41,8 +40,7 @@ numbers-learnt placed [] = refl
 numbers-learnt placed (node ∷ nodes) = ap (λ l. node.number ∷ l) (numbers-learnt placed nodes)
 
 numbers-learnt_by : (learned : Option (List Placed)) (nodes : List NodeState) → numbers_of (learnt_by learned nodes) ≡ numbers_of nodes
-numbers-learnt_by None nodes = refl
-numbers-learnt_by (Some placed) nodes = numbers-learnt placed nodes
+numbers-learnt_by learned nodes = grind (arith, numbers-learnt)
 
 numbers-heard : (frames : List TimedFrame) (nodes : List NodeState) → numbers_of (heard_by frames nodes) ≡ numbers_of nodes
 numbers-heard frames [] = refl
@@ -51,22 +49,8 @@ numbers-heard frames (node ∷ nodes) =
 
 -- Nodes that learn a list
 
-stands-learnt : (layout : CycleLayout) (owners : List Owner) (requests : List Request) (known placed : List Placed) (past : List TimedFrame) (next : ℕ) (node : NodeState)
-    → StandsOnBus layout owners requests known past next node → StandsOnBus layout owners requests placed past next (learnt placed node)
-stands-learnt layout owners requests known placed past next node stands = record {
-  same_layout = stands.same_layout;
-  own_entries = refl;
-  own_mail = stands.own_mail;
-  next_cycle = stands.next_cycle;
-}
-
 owned-same : (owners : List Owner) (before after : List NodeState) (request : Request) → numbers_of after ≡ numbers_of before → IsOwned owners before request → IsOwned owners after request
-owned-same owners before after request same owned = record {
-  owner = owned.owner;
-  owns = owned.owns;
-  identifier = owned.identifier;
-  node = subst (λ l. Contains l owned.owner.node) (sym same) owned.node;
-}
+owned-same owners before after request same owned = grind arith
 
 -- the list that nodes know once they have learnt another one, where it changed
 abbrev known_then : Bool → List Placed → List Placed → List Placed
@@ -82,8 +66,7 @@ bus-learnt layout owners requests known list past next nodes true well bus =
       well_placed = well;
       are_owners = bus.are_owners;
       stand = All-map (StandsOnBus layout owners requests list past next) (learnt list) nodes
-          (All-weaker (StandsOnBus layout owners requests known past next) (λ node. StandsOnBus layout owners requests list past next (learnt list node))
-          (λ node stands. stands-learnt layout owners requests known list past next node stands) nodes bus.stand);
+          (grind arith);
       owned = All-weaker (IsOwned owners nodes) (IsOwned owners (map (learnt list) nodes))
           (λ request owned. owned-same owners nodes (map (learnt list) nodes) request same owned) requests bus.owned;
     }
@@ -92,42 +75,20 @@ bus-learnt layout owners requests known list past next nodes false well bus = bu
 -- and it stands for the placed entries
 stands-known : (next : ℕ) (whole list known : List Placed) (changed : Bool) → StandsFor next whole list → (changed ≡ false → StandsFor next whole known)
     → StandsFor next whole (known_then changed list known)
-stands-known next whole list known true stands up_to_date = stands
-stands-known next whole list known false stands up_to_date = up_to_date refl
-
-well-learned : (placed : List Placed) (changed : Bool) → IsWellPlaced placed → IfSome (cond changed (Some placed) None) IsWellPlaced
-well-learned placed true well = well
-well-learned placed false well = tt
+stands-known next whole list known changed stands up_to_date = grind arith
 
 -- The first cycle
 
 pub ready-at_first : (setting : Setting) (nodes : NodesView) → nodes.layout ≡ setting.layout → setting.sends ≡ bytes_of
     → IsBus setting.layout setting.owners setting.requests [] [] 0 (states_of nodes.nodes)
     → ((number : ℕ) → number < setting.rules.nodes → IsNumber (states_of nodes.nodes) number) → AreNodesReady setting [] [] nodes
-ready-at_first setting nodes same bytes bus numbers = record {
-  same_layout = same;
-  same_bytes = bytes;
-  numbers = numbers;
-  known = [];
-  bus = bus;
-  up_to_date = λ _. record { well_placed = bus.well_placed; instances = λ slot at late. refl };
-}
+ready-at_first setting nodes same bytes bus numbers = grind arith
 
 -- A call that opens no cycle
 
 pub ready-answered : (setting : Setting) (trace : List TimedFrame) (nodes : NodesView) (history : List Event) (event : Event) → is_open event ≡ false
     → AreNodesReady setting history trace nodes → AreNodesReady setting (history ++ event ∷ []) trace nodes
-ready-answered setting trace nodes history event closed ready = record {
-  same_layout = ready.same_layout;
-  same_bytes = ready.same_bytes;
-  numbers = ready.numbers;
-  known = ready.known;
-  bus = subst (λ n. IsBus setting.layout setting.owners setting.requests ready.known trace n (states_of nodes.nodes)) (sym (next_of-closed history event closed)) ready.bus;
-  up_to_date = λ not_changed.
-      let unchanged = unchanged-closed history event closed not_changed in
-      subst (λ n. StandsFor n (placed_of (history ++ event ∷ [])) ready.known) (sym (next_of-closed history event closed))
-      (subst (λ l. StandsFor (next_of history) l ready.known) unchanged.same (ready.up_to_date unchanged.was));
-}
+ready-answered setting trace nodes history event closed ready = grind (arith, next_of-closed, unchanged-closed)
 
 -- An order
 
@@ -136,12 +97,7 @@ known-instance : (layout : CycleLayout) (owners : List Owner) (requests : List R
     → IsBus layout owners requests placed past next nodes → (i : Instance) → instance_in placed slot next ≡ Some i → IsNumber nodes i.placed.entry.node → IsSlotKnown nodes next slot
 known-instance layout owners requests placed past next slot nodes bus i found is_node =
     let its = Contains-from_map (λ (node : NodeState). node.number) nodes i.placed.entry.node is_node in
-    let node : NodeState = its.0 in
-    let stands = All-contains (StandsOnBus layout owners requests placed past next) nodes node bus.stand its.1 in
-    let own : instance_in (entries_of node.number placed) slot next ≡ Some i =
-    instance-of_own node.number placed slot next i bus.well_placed found (sym its.2) in
-    let known : instance_in node.entries slot next ≡ Some i = ap (λ entries. instance_in entries slot next) stands.own_entries ∙ own in
-    (its.1.0, node, its.1.1, its.1.2, ap is_some known)
+    grind (arith, instance-of_own)
 
 -- the entry of an instance stands in the list
 few-nodes : (count : ℕ) (placed : List Placed) (slot next : ℕ) (i : Instance) → All (λ p. p.entry.node < count) placed
@@ -156,42 +112,25 @@ order-right rules history order its = (its.is.cycle, its.is.mask ∙ ap (λ n. m
 
 -- what the nodes are to learn is well placed
 pub order-learned : (rules : Rules) (history : List Event) (order : Order) → IsOrderFor rules history order → IfSome order.learned IsWellPlaced
-order-learned rules history order its =
-    subst (λ o. IfSome o IsWellPlaced) (sym its.is.learned) (well-learned its.list (is_changed history) its.stands.well_placed)
+order-learned rules history order its = grind arith
 
 -- nodes with room for its list can learn it without memory
 can-learn : (placed : List Placed) (changed : Bool) (nodes : List NodeView) → HaveSpare (length placed) nodes
     → CanLearn (cond changed (Some placed) None) nodes
-can-learn placed true nodes have = have
-can-learn placed false nodes have = tt
+can-learn placed changed nodes have = grind arith
 
 pub order-spare : (rules : Rules) (history : List Event) (nodes : NodesView) (list : List Placed) (order : Order) → HaveSpare (length list) nodes.nodes
     → IsOrderWith rules history list order → CanLearn order.learned nodes.nodes
-order-spare rules history nodes list order have is =
-    subst (λ o. CanLearn o nodes.nodes) (sym is.learned) (can-learn list (is_changed history) nodes.nodes have)
+order-spare rules history nodes list order have is = grind (arith, can-learn)
 
 -- where they learn all placed entries, these stand for themselves
 pub order-whole : (rules : Rules) (history : List Event) (order : Order) → IsLegal rules history → IsOrder rules history order → IsOrderFor rules history order
-order-whole rules history order legal is = record {
-  list = placed_of history;
-  stands = record { well_placed = (sound-of_legal rules history legal).well_placed; instances = λ slot at late. refl };
-  is = is;
-}
+order-whole rules history order legal is = grind (arith, sound-of_legal)
 
 -- its flagged slots have instances to send, and fit the largest window together
 pub order-fits : (setting : Setting) (history : List Event) (order : Order) → IsSetting setting → IsOrderFor setting.rules history order
     → FitsWindow setting.layout (opening_of order (placed_of history))
-order-fits setting history order known its =
-    let is = its.is in
-    let placed : List Placed = placed_of history in
-    let width : order.l ≡ width_in placed order.cycle (has_bit order.mask) =
-    is.window ∙ ap (λ n. width_in placed n (has_bit order.mask)) (sym is.cycle) in
-    record {
-      present = λ slot within flagged.
-          let found = is.present slot within flagged in
-          ap is_some (ap (λ n. instance_in placed slot n) is.cycle ∙ found.1);
-      width = subst (λ w. w ≤ setting.layout.window) width (subst (λ w. order.l ≤ w) known.same_window is.fits);
-    }
+order-fits setting history order known its = grind arith
 
 module _ (setting : Setting) (history : List Event) (trace : List TimedFrame) (nodes : NodesView) (order : Order) where
   abbrev after : List NodeState
@@ -199,9 +138,7 @@ module _ (setting : Setting) (history : List Event) (trace : List TimedFrame) (n
 
   -- the nodes are before the cycle of the order
   pub order-next : AreNodesReady setting history trace nodes → IsOrderFor setting.rules history order → All (λ node. node.next ≡ order.cycle) (states_of nodes.nodes)
-  order-next ready its =
-      All-weaker (StandsOnBus setting.layout setting.owners setting.requests ready.known trace (next_of history)) (λ node. node.next ≡ order.cycle)
-      (λ node stands. stands.next_cycle ∙ sym its.is.cycle) (states_of nodes.nodes) ready.bus.stand
+  order-next ready its = grind arith
 
   -- the window is not above the largest one
   pub order-window : IsSetting setting → AreNodesReady setting history trace nodes → IsOrderFor setting.rules history order → order.l ≤ nodes.layout.window
@@ -270,10 +207,5 @@ module _ (setting : Setting) (history : List Event) (trace : List TimedFrame) (n
         known = known;
         bus = subst (λ n. IsBus setting.layout setting.owners setting.requests known (trace ++ frames) n (states_of new.nodes)) next
             (subst (λ l. IsBus l setting.owners setting.requests known (trace ++ frames) (order.cycle + 1) (states_of new.nodes)) ready.same_layout bus);
-        up_to_date = λ _. record {
-          well_placed = stands.well_placed;
-          instances = λ slot at late.
-              let now = next_of-push history event in
-              stands.instances slot at (omega (arith, now, late)) ∙ ap (λ l. instance_in l slot at) (sym (placed_of-push history event));
-        };
+        up_to_date = grind (arith, next_of-push, placed_of-push);
       }

@@ -1,5 +1,5 @@
 -- What a run owes is served: each instance whose last cycle was run, and nothing else in its slot.
-use Rattle.std.proofs.Common.{◌≡◌, ℕ, ◌+◌, ◌*◌, ◌<◌, ◌≤◌, ◌⊎◌, ◌&&◌, Bool, true, false, eqb, leb, List, [], ◌∷◌, ◌++◌, get_or, Option, Some, None, All, Contains, IsSome, refl, ap, sym, ◌∙◌, arith, subst, inl, inr}
+use Rattle.std.proofs.Common.{◌≡◌, ℕ, ◌+◌, ◌*◌, ◌<◌, ◌≤◌, ◌⊎◌, ◌&&◌, Bool, true, false, eqb, leb, List, [], ◌∷◌, ◌++◌, get_or, Option, Some, All, Contains, IsSome, refl, ap, sym, ◌∙◌, arith, subst, inl, inr}
 use Rattle.std.specs.Prelude.{option_map, IfSome}
 use Rattle.std.proofs.lemmas.Bool.{cases_eq, eq-eqb, ne_eqb, le-leb, leb-true, and_from, and_left, and_right, and_parts, false_from_ne_true}
 use Rattle.std.proofs.lemmas.List.Elements.{All-contains, Contains-append_cases, Contains-get_or, filter-append}
@@ -14,7 +14,6 @@ use Rattle.requirement_table.specs.Opening.{Opening, width_of}
 use Rattle.bit_sets.specs.Sets.{has_bit, most_slots}
 use Rattle.requirement_table.specs.Table.{IsInRange, instance_in}
 use Rattle.requirement_table.proofs.Shared.{instance_in-found, instance_in-sound}
-use Rattle.change_protocol.specs.Applied.{without_end}
 use Rattle.planner_policies.specs.Plan.{Planning, flags_of, mask_at}
 use Rattle.admission_rules.specs.declared.Rules.{Rules}
 use Rattle.master_core.specs.History.{plan_of}
@@ -75,35 +74,15 @@ module _ {sends : Instance → List ℕ} (layout : CycleLayout) (opening : Openi
   -- the frame that a slot sends in the cycle lies in its window
   in_window : (openings : List Opening) (slot : ℕ) → 0 < layout.cycle → Contains openings opening
       → (sent : IsSentOnce sends layout opening runs.later slot) → IsSentInWindow layout openings sent.sent
-  in_window openings slot some_time opened sent =
-      let early = sent.within in
-      let after = sent.after in
-      let starts = runs.starts in
-      let ends = runs.ends in
-      record {
-        opening = opening;
-        opened = opened;
-        cycle = sym (div-eq_of_lt-le layout.cycle (omega arith) early);
-        after = after;
-        before = sent.before;
-      }
+  in_window openings slot some_time opened sent = grind (arith, div-eq_of_lt-le)
 
 -- Instances with and without ends
-
-bytes-same : (sends : Instance → List ℕ) → ForgetsEnds sends → (one other : Option Instance) → option_map without_end one ≡ option_map without_end other
-    → option_map sends one ≡ option_map sends other
-bytes-same sends forgets one other same = sym (bytes-without one) ∙ ap (option_map sends) same ∙ bytes-without other
-  where
-    bytes-without : (o : Option Instance) → option_map sends (option_map without_end o) ≡ option_map sends o
-    bytes-without None = refl
-    bytes-without (Some i) = ap Some (forgets i)
 
 pub bytes_of-forgets : ForgetsEnds bytes_of
 bytes_of-forgets instance = refl
 
 some-of : {X : Type 0} (o : Option X) → IsSome o → (x : X) × (o ≡ Some x)
-some-of (Some x) is = (x, refl)
-some-of None is = absurd (cc)
+some-of o is = grind arith
 
 -- The run of opened cycles
 
@@ -125,9 +104,7 @@ module _ (sends : Instance → List ℕ) (rules : Rules) (layout : CycleLayout) 
 
   -- the flags of an opened cycle are those of the plan
   flagged-as_planned : (o : Opening) (slot : ℕ) → Contains openings o → slot < most_slots → has_bit o.mask slot ≡ flags_of plan o.cycle slot
-  flagged-as_planned o slot opened known =
-      ap (λ m. has_bit m slot) (All-contains (λ x. x.mask ≡ mask_at plan x.cycle) openings o run.opened.masks opened)
-      ∙ mask-planned rules placed run.opened.well run.opened.in_time o.cycle slot known
+  flagged-as_planned o slot opened known = grind (arith, mask-planned)
 
   -- a frame of the trace is among those of its cycle
   in-its_cycle : (o : Opening) (sent : TimedFrame) → o.cycle ≡ cycle_of layout sent → Contains trace sent → Contains (frames_in layout o.cycle trace) sent
@@ -142,8 +119,6 @@ module _ (sends : Instance → List ℕ) (rules : Rules) (layout : CycleLayout) 
       let release : ℕ = release_of p k in
       let is_slot : TimedFrame → Bool = λ s. eqb s.frame.identifier (first_identifier + slot) in
       let in_cycles : TimedFrame → Bool = λ s. leb release (cycle_of layout s) && leb (cycle_of layout s) last in
-      let after = once.after in
-      let before = once.before in
       let agree : (s : TimedFrame) → Contains trace s → (is_slot s && in_cycles s) ≡ (eqb (cycle_of layout s) o.cycle && is_slot s) = λ s among.
       elim (cases_eq s.frame.identifier (first_identifier + slot)) [
         | inr other ↦ and_left _ _ (ne_eqb _ _ other) ∙ sym (and_right _ _ (ne_eqb _ _ other))
@@ -153,14 +128,9 @@ module _ (sends : Instance → List ℕ) (rules : Rules) (layout : CycleLayout) 
           | inr elsewhere ↦
               and_right (is_slot s) _ (false_from_ne_true _ (λ within.
               let parts = and_parts (leb release (cycle_of layout s)) _ within in
-              let late : release ≤ cycle_of layout s = leb-true _ _ parts.0 in
               let in_time : cycle_of layout s ≤ last = leb-true _ _ parts.1 in
               let other = run.opened.opened (cycle_of layout s) (omega arith) in
-              let unflagged : has_bit other.0.mask slot ≡ false = false_from_ne_true _ (λ flagged.
-              let again : flags_of plan (cycle_of layout s) slot ≡ true =
-              ap (λ c. flags_of plan c slot) (sym other.2) ∙ sym (flagged-as_planned other.0 slot other.1 known) ∙ flagged in
-              let same_cycle = once.alone (cycle_of layout s) late in_time again in
-              elsewhere (same_cycle ∙ sym cycle)) in
+              let unflagged : has_bit other.0.mask slot ≡ false = false_from_ne_true _ (λ flagged. grind (arith, flagged-as_planned)) in
               nothing_sent layout other.0 _ (runs-opening other.0 other.1) slot s known unflagged (in-its_cycle other.0 s other.2 among) same))
               ∙ sym (and_left _ _ (ne_eqb _ _ elsewhere))
         ]
@@ -173,10 +143,7 @@ module _ (sends : Instance → List ℕ) (rules : Rules) (layout : CycleLayout) 
       → option_map sends (instance_in o.placed p.entry.slot o.cycle) ≡ Some (sends (record { placed = p; number = k }))
   bytes-sent forgets p k o opened stands may_send =
       let place = place-of placed p stands in
-      let found = instance_in-found placed run.opened.well place.0 k o.cycle p place.1 may_send in
-      bytes-same sends forgets (instance_in o.placed p.entry.slot o.cycle) (instance_in placed p.entry.slot o.cycle)
-      (All-contains (λ x. (slot : ℕ) → option_map without_end (instance_in x.placed slot x.cycle) ≡ option_map without_end (instance_in placed slot x.cycle)) openings o run.opened.instances opened p.entry.slot)
-      ∙ ap (option_map sends) found
+      grind (arith, instance_in-found)
 
   -- every instance whose last cycle was run is served
   pub all_served : ForgetsEnds sends → AllServed sends layout placed openings next trace
@@ -184,8 +151,6 @@ module _ (sends : Instance → List ℕ) (rules : Rules) (layout : CycleLayout) 
       let known = (All-contains IsInRange placed p run.opened.well.in_range stands).entry.slot in
       let slot : ℕ = p.entry.slot in
       let once = planned_once rules placed run.opened.well run.opened.in_time next p k last stands exists is_last early in
-      let after = once.after in
-      let before = once.before in
       let opened = run.opened.opened once.cycle (omega arith) in
       let o : Opening = opened.0 in
       let cycle : o.cycle ≡ once.cycle = opened.2 in
@@ -230,31 +195,12 @@ module _ (sends : Instance → List ℕ) (rules : Rules) (layout : CycleLayout) 
   all_guarded k d here request =
       let sent : TimedFrame = get_or trace k d in
       let frame = frame-of sent (Contains-get_or trace k d here) in
-      elim frame.is [
-        | inl trigger ↦ absurd (omega arith)
-        | inr later ↦ elim later [
-          | inl asynchronous ↦ record {
-            opening = frame.opening;
-            opened = frame.opened;
-            cycle = frame.cycle;
-            after = asynchronous.after;
-            before = asynchronous.before;
-          }
-          | inr of_slot ↦ absurd (let is = of_slot.identifier in let known = of_slot.known in omega arith)
-        ]
-      ]
+      grind arith
 
   -- a frame with the identifier of a slot is sent where the slot is flagged
   slot-flagged : (o : Opening) (sent : TimedFrame) (slot : ℕ) → slot < most_slots → sent.frame.identifier ≡ first_identifier + slot
       → (sent.frame.identifier ≤ greatest_trigger) ⊎ IsLaterFrame layout o sent → has_bit o.mask slot ≡ true
-  slot-flagged o sent slot known same is =
-      elim is [
-        | inl trigger ↦ absurd (omega arith)
-        | inr later ↦ elim later [
-          | inl frame ↦ absurd (let least = frame.identifier in omega arith)
-          | inr frame ↦ let id = frame.identifier in let slot_is : slot ≡ frame.slot = omega arith in ap (has_bit o.mask) slot_is ∙ frame.flagged
-        ]
-      ]
+  slot-flagged o sent slot known same is = grind arith
 
   -- nothing else is sent in a slot
   pub no_strangers : NoStrangers layout placed trace
@@ -265,12 +211,5 @@ module _ (sends : Instance → List ℕ) (rules : Rules) (layout : CycleLayout) 
       let mask : o.mask ≡ mask_at plan o.cycle = All-contains (λ x. x.mask ≡ mask_at plan x.cycle) openings o run.opened.masks frame.opened in
       let flagged : has_bit (mask_at plan o.cycle) slot ≡ true = ap (λ m. has_bit m slot) (sym mask) ∙ slot-flagged o sent slot known same frame.is in
       let some = some-of (instance_in placed slot o.cycle) (mask-sendable rules placed run.opened.well run.opened.in_time o.cycle slot flagged) in
-      let i : Instance = some.0 in
       let may_send = subst (λ x. IfSome x (λ y. Contains placed y.placed × (y.placed.entry.slot ≡ slot) × MaySend y.placed y.number o.cycle)) some.1 (instance_in-sound placed slot o.cycle) in
-      record {
-        p = i.placed;
-        k = i.number;
-        stands = may_send.0;
-        of_slot = may_send.1;
-        in_time = subst (λ c. MaySend i.placed i.number c) frame.cycle may_send.2;
-      }
+      grind arith

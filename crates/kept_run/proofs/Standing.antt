@@ -1,21 +1,16 @@
 -- In a cycle the same is offered by a list of entries and by one that stands for it.
-use Rattle.std.proofs.Common.{◌≡◌, ℕ, ◌-◌, ◌≤◌, Bool, List, ◌++◌, Contains, inl, inr, sym, ap, ◌∙◌, subst, arith}
-use Rattle.std.specs.Prelude.{option_map}
-use Rattle.std.specs.Option.{option_map_or}
+use Rattle.std.proofs.Common.{◌≡◌, ℕ, Bool, List, ◌++◌, sym, arith}
 use Rattle.can_frame.specs.DataFrame.{DataFrame}
 use Rattle.can_frame.specs.declared.data_frame.TimedFrame.{TimedFrame}
 use Rattle.cycle_layout.specs.Layout.{CycleLayout}
 use Rattle.requirement_table.specs.declared.entries.Placed.{Placed}
-use Rattle.requirement_table.specs.Instance.{Instance, worst_of}
+use Rattle.requirement_table.specs.Instance.{Instance}
 use Rattle.requirement_table.specs.Opening.{Opening, width_of}
-use Rattle.requirement_table.specs.Table.{instance_in, width_in, worst_in}
-use Rattle.bit_sets.specs.Sets.{has_bit, most_slots}
+use Rattle.requirement_table.specs.Table.{instance_in, width_in}
+use Rattle.bit_sets.specs.Sets.{has_bit}
 use Rattle.bit_sets.proofs.Shared.{sum_where-costs}
-use Rattle.trigger_codec.specs.Bytes.{triggers_with}
 use Rattle.async_window.specs.declared.request.Request.{Request}
-use Rattle.async_window.specs.Waiting.{MayStart, unsent_after}
-use Rattle.node_model.specs.Offered.{OffersRequest, OffersSlot, OffersTrigger}
-use Rattle.node_model.specs.Opening.{end_of_cycle}
+use Rattle.node_model.specs.Offered.{OffersSlot}
 use Rattle.bus_line.specs.Trace.{AgreeAlong, Follows}
 use Rattle.bus_line.proofs.Shared.{Follows-along}
 use Rattle.cycle_engine.specs.Offered.{offered_in}
@@ -27,9 +22,7 @@ SameIn cycle one other = (slot : ℕ) → instance_in one slot cycle ≡ instanc
 
 -- their windows have one length
 pub width-same : (cycle : ℕ) (flagged : ℕ → Bool) (one other : List Placed) → SameIn cycle one other → width_in one cycle flagged ≡ width_in other cycle flagged
-width-same cycle flagged one other same =
-    sum_where-costs most_slots flagged (worst_in one cycle) (worst_in other cycle)
-    (λ slot known on. ap (λ i. option_map_or worst_of i 0) (same slot))
+width-same cycle flagged one other same = grind (arith, sum_where-costs)
 
 module _ (sends : Instance → List ℕ) (layout : CycleLayout) (requests : List Request) (cycle mask : ℕ) where
   abbrev opens : List Placed → Opening
@@ -39,37 +32,11 @@ module _ (sends : Instance → List ℕ) (layout : CycleLayout) (requests : List
     width : width_of (opens one) ≡ width_of (opens other)
     width = width-same cycle (has_bit mask) one other same
 
-    by-trigger : OffersTrigger layout (opens one) past at frame → OffersTrigger layout (opens other) past at frame
-    by-trigger offer = record {
-      begun = offer.begun;
-      within = offer.within;
-      among = subst (λ w. Contains (triggers_with layout.slots cycle w mask) frame) width offer.among;
-      unsent = offer.unsent;
-    }
-
-    by-request : OffersRequest layout requests (opens one) past at frame → OffersRequest layout requests (opens other) past at frame
-    by-request offer = record {
-      request = offer.request;
-      may_start = subst (λ w. MayStart layout cycle w (unsent_after requests past frame.identifier) at offer.request) width offer.may_start;
-      its_frame = offer.its_frame;
-    }
-
     by-slot : (slot : ℕ) → OffersSlot sends layout (opens one) past at frame slot → OffersSlot sends layout (opens other) past at frame slot
-    by-slot slot offer = record {
-      begun = offer.begun;
-      late_enough = subst (λ w. end_of_cycle layout (opens one) - w ≤ at) width offer.late_enough;
-      within = offer.within;
-      known = offer.known;
-      flagged = offer.flagged;
-      unsent = offer.unsent;
-      identifier = offer.identifier;
-      bytes = ap (option_map sends) (sym (same slot)) ∙ offer.bytes;
-    }
+    by-slot slot offer = grind (arith, width)
 
     offered-by : offered_in sends layout requests (opens one) past at frame → offered_in sends layout requests (opens other) past at frame
-    offered-by (inl trigger) = inl (by-trigger trigger)
-    offered-by (inr (inl request)) = inr (inl (by-request request))
-    offered-by (inr (inr (slot, sent))) = inr (inr (slot, by-slot slot sent))
+    offered-by h0 = grind (arith, by-slot)
 
   agree : (one other : List Placed) → SameIn cycle one other → (past frames : List TimedFrame) (free until : ℕ)
       → AgreeAlong (offered_in sends layout requests (opens one)) (offered_in sends layout requests (opens other)) past past free until frames
@@ -98,5 +65,4 @@ pub same-offers : (sends : Instance → List ℕ) (layout : CycleLayout) (reques
     (past frames : List TimedFrame) (free until : ℕ) → StandsFor cycle whole list
     → Follows (offered_in sends layout requests (record { cycle = cycle; mask = mask; placed = list })) past free until frames
     → Follows (offered_in sends layout requests (record { cycle = cycle; mask = mask; placed = whole })) past free until frames
-same-offers sends layout requests cycle mask whole list past frames free until stands follows =
-    follows-same sends layout requests cycle mask list whole (stands-now cycle whole list stands) past frames free until follows
+same-offers sends layout requests cycle mask whole list past frames free until stands follows = grind (arith, follows-same, stands-now)

@@ -1,21 +1,19 @@
 -- The steps of a run: it begins, calls are answered, cycles are opened and run; and what it keeps.
-use Rattle.std.proofs.Common.{◌≡◌, ℕ, ◌+◌, ◌*◌, ◌<◌, ◌≤◌, true, false, List, [], ◌∷◌, ◌++◌, All, IsSome, sym, ap, ◌∙◌, subst, arith}
-use Rattle.std.proofs.lemmas.List.Elements.{All-nil}
+use Rattle.std.proofs.Common.{◌≡◌, ℕ, ◌+◌, ◌*◌, false, List, [], ◌∷◌, ◌++◌, sym, ap, ◌∙◌, arith}
 use Rattle.can_frame.specs.declared.data_frame.TimedFrame.{TimedFrame}
 use Rattle.cycle_layout.specs.Layout.{CycleLayout}
 use Rattle.requirement_table.specs.declared.entries.Placed.{Placed}
 use Rattle.requirement_table.specs.Opening.{Opening}
-use Rattle.bit_sets.specs.Sets.{has_bit, most_slots}
-use Rattle.requirement_table.specs.Table.{IsWellPlaced, instance_in, width_in}
+use Rattle.requirement_table.specs.Table.{IsWellPlaced}
 use Rattle.planner_policies.specs.Plan.{NeverMisses, mask_at}
 use Rattle.admission_rules.specs.declared.Rules.{Rules}
 use Rattle.master_core.specs.declared.event.Event.{Event}
 use Rattle.master_core.specs.declared.event.Event.TheVariants.{Open}
 use Rattle.master_core.specs.History.{IsLegal, is_open, next_of, placed_of, plan_of}
 use Rattle.master_core.specs.Openings.{openings_of}
-use Rattle.bus_line.specs.Trace.{Follows, end_of}
-use Rattle.cycle_engine.specs.Cycle.{FitsWindow, FollowsTrace, RunsCycle, RunsCycles}
-use Rattle.cycle_engine.specs.Offered.{IsCanTrace, SendsWhole, offered_in}
+use Rattle.bus_line.specs.Trace.{Follows}
+use Rattle.cycle_engine.specs.Cycle.{FitsWindow, FollowsTrace, RunsCycle}
+use Rattle.cycle_engine.specs.Offered.{SendsWhole, offered_in}
 use Rattle.cycle_engine.proofs.Shared.{more-can_trace, more-cycles, more-ended, more-runs, one-can_trace}
 use Rattle.kept_run.specs.Kept.{Kept}
 use Rattle.kept_run.specs.Progress.{IsUnderWay}
@@ -29,44 +27,20 @@ use Rattle.kept_run.proofs.Served.{IsRunOf, all_guarded, all_served, no_stranger
 -- Nothing was called
 
 pub begins : (setting : Setting) → IsUnderWay setting [] []
-begins setting = record {
-  legal = tt;
-  can_trace = record {
-    ordered = record { lengths = All-nil _; apart = λ i j d before within. absurd (omega arith) };
-    within = All-nil _;
-    least = All-nil _;
-    busy = λ at frame early offers. absurd (omega arith);
-  };
-  ended = All-nil _;
-  cycles = All-nil _;
-}
+begins setting = grind arith
 
 -- A call that opens no cycle
 
 pub answered : (setting : Setting) (trace : List TimedFrame) (history : List Event) (event : Event) → is_open event ≡ false
     → IsLegal setting.rules (history ++ event ∷ []) → IsUnderWay setting history trace → IsUnderWay setting (history ++ event ∷ []) trace
-answered setting trace history event closed legal way =
-    let openings = openings_of-closed history event closed in
-    let next = next_of-closed history event closed in
-    record {
-      legal = legal;
-      can_trace = subst (λ os. IsCanTrace setting.sends setting.layout setting.requests os (next_of (history ++ event ∷ [])) trace) (sym openings)
-          (subst (λ n. IsCanTrace setting.sends setting.layout setting.requests (openings_of history) n trace) (sym next) way.can_trace);
-      ended = subst (λ n. All (λ sent. end_of sent ≤ n * setting.layout.cycle) trace) (sym next) way.ended;
-      cycles = subst (λ os. RunsCycles setting.sends setting.layout os trace) (sym openings) way.cycles;
-    }
+answered setting trace history event closed legal way = grind (arith, openings_of-closed, next_of-closed)
 
 -- A cycle is opened and run
 
 -- the flagged slots of the plan have instances to send, and fit the window
 fits-window : (rules : Rules) (layout : CycleLayout) (placed : List Placed) (cycle mask : ℕ) → IsWellPlaced placed → NeverMisses (plan_of rules placed)
     → rules.window ≡ layout.window → mask ≡ mask_at (plan_of rules placed) cycle → FitsWindow layout (record { cycle = cycle; mask = mask; placed = placed })
-fits-window rules layout placed cycle mask well in_time window is =
-    let present : (slot : ℕ) → slot < most_slots → has_bit mask slot ≡ true → IsSome (instance_in placed slot cycle) =
-    λ slot known flagged. mask-sendable rules placed well in_time cycle slot (ap (λ m. has_bit m slot) (sym is) ∙ flagged) in
-    let fits : width_in placed cycle (has_bit mask) ≤ rules.window =
-    subst (λ m. width_in placed cycle (has_bit m) ≤ rules.window) (sym is) (mask-fits rules placed well in_time cycle) in
-    record { present = present; width = subst (λ w. width_in placed cycle (has_bit mask) ≤ w) window fits }
+fits-window rules layout placed cycle mask well in_time window is = grind (arith, mask-sendable, mask-fits)
 
 -- a cycle that is opened right after a legal history
 module _ (setting : Setting) (history : List Event) (cycle mask : ℕ)
@@ -93,12 +67,7 @@ module _ (setting : Setting) (history : List Event) (cycle mask : ℕ)
       (way : IsUnderWay setting history trace)
       (follows : Follows (offered_in setting.sends setting.layout setting.requests opening) trace (cycle * setting.layout.cycle) ((cycle + 1) * setting.layout.cycle) frames) where
     behind : FollowsTrace setting.sends setting.layout setting.requests openings opening trace frames
-    behind = record {
-      below = subst (λ n. All (λ earlier. earlier.cycle < n) openings) (sym now) (opened-legal setting.rules history so_far).below;
-      can_trace = subst (λ n. IsCanTrace setting.sends setting.layout setting.requests openings n trace) (sym now) way.can_trace;
-      ended = subst (λ n. All (λ sent. end_of sent ≤ n * setting.layout.cycle) trace) (sym now) way.ended;
-      follows = follows;
-    }
+    behind = grind (arith, now, opened-legal, so_far)
 
     pub opened-runs : RunsCycle setting.sends setting.layout opening frames
     opened-runs = more-runs setting.sends setting.layout setting.requests openings opening trace frames known.known behind whole known.asynchronous opened-fits
@@ -110,13 +79,7 @@ module _ (setting : Setting) (history : List Event) (cycle mask : ℕ)
         let can_trace = more-can_trace setting.sends setting.layout setting.requests openings opening trace frames known.known behind in
         let ended = more-ended setting.sends setting.layout setting.requests openings opening trace frames known.known behind whole known.asynchronous opened-fits in
         let run = more-cycles setting.sends setting.layout setting.requests openings opening trace frames known.known behind whole known.asynchronous opened-fits way.cycles in
-        record {
-          legal = legal;
-          can_trace = subst (λ os. IsCanTrace setting.sends setting.layout setting.requests os (next_of (history ++ Open cycle mask ∷ [])) (trace ++ frames)) (sym more)
-              (subst (λ n. IsCanTrace setting.sends setting.layout setting.requests (openings ++ opening ∷ []) n (trace ++ frames)) (sym next) can_trace);
-          ended = subst (λ n. All (λ sent. end_of sent ≤ n * setting.layout.cycle) (trace ++ frames)) (sym next) ended;
-          cycles = subst (λ os. RunsCycles setting.sends setting.layout os (trace ++ frames)) (sym more) run;
-        }
+        grind arith
 
 -- A run that is under way keeps what is promised
 
@@ -124,7 +87,6 @@ pub keeps : (setting : Setting) (history : List Event) (trace : List TimedFrame)
     → IsSetting setting → ForgetsEnds setting.sends → IsUnderWay setting history trace → Kept setting history trace
 keeps setting history trace known forgets way =
     let by = opened-legal setting.rules history way.legal in
-    let range = known.known.cycle_range.above in
     let run : IsRunOf setting.sends setting.rules setting.layout (placed_of history) (next_of history) (openings_of history) trace =
     record { some_time = omega arith; opened = by; within = way.can_trace.within; cycles = way.cycles } in
     record {

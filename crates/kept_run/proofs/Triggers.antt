@@ -1,7 +1,7 @@
 -- The triggers up to a frame count the cycles up to its own.
-use Rattle.std.proofs.Common.{◌≡◌, ◌≢◌, ℕ, suc, ◌+◌, ◌*◌, ◌/◌, ◌<◌, ◌≤◌, ◌⊎◌, Bool, true, false, cond, List, [], ◌∷◌, ◌++◌, length, get_or, filter, All, AllPairs, Contains, sym, ap, subst, ◌∙◌, ⊎_elim, inl, inr, arith}
+use Rattle.std.proofs.Common.{◌≡◌, ◌≢◌, ℕ, suc, ◌+◌, ◌<◌, ◌≤◌, ◌⊎◌, Bool, true, false, cond, List, [], ◌∷◌, ◌++◌, length, get_or, filter, All, AllPairs, Contains, sym, ap, subst, ◌∙◌, ⊎_elim, arith}
 use Rattle.std.specs.Prelude.{◌==◌}
-use Rattle.std.proofs.lemmas.Bool.{cases_eq, cond-false, cond-true, eq-eqb, ne_eqb}
+use Rattle.std.proofs.lemmas.Bool.{cases_eq, cond-true, eq-eqb, ne_eqb}
 use Rattle.std.proofs.lemmas.List.Elements.{All-append, All-contains, All-head, All-tail, Contains-get_or}
 use Rattle.std.proofs.lemmas.Nat.{le-div}
 use Rattle.std.proofs.Math.Nat.{div-lt_iff_lt-mul, div-mul-le_self}
@@ -24,10 +24,6 @@ is_trigger sent = sent.frame.identifier == 0
 
 abbrev one_if : Bool → ℕ
 one_if b = cond b 1 0
-
-length-cond : (b : Bool) (x : TimedFrame) (xs : List TimedFrame) → length (cond b (x ∷ xs) xs) ≡ one_if b + length xs
-length-cond true x xs = omega arith
-length-cond false x xs = omega arith
 
 head-same : (x y : TimedFrame) (xs ys : List TimedFrame) → x ∷ xs ≡ y ∷ ys → x ≡ y
 head-same x y xs ys same = cc
@@ -64,20 +60,13 @@ module _ (cyc : TimedFrame → ℕ) (next : ℕ) where
       → AllPairs (λ one other. cyc one ≤ cyc other) later
   sorted-tail sent later sorted = λ i j d before within. sorted (suc i) (suc j) d (omega arith) (omega arith)
 
-  without-first : (c : ℕ) (sent : TimedFrame) (later : List TimedFrame) → cyc sent ≢ c
-      → filter (λ x. cyc x == c) (sent ∷ later) ≡ filter (λ x. cyc x == c) later
-  without-first c sent later other =
-      cond-false (cyc sent == c) (sent ∷ filter (λ x. cyc x == c) later) (filter (λ x. cyc x == c) later) (ne_eqb (cyc sent) c other)
-
   with-first : (c : ℕ) (sent : TimedFrame) (later : List TimedFrame) → cyc sent ≡ c
       → filter (λ x. cyc x == c) (sent ∷ later) ≡ sent ∷ filter (λ x. cyc x == c) later
-  with-first c sent later same =
-      cond-true (cyc sent == c) (sent ∷ filter (λ x. cyc x == c) later) (filter (λ x. cyc x == c) later) (eq-eqb (cyc sent) c same)
+  with-first c sent later same = grind (arith, cond-true, eq-eqb)
 
   later-each : (seen : ℕ) (sent : TimedFrame) (later : List TimedFrame) → Counts seen (sent ∷ later) → seen ≤ cyc sent + 1
       → (c : ℕ) → cyc sent + 1 ≤ c → c < next → BeginsWithTrigger (filter (λ x. cyc x == c) later)
-  later-each seen sent later counts reached c after known =
-      subst BeginsWithTrigger (without-first c sent later (λ same. omega arith)) (counts.each c (omega arith) known)
+  later-each seen sent later counts reached c after known = grind arith
 
   -- a frame of the cycle whose trigger was seen
   step-old : (seen : ℕ) (sent : TimedFrame) (later : List TimedFrame) → Counts seen (sent ∷ later) → cyc sent + 1 ≡ seen → OneMore seen sent later
@@ -126,11 +115,7 @@ module _ (cyc : TimedFrame → ℕ) (next : ℕ) where
           each = later-each seen sent later counts (omega arith);
         };
       })
-      (λ (apart : cyc sent ≢ seen).
-      let none = filter-none (λ x. cyc x == seen) later
-      (λ k d within. let after = behind k d within in ne_eqb (cyc (get_or later k d)) seen (λ same. omega arith)) in
-      let empty : [] ≡ begins.trigger ∷ begins.later = sym none ∙ sym (without-first seen sent later apart) ∙ begins.split in
-      absurd (cc))
+      (λ (apart : cyc sent ≢ seen). grind (arith, filter-none, ne_eqb))
       (cases_eq (cyc sent) seen)
 
   step : (seen : ℕ) (sent : TimedFrame) (later : List TimedFrame) → Counts seen (sent ∷ later) → OneMore seen sent later
@@ -143,22 +128,17 @@ module _ (cyc : TimedFrame → ℕ) (next : ℕ) where
       → seen + length (filter is_trigger (front ++ sent ∷ [])) ≡ cyc sent + 1
   counted [] later sent seen counts =
       let more = step seen sent later counts in
-      let one = length-cond (is_trigger sent) sent [] in
-      let count = more.count in
-      omega arith
+      grind arith
   counted (x ∷ front) later sent seen counts =
       let more = step seen x (front ++ sent ∷ later) counts in
       let rest = counted front later sent (cyc x + 1) more.counts in
-      let one = length-cond (is_trigger x) x (filter is_trigger (front ++ sent ∷ [])) in
-      let count = more.count in
-      omega arith
+      grind arith
 
 -- Runs under way
 
 not-trigger : (layout : CycleLayout) (opening : Opening) (sent : TimedFrame) → IsRequestFrame layout opening sent ⊎ IsSlotFrame layout opening sent
     → sent.frame.identifier ≢ 0
-not-trigger layout opening sent (inl request) = λ none. let high = request.identifier in omega arith
-not-trigger layout opening sent (inr slot) = λ none. let high = slot.identifier in omega arith
+not-trigger layout opening sent h0 = grind arith
 
 begins-of : {sends : Instance → List ℕ} (layout : CycleLayout) (opening : Opening) (frames : List TimedFrame) → RunsCycle sends layout opening frames → BeginsWithTrigger frames
 begins-of layout opening frames runs = record {
@@ -177,15 +157,9 @@ pub triggers-counted : (setting : Setting) (history : List Event) (trace : List 
     → length (filter is_trigger (front ++ sent ∷ [])) ≡ cycle_of setting.layout sent + 1
 triggers-counted setting history trace known way front later sent split =
     let layout = setting.layout in
-    let range = known.known.cycle_range.above in
     let some_time : 0 < setting.layout.cycle = omega arith in
     let counts : Counts (cycle_of setting.layout) (next_of history) 0 trace = record {
-      sorted = λ i j d before within.
-          let one = get_or trace i d in
-          let other = get_or trace j d in
-          let apart = way.can_trace.ordered.apart i j d before within in
-          let low : one.start / setting.layout.cycle * setting.layout.cycle ≤ one.start = div-mul-le_self one.start setting.layout.cycle in
-          le-div (one.start / setting.layout.cycle) other.start setting.layout.cycle some_time (omega arith);
+      sorted = grind (arith, div-mul-le_self, le-div);
       below = λ k d within. (div-lt_iff_lt-mul some_time).1 (way.can_trace.within k d within);
       from = λ k d within. omega arith;
       old = λ k d within none. absurd (omega arith);

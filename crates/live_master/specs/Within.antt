@@ -13,8 +13,8 @@ use Rattle.live_master.specs.declared.within.FoundOpening.{FoundOpening}
 use Rattle.live_master.specs.declared.within.FoundOpening.TheVariants as opening
 
 -- a cycle was opened by this order, which is one of the history before the opening. What the nodes learn with it are
--- the entries that are kept, which stand for all placed ones, and there are no more of these. No other cycle was opened
--- in between
+-- the entries that are kept, which stand for all placed ones, and no more of these are kept than there is room for. No
+-- other cycle was opened in between
 pub record IsOpenedWithin (rules : Rules) (entries : ℕ) (old new : Known Event Rules) (order : Order) : Type 0 where
   pub answered : IsAnsweredInTurn old new (Open order.cycle order.mask)
   pub is_order : IsOrderFor rules (old.view.seen ++ answered.between) order
@@ -24,8 +24,8 @@ pub record IsOpenedWithin (rules : Rules) (entries : ℕ) (old new : Known Event
   pub kept : length (kept_of (old.view.seen ++ answered.between)) ≤ entries
   pub few : IfSome order.learned (λ placed. length placed ≤ entries)
 
--- the turn was got and let go with no event added: so many entries are kept, and these are more. No cycle was opened in
--- between
+-- the turn was got and let go with no event added: so many entries are kept, and these are more than there is room for.
+-- No cycle was opened in between
 pub record IsShort (entries : ℕ) (old new : Known Event Rules) (needed : ℕ) : Type 0 where
   pub gave_back : GaveBack old new
   pub kept : needed ≡ length (kept_of (old.view.seen ++ gave_back.between))

@@ -32,10 +32,5 @@ pub record AreDone (shared : Lock Rules) (scripts : List Script) (operators : Li
       → IsDone shared (k + 1) (slice_index_or scripts k s) (slice_index_or operators k d)
 
 -- a pass made so many operators, and is as before otherwise
-pub record HasLent (old new : View Event Rules) (count : ℕ) : Type 0 where
-  pub number : new.number ≡ old.number
-  pub made : new.made ≡ old.made + count
-  pub out : new.out ≡ old.out + count
-  pub seen : new.seen ≡ old.seen
-  pub mine : new.mine ≡ old.mine
-  pub ended : new.ended ≡ old.ended
+abbrev pub HasLent : View Event Rules → View Event Rules → ℕ → Type 0
+HasLent old new count = new ≡ record old { made = old.made + count; out = old.out + count }

@@ -14,7 +14,7 @@ use Rattle.kept_run.specs.Progress.{IsOnTheWay}
 use Rattle.kept_run.specs.Setting.{Setting}
 use Rattle.live_run.specs.declared.dispatching.LiveBus.{LiveBus}
 
--- history and bus are on the way in this setting, before a cycle is run by this order, which is that of the history
+-- history and bus are on the way in this setting, before a cycle is run by this order, which is one of the history
 pub record IsBeforeOrder (setting : Setting) (history : List Event) (order : Order) (bus : LiveBus) : Type 0 where
   pub way : IsOnTheWay setting history bus.trace.items bus.nodes
   pub ordered : IsOrderFor setting.rules history order

@@ -1,5 +1,5 @@
 -- A change that is accepted by a plan from an earlier cycle is accepted too where it is planned from the next cycle.
-use Rattle.std.proofs.Common.{◌≡◌, ℕ, ◌+◌, ◌≤◌, true, false, List, refl, sym, ap, ◌∙◌, subst, zero-add, arith}
+use Rattle.std.proofs.Common.{◌≡◌, ℕ, ◌+◌, ◌≤◌, true, List, sym, ap, ◌∙◌, subst, zero-add, arith}
 use Rattle.requirement_table.specs.declared.entries.Placed.{Placed}
 use Rattle.change_protocol.specs.declared.operations.Change.{Change}
 use Rattle.change_protocol.specs.Applied.{applied}
@@ -32,16 +32,7 @@ verdict-accepted : (rules : Rules) (placed : List Placed) (pending next : ℕ) (
     → NeverMisses (plan_from rules (applied placed change) next pending)
     → (HasNoRecurrence (plan_from rules (applied placed change) next pending) rules.horizon → ⊥)
     → IsVerdict rules placed pending next next change verdict → is_accepted verdict ≡ true
-verdict-accepted rules placed pending next change (Malformed op why) in_time never recurs is =
-    absurd (let formed = in_time.well_formed in let none = rw formed at is in cc)
-verdict-accepted rules placed pending next change (Passed start opened) in_time never recurs is =
-    absurd (let ahead = in_time.ahead in let early = is.1 in omega arith)
-verdict-accepted rules placed pending next change (Miss slot release cycle) in_time never recurs is =
-    let miss = is.1.0.miss in
-    let not = never is.1.0.number slot miss.known in
-    absurd (let both : true ≡ false = sym miss.missed ∙ not in cc)
-verdict-accepted rules placed pending next change (Horizon from walked) in_time never recurs is = absurd (recurs is.1.1)
-verdict-accepted rules placed pending next change (Accepted first length) in_time never recurs is = refl
+verdict-accepted rules placed pending next change verdict in_time never recurs is = grind arith
 
 pub accepted-anew : GoesRound → (rules : Rules) (history : List Event) (change : Change) (from : ℕ) (verdict anew : Verdict) (trail : List ℕ)
     → IsRules rules → IsLegal rules history → IsRightAnswer rules history change from verdict trail → is_accepted verdict ≡ true

@@ -1,32 +1,26 @@
 -- The certificate of the table after a history.
-use Rattle.std.proofs.Common.{◌≡◌, ℕ, zero, suc, ◌+◌, ◌-◌, ◌^◌, ◌<◌, ◌≤◌, List, [], ◌∷◌, ◌++◌, Option, Some, IfSome, All, get_or, length, map, take, refl, sym, ap, ◌∙◌, subst, zero-add, arith, true, false}
+use Rattle.std.proofs.Common.{◌≡◌, ℕ, zero, suc, ◌+◌, ◌<◌, List, [], ◌∷◌, ◌++◌, Option, Some, All, get_or, length, map, take, refl, sym, ap, ◌∙◌, subst, zero-add, arith}
+use Rattle.std.proofs.lemmas.Grind.{common_steps}
 use Rattle.std.specs.List.{range_with_len}
 use Rattle.std.proofs.lemmas.List.{append-nil, map-append, take_more}
 use Rattle.std.proofs.lemmas.List.Elements.{All-head, All-tail}
 use Rattle.requirement_table.specs.declared.entries.Placed.{Placed}
 use Rattle.requirement_table.specs.Opening.{Opening}
-use Rattle.bit_sets.specs.Sets.{most_slots}
-use Rattle.requirement_table.specs.Table.{IsWellPlaced}
 use Rattle.change_protocol.specs.declared.operations.Change.{Change}
 use Rattle.change_protocol.specs.Applied.{applied}
 use Rattle.planner_policies.specs.Plan.{NeverMisses, Planning, Ranking, is_missed_at, mask_at, pending_at}
 use Rattle.planner_policies.proofs.Shared.{on-missed}
-use Rattle.plan_check.specs.Certificate.{CertificateView, length_of}
-use Rattle.plan_check.specs.PlanKept.{IsTaken}
-use Rattle.plan_check.specs.PlanText.{IsTextOfPlan, plan_text}
-use Rattle.plan_check.specs.declared.plan_runs.Version.TheVariants.{Two}
 use Rattle.admission_rules.specs.declared.Rules.{Rules}
 use Rattle.admission.specs.declared.certify_fault.CertifyFault.{CertifyFault}
-use Rattle.admission.specs.declared.certify_fault.CertifyFault.TheVariants.{Memory, Miss, NoRepeat}
+use Rattle.admission.specs.declared.certify_fault.CertifyFault.TheVariants.{Memory}
 use Rattle.admission.specs.declared.verdict.Verdict.{Verdict}
-use Rattle.admission.specs.Certified.{IsCertificateFrom, IsCertificateOf, IsFaultOnPlan, end_of}
-use Rattle.admission.specs.Recurrence.{HasNoRecurrence, IsRecurrence}
+use Rattle.admission.specs.Certified.{IsFaultOnPlan}
 use Rattle.admission.specs.declared.verdict.Verdict.TheVariants.{Accepted}
 use Rattle.admission.specs.Verdict.{IsInTime, IsTakenWhereDue, IsVerdictOnPlan, masks_of, plan_from}
 use Rattle.master_core.specs.declared.event.Event.{Event}
-use Rattle.master_core.specs.declared.event.Event.TheVariants.{Submit, Look, Open}
-use Rattle.master_core.specs.Cores.{CoreView, IsCore, onward, state_of}
-use Rattle.master_core.specs.Certificates.{IsCertificateOfPlan, onward_of, told_of}
+use Rattle.master_core.specs.declared.event.Event.TheVariants.{Open}
+use Rattle.master_core.specs.Cores.{CoreView, IsCore, onward}
+use Rattle.master_core.specs.Certificates.{onward_of, told_of}
 use Rattle.master_core.specs.History.{next_of, placed_of, plan_of}
 use Rattle.master_core.specs.Keeping.{IsMasterKept}
 use Rattle.master_core.specs.Openings.{opening_of, openings_of}
@@ -65,89 +59,29 @@ opening-of : (history : List Event) (event : Event) (cycle mask : ℕ) → event
 opening-of history event cycle mask is = ap (λ (e : Event). map (λ o. o.mask) (opening_of history e)) is
 
 no-opening : (history : List Event) (event : Event) → ((cycle mask : ℕ) → event ≡ Open cycle mask → ⊥) → opening_of history event ≡ []
-no-opening history (Submit caller change from verdict trail) not = refl
-no-opening history (Look caller next) not = refl
-no-opening history (Open cycle mask) not = absurd (not cycle mask refl)
+no-opening history event not = grind arith
 
 masks-more : (history : List Event) (event : Event)
     → map (λ o. o.mask) (openings_of (history ++ event ∷ [])) ≡ map (λ o. o.mask) (openings_of history) ++ map (λ o. o.mask) (opening_of history event)
-masks-more history event =
-    ap (λ (os : List Opening). map (λ o. o.mask) os) (openings_of-push history event)
-    ∙ map-append (λ (o : Opening). o.mask) (openings_of history) (opening_of history event)
+masks-more history event = grind (arith, openings_of-push, map-append)
 
 module _ (history : List Event) (n : ℕ) (event : Event) (masks : List ℕ) (within : n < length history) (at : event ≡ get_or history n event)
     (listed : masks ≡ map (λ o. o.mask) (openings_of (take n history))) where
   more-is : map (λ o. o.mask) (openings_of (take (n + 1) history)) ≡ masks ++ map (λ o. o.mask) (opening_of (take n history) event)
-  more-is =
-      ap (λ (h : List Event). map (λ o. o.mask) (openings_of h)) (take_more history n event within)
-      ∙ ap (λ (e : Event). map (λ o. o.mask) (openings_of (take n history ++ e ∷ []))) (sym at)
-      ∙ masks-more (take n history) event
-      ∙ ap (λ (list : List ℕ). list ++ map (λ o. o.mask) (opening_of (take n history) event)) (sym listed)
+  more-is = grind (arith, common_steps, take_more, masks-more)
 
   pub listed-opening : (cycle mask : ℕ) → event ≡ Open cycle mask → masks ++ mask ∷ [] ≡ map (λ o. o.mask) (openings_of (take (n + 1) history))
   listed-opening cycle mask is = sym (more-is ∙ ap (λ (list : List ℕ). masks ++ list) (opening-of (take n history) event cycle mask is))
 
   pub listed-other : ((cycle mask : ℕ) → event ≡ Open cycle mask → ⊥) → masks ≡ map (λ o. o.mask) (openings_of (take (n + 1) history))
-  listed-other not =
-      sym (more-is ∙ ap (λ (os : List Opening). masks ++ map (λ o. o.mask) os) (no-opening (take n history) event not) ∙ append-nil masks)
+  listed-other not = grind (arith, more-is, no-opening, append-nil)
 
 -- The faults
-
-fault-memory : (horizon : ℕ) (plan : Planning) (fault : CertifyFault) → NeverMisses plan → (HasNoRecurrence plan horizon → ⊥)
-    → IsFaultOnPlan horizon plan fault → fault ≡ Memory
-fault-memory horizon plan (Miss slot release cycle) never recurs is =
-    let miss = is.0.miss in
-    let not = never is.0.number slot miss.known in
-    absurd (let both : true ≡ false = sym miss.missed ∙ not in cc)
-fault-memory horizon plan (NoRepeat walked) never recurs is = absurd (recurs is.1)
-fault-memory horizon plan Memory never recurs is = refl
 
 -- a core has a certificate
 
 pub core-no_fault : (core : CoreView) → IsCore core → (fault : CertifyFault) → IsFaultOnPlan core.rules.horizon (onward core) fault → fault ≡ Memory
-core-no_fault core is fault at =
-    fault-memory core.rules.horizon (onward core) fault is.safe.safe.in_time
-    (λ none.
-    let repeat = is.safe.repeats in
-    let within = repeat.within in
-    let past = none repeat.period repeat.one repeat.other repeat.least_common repeat.before repeat.alike in
-    omega arith)
-    at
-
-pub core-end : (core : CoreView) → IsCore core → (certificate : CertificateView) → IsCertificateFrom core.rules core.placed (state_of core) certificate
-    → end_of certificate ≤ 2 ^ 42
-core-end core is certificate of =
-    let within = of.repeats.2 in
-    let near = is.safe.near in
-    let few = is.safe.in_range.near_horizon in
-    omega arith
-
--- its text is read back
-pub core-read : ((plan : Planning) (n : ℕ) → All (λ mask. mask < 2 ^ most_slots) (masks_of plan n)) → (core : CoreView) → IsCore core → (certificate : CertificateView)
-    → IsCertificateFrom core.rules core.placed (state_of core) certificate → IsTextOfPlan (plan_text certificate) certificate
-core-read masks core is certificate of =
-    let start = of.start in
-    let before = of.before in
-    let within = of.repeats.2 in
-    let at = of.repeats.1.at in
-    let some = of.repeats.1.some_cycles in
-    let near = is.safe.near in
-    let few = is.safe.in_range.near_horizon in
-    let known = is.known in
-    record {
-      version = Two;
-      readable = record {
-        from = omega arith;
-        pending = omega arith;
-        first = omega arith;
-        after = omega arith;
-        near = omega arith;
-        some = omega arith;
-        few = omega arith;
-        masks = subst (λ (list : List ℕ). All (λ mask. mask < 2 ^ most_slots) list) (sym of.listed) (masks (onward core) (end_of certificate - core.cycle));
-      };
-      text = refl;
-    }
+core-no_fault core is fault at = grind arith
 
 -- what is known of the verdict on a change behind a history
 abbrev pub IsDue : Rules → List Event → Change → Verdict → Type 0
@@ -159,16 +93,10 @@ IsDue rules history change verdict =
 module _ (rules : Rules) (history : List Event) (list : List Placed) (since : ℕ) (ranked : Ranking) (cycle pending : ℕ) (learned : Option (List Placed))
     (kept : IsMasterKept rules history list since ranked cycle pending learned) where
   onward-is : plan_from rules list cycle pending ≡ onward_of rules history
-  onward-is =
-      ap (λ (set : ℕ). plan_from rules list cycle set) kept.waiting
-      ∙ ap (λ (n : ℕ). plan_from rules list n (pending_at (plan_of rules list) n)) kept.next
-      ∙ ap (λ (l : List Placed). plan_from rules l (next_of history) (pending_at (plan_of rules l) (next_of history))) kept.placed
+  onward-is = grind arith
 
   pub kept-opened : map (λ o. o.mask) (openings_of history) ≡ masks_of (plan_of rules list) cycle
-  kept-opened =
-      opened-masks rules history (opened-of_legal rules history kept.legal)
-      ∙ ap (λ (l : List Placed). masks_of (plan_of rules l) (next_of history)) (sym kept.placed)
-      ∙ ap (λ (n : ℕ). masks_of (plan_of rules list) n) (sym kept.next)
+  kept-opened = grind (arith, opened-masks, opened-of_legal)
 
   kept-onward : NeverMisses (plan_from rules list cycle pending)
   kept-onward m slot known =
@@ -179,47 +107,14 @@ module _ (rules : Rules) (history : List Event) (list : List Placed) (since : �
       ∙ kept-in_time rules history list since ranked cycle pending learned kept (cycle + m) slot known
 
   pub kept-no_fault : GoesRound → (fault : CertifyFault) → IsFaultOnPlan rules.horizon (plan_from rules list cycle pending) fault → fault ≡ Memory
-  kept-no_fault round fault is =
-      fault-memory rules.horizon (plan_from rules list cycle pending) fault kept-onward
-      (λ none.
-      recurs-onward round rules (placed_of history) (next_of history)
-      (subst IsWellPlaced kept.placed (kept-well_placed rules history list since ranked cycle pending learned kept))
-      (recurs-of_legal rules history kept.ranges kept.legal)
-      (subst (λ (plan : Planning). HasNoRecurrence plan rules.horizon) onward-is none))
-      is
+  kept-no_fault round fault is = grind (arith, kept-onward, recurs-onward, kept-well_placed, recurs-of_legal, onward-is)
 
   -- what was told of the planning that goes on
   pub kept-told : (told : Option (ℕ × ℕ)) → told ≡ told_of cycle history → (again : ℕ × ℕ) → told ≡ Some again
       → IsVerdictOnPlan rules.horizon (plan_from rules list cycle pending) (Accepted again.0 again.1)
   kept-told told told_is again is =
       let here = told-of_legal rules history cycle kept.legal (sym kept.next) in
-      subst (λ (plan : Planning). IsVerdictOnPlan rules.horizon plan (Accepted again.0 again.1)) (sym onward-is)
-      (subst (λ (o : Option (ℕ × ℕ)). IfSome o (λ a. IsVerdictOnPlan rules.horizon (onward_of rules history) (Accepted a.0 a.1))) (sym told_is ∙ is) here)
-
-  pub kept-certificate : (opened : List ℕ) (certificate : CertificateView)
-      → IsCertificateOf rules list opened (record { cycle = cycle; pending = pending }) certificate
-      → certificate.masks ≡ masks_of (plan_of rules list) (end_of certificate) → IsCertificateOfPlan rules history certificate
-  kept-certificate opened certificate is whole =
-      let within = is.repeats.2 in
-      let next = kept.next in
-      record {
-        start = is.start;
-        nothing_pending = is.nothing_pending;
-        listed = whole ∙ ap (λ (l : List Placed). masks_of (plan_of rules l) (end_of certificate)) kept.placed;
-        repeats = subst (λ (plan : Planning). IsRecurrence plan certificate.first (length_of certificate)) onward-is is.repeats.1;
-        within = omega arith;
-      }
-
-  pub kept-taken_by : (certificate : CertificateView) → IsTaken list rules.window certificate → IsTaken (placed_of history) rules.window certificate
-  kept-taken_by certificate taken = subst (λ (l : List Placed). IsTaken l rules.window certificate) kept.placed taken
-
-  pub kept-cycles : (opened : List ℕ) (certificate : CertificateView)
-      → IsCertificateOf rules list opened (record { cycle = cycle; pending = pending }) certificate → end_of certificate ≤ 2 ^ 42
-  kept-cycles opened certificate is =
-      let within = is.repeats.2 in
-      let near = kept.near in
-      let few = kept.ranges.near_horizon in
-      omega arith
+      grind (arith, onward-is)
 
   -- a change that is in time is taken where that is due
   pub kept-due : (change : Change) (verdict : Verdict)

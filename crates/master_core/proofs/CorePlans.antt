@@ -1,5 +1,6 @@
 -- Changes that were planned apart are settled where their plan leads to the core.
-use Rattle.std.proofs.Common.{◌≡◌, ℕ, ◌+◌, ◌-◌, ◌<◌, ◌≤◌, Bool, true, false, if◌then◌else◌, List, [], ◌++◌, Option, Some, None, All, ⊎_elim, refl, sym, ap, ◌∙◌, subst, arith}
+use Rattle.std.proofs.Common.{◌≡◌, ℕ, ◌+◌, ◌-◌, ◌<◌, ◌≤◌, Bool, true, false, if◌then◌else◌, List, [], Option, None, All, ⊎_elim, refl, sym, ap, ◌∙◌, subst, arith}
+use Rattle.std.proofs.lemmas.Grind.{common_steps}
 use Rattle.std.proofs.lemmas.Bool.{cases_lt}
 use Rattle.requirement_table.specs.declared.entries.Placed.{Placed}
 use Rattle.change_protocol.specs.declared.operations.Change.{Change}
@@ -10,7 +11,7 @@ use Rattle.bit_sets.specs.Sets.{has_bit, most_slots, set_of}
 use Rattle.requirement_table.specs.Table.{IsWellPlaced, not_over}
 use Rattle.requirement_table.proofs.Shared.{not_over-well_placed}
 use Rattle.bit_sets.proofs.Shared.{set_of-same}
-use Rattle.planner_policies.specs.Plan.{HasNoMiss, HasNoMissIn, IsMissIn, IsValid, Planning, is_missed_at, is_missed_in, left_after, pending_at, pending_before, planning_of}
+use Rattle.planner_policies.specs.Plan.{HasNoMiss, HasNoMissIn, IsMissIn, IsValid, Planning, is_missed_at, is_missed_in, left_after, pending_at, planning_of}
 use Rattle.planner_policies.proofs.Shared.{before-first, state-left, state-missed}
 use Rattle.admission_rules.specs.declared.Rules.{Rules}
 use Rattle.admission.specs.declared.verdict.Verdict.{Verdict}
@@ -22,16 +23,16 @@ use Rattle.master_core.specs.declared.answered.Answered.{Answered}
 use Rattle.master_core.specs.declared.apart.Snapshot.{Snapshot}
 use Rattle.master_core.specs.declared.event.Event.{Event}
 use Rattle.master_core.specs.declared.event.Event.TheVariants.{Submit}
-use Rattle.master_core.specs.Answers.{AreKept, AreMadeAs, IsAnswerTo, IsPlannedFrom, answer_at, decision_of, is_passed_by}
+use Rattle.master_core.specs.Answers.{AreKept, IsAnswerTo, IsPlannedFrom, answer_at, decision_of, is_passed_by}
 use Rattle.master_core.specs.Apart.{IsPlannable}
 use Rattle.master_core.specs.CorePlans.{CanSettleFrom, CorePlannedView, IsAnsweredFrom, IsLedTo, IsSettledByPlan, Leads}
 use Rattle.master_core.specs.Cores.{CoreView, IsAnswered, IsCore, IsHeld, IsStateOf}
-use Rattle.master_core.specs.History.{IsRightAnswer, IsSince, accepted_of, next_of, placed_of, plan_of}
+use Rattle.master_core.specs.History.{IsRightAnswer, accepted_of, placed_of}
 use Rattle.master_core.proofs.CoreSteps.{made-to, state-here}
 use Rattle.master_core.proofs.Onward.{left-missed, left-pending}
 use Rattle.master_core.proofs.Passing.{not_over-again}
 use Rattle.master_core.proofs.Legal.{sound-of_legal}
-use Rattle.master_core.proofs.Settling.{gone, next-append, none-behind, right-by, same-placed, since-then, still}
+use Rattle.master_core.proofs.Settling.{gone, none-behind, same-placed, since-then, still}
 use Rattle.master_core.proofs.States.{TrailLaw, VerdictLaw, verdict-held}
 
 -- an answer by a plan from the next cycle on
@@ -46,9 +47,7 @@ answered-from core is change answered by = record {
         subst (λ (n : ℕ). core.pending ≡ pending_at (plan_from core.rules core.placed n core.pending) (core.cycle - n)) (sym by.from) (state-here core is);
   };
   verdict = subst (λ (n : ℕ). IsVerdict core.rules core.placed core.pending n core.cycle change answered.verdict) (sym by.from) by.verdict;
-  trail =
-      by.trail
-      ∙ ap (λ (n : ℕ). trail_of (plan_from core.rules (applied core.placed change) n core.pending) answered.verdict) (sym by.from);
+  trail = grind arith;
 }
 
 -- a change that is in time is accepted where that is due, as a law says it
@@ -69,8 +68,7 @@ submit-same caller from of one other first second trail also a b c d = rw (a, b,
 -- from state to state
 
 pub first-pending : (plan : Planning) → plan.pending ≡ set_of most_slots (has_bit plan.pending) → plan.pending ≡ pending_at plan 0
-first-pending plan known =
-    known ∙ sym (set_of-same most_slots (pending_before plan 0) (has_bit plan.pending) (λ slot below. before-first plan slot))
+first-pending plan known = grind (arith, set_of-same, before-first)
 
 pub step-pending : (rules : Rules) (left : List Placed) (from pending n cycle set : ℕ) → cycle ≡ from + n → set ≡ pending_at (plan_from rules left from pending) n
     → set_of most_slots (left_after (planning_of (ranking_by rules left) rules.window cycle set) cycle (has_bit set))
@@ -96,9 +94,7 @@ pub step-in_time : (rules : Rules) (left : List Placed) (from pending n cycle se
     → HasNoMiss (plan_from rules left from pending) n
     → HasNoMissIn (planning_of (ranking_by rules left) rules.window cycle set) cycle (has_bit set)
     → HasNoMiss (plan_from rules left from pending) (n + 1)
-step-in_time rules left from pending n cycle set here is none now =
-    none-more (plan_from rules left from pending) n none
-    (λ slot known. sym (missed-here rules left from pending n cycle set slot here is known) ∙ now slot known)
+step-in_time rules left from pending n cycle set here is none now = grind (arith, none-more, missed-here)
 
 -- a list without the entries that are over by the first cycle misses what the whole list misses
 
@@ -138,15 +134,13 @@ leads-none rules placed from to n cycle set slot release well leads before here 
     left-missed rules from.cycle from.pending placed left well (not_over-well_placed from.cycle placed well) (not_over-again from.cycle from.cycle placed (omega arith))
     n slot known
     ∙ leads.in_time n slot before known in
-    let both : true ≡ false = sym missed ∙ not in
-    absurd (cc)
+    grind arith
 
 -- and the planning of what is left comes to the other one
 
 pub leads-to : (rules : Rules) (placed : List Placed) (from to at : PlanState) (n : ℕ) → IsWellPlaced placed → Leads rules placed from to → n ≡ to.cycle - from.cycle
     → at.cycle ≡ from.cycle + n → at.pending ≡ pending_at (plan_from rules (not_over from.cycle placed) from.cycle from.pending) n → at ≡ to
 leads-to rules placed from to at n well leads end here is =
-    let early = leads.early in
     let cycle_is : at.cycle ≡ to.cycle = omega arith in
     let pending_is : at.pending ≡ to.pending =
     is
@@ -157,49 +151,37 @@ leads-to rules placed from to at n well leads end here is =
     same-state at to cycle_is pending_is
   where
     same-state : (one other : PlanState) → one.cycle ≡ other.cycle → one.pending ≡ other.pending → one ≡ other
-    same-state one other cycle_is pending_is =
-        ap (λ (c : ℕ). record { cycle = c; pending = one.pending }) cycle_is ∙ ap (λ (p : ℕ). record { cycle = other.cycle; pending = p }) pending_is
+    same-state one other cycle_is pending_is = grind arith
 
 -- what contracts see of a change that was planned so
 abbrev pub view : Snapshot → Answer → CorePlannedView
 view snapshot answer = record { snapshot = snapshot; change = answer.change; decision = decision_of answer }
 
 none-kept : (forgets : Bool) (from : ℕ) (made : Option Made) → AreKept forgets from None made → made ≡ None
-none-kept forgets from None kept = refl
-none-kept forgets from (Some made) kept = absurd kept
+none-kept forgets from made kept = grind arith
 
 module _ (core : CoreView) (is : IsCore core) (snapshot : Snapshot) (plannable : IsPlannable snapshot) (led : IsLedTo core snapshot) (answer : Answer)
     (was : IsPlannedFrom snapshot.rules snapshot.placed snapshot.state answer) where
   planned : IsPlannedFrom core.rules core.placed snapshot.state answer
-  planned =
-      subst (λ (r : Rules). IsPlannedFrom r core.placed snapshot.state answer) led.rules
-      (subst (λ (l : List Placed). IsPlannedFrom snapshot.rules l snapshot.state answer) led.placed was)
+  planned = grind arith
 
   early : answer.from ≤ core.cycle
   early = let from = planned.from in let before = led.leads.early in omega arith
 
   held : IsValid core.placed answer.from snapshot.state.pending
-  held =
-      subst (λ (n : ℕ). IsValid core.placed n snapshot.state.pending) (sym planned.from)
-      (subst (λ (l : List Placed). IsValid l snapshot.state.cycle snapshot.state.pending) led.placed plannable.valid)
+  held = grind (arith, planned)
 
   leads : core.pending ≡ pending_at (plan_from core.rules core.placed answer.from snapshot.state.pending) (core.cycle - answer.from)
-  leads =
-      subst (λ (n : ℕ). core.pending ≡ pending_at (plan_from core.rules core.placed n snapshot.state.pending) (core.cycle - n)) (sym planned.from)
-      led.leads.pending
+  leads = grind (arith, planned)
 
   in_time : HasNoMiss (plan_from core.rules core.placed answer.from snapshot.state.pending) (core.cycle - answer.from)
-  in_time =
-      subst (λ (n : ℕ). HasNoMiss (plan_from core.rules core.placed n snapshot.state.pending) (core.cycle - n)) (sym planned.from) led.leads.in_time
+  in_time = grind (arith, planned, leads)
 
   decided : IsVerdict core.rules core.placed snapshot.state.pending answer.from answer.from answer.change answer.verdict
-  decided =
-      subst (λ (n : ℕ). IsVerdict core.rules core.placed snapshot.state.pending n n answer.change answer.verdict) (sym planned.from) planned.decided.answer
+  decided = grind (arith, planned)
 
   trail-is : answer.trail ≡ trail_of (plan_from core.rules (applied core.placed answer.change) answer.from snapshot.state.pending) answer.verdict
-  trail-is =
-      planned.decided.plan
-      ∙ ap (λ (n : ℕ). trail_of (plan_from core.rules (applied core.placed answer.change) n snapshot.state.pending) answer.verdict) (sym planned.from)
+  trail-is = grind (arith, planned, decided)
 
   -- the answer with the cycle that is the next one now
   pub record IsAnswerNow (now : Answer) (made : Option Made) : Type 0 where
@@ -214,31 +196,7 @@ module _ (core : CoreView) (is : IsCore core) (snapshot : Snapshot) (plannable :
       → AreKept core.forgets (if b then record answer { verdict = Passed answer.change.start core.cycle; trail = []; made = None } else answer).from
       (if b then record answer { verdict = Passed answer.change.start core.cycle; trail = []; made = None } else answer).made made
       → IsAnswerNow (if b then record answer { verdict = Passed answer.change.start core.cycle; trail = []; made = None } else answer) made
-  settled-by made true passed kept =
-      let refused = gone core.rules core.placed snapshot.state.pending answer.from core.cycle answer.change early answer.verdict passed decided in
-      record {
-        to = record {
-          types = planned.types;
-          early = early;
-          pending = snapshot.state.pending;
-          held = held;
-          leads = leads;
-          verdict = refused;
-          made =
-              subst (λ (o : Option Made). AreMadeAs core.forgets core (record answer { verdict = Passed answer.change.start core.cycle; trail = []; made = made }) o)
-              (sym (none-kept core.forgets answer.from made kept)) refl;
-        };
-        by = record {
-          pending = snapshot.state.pending;
-          leads = record { early = early; held = held; in_time = in_time; pending = leads };
-          verdict = refused;
-          trail = refl;
-        };
-        same = refl;
-        change_is = refl;
-        verdict_is = refused;
-        trail_is = refl;
-      }
+  settled-by made true passed kept = grind (arith, gone, early, decided, planned, held, leads, none-kept, in_time)
   settled-by made false ahead kept =
       let stays = still core.rules core.placed snapshot.state.pending answer.from core.cycle answer.change early answer.verdict ahead decided in
       record {
@@ -251,12 +209,7 @@ module _ (core : CoreView) (is : IsCore core) (snapshot : Snapshot) (plannable :
           verdict = stays;
           made = made-to core is core.forgets (record answer { made = made }) answer.made made planned.decided.list planned.made kept;
         };
-        by = record {
-          pending = snapshot.state.pending;
-          leads = record { early = early; held = held; in_time = in_time; pending = leads };
-          verdict = stays;
-          trail = trail-is;
-        };
+        by = grind (arith, leads, early, held, in_time, trail-is);
         same = refl;
         change_is = refl;
         verdict_is = stays;
@@ -272,27 +225,17 @@ module _ (core : CoreView) (is : IsCore core) (snapshot : Snapshot) (plannable :
       → told_of (if b then record answer { verdict = Passed answer.change.start core.cycle; trail = []; made = None } else answer)
       ≡ (if b then record { from = snapshot.state.cycle; verdict = Passed answer.change.start core.cycle; trail = [] }
       else record { from = snapshot.state.cycle; verdict = answer.verdict; trail = answer.trail })
-  answer-by true = ap (λ (n : ℕ). record { from = n; verdict = Passed answer.change.start core.cycle; trail = [] }) planned.from
-  answer-by false = ap (λ (n : ℕ). record { from = n; verdict = answer.verdict; trail = answer.trail }) planned.from
+  answer-by b = grind (arith, planned)
 
   pub by-plan : DueLaw → (made : Option Made) → IsAnswerNow (answer_at core.cycle answer) made
       → IsSettledByPlan core (view snapshot answer) (told_of (answer_at core.cycle answer))
   by-plan taken made now =
       let verdict_now : IsVerdict core.rules core.placed snapshot.state.pending snapshot.state.cycle core.cycle answer.change (answer_at core.cycle answer).verdict =
-      subst (λ (n : ℕ). IsVerdict core.rules core.placed snapshot.state.pending n core.cycle answer.change (answer_at core.cycle answer).verdict) planned.from
-      now.verdict_is in
+      grind (arith, common_steps, planned) in
       record {
         led = led;
         same = answer-by (is_passed_by core.cycle answer.change.start answer.verdict);
-        answer = record {
-          from = now.same ∙ planned.from;
-          verdict = verdict_now;
-          trail =
-              now.trail_is
-              ∙ ap
-              (λ (n : ℕ). trail_of (plan_from core.rules (applied core.placed answer.change) n snapshot.state.pending) (answer_at core.cycle answer).verdict)
-              planned.from;
-        };
+        answer = grind (arith, planned);
         due = λ ahead.
             taken core.rules core.placed snapshot.state.pending snapshot.state.cycle core.cycle answer.change (answer_at core.cycle answer).verdict is.safe.in_range
             is.safe.safe.well_placed planned.types led.leads.held led.leads.early ahead verdict_now;
@@ -317,22 +260,12 @@ module _ (core : CoreView) (is : IsCore core) (snapshot : Snapshot) (plannable :
         let none = none-behind front back (accepted_is ∙ ap accepted_of (sym place.begins.1)) in
         let whole_is : placed_of front ≡ whole = sym (same-placed front back none) ∙ ap placed_of place.begins.1 in
         let from_is : now.from ≡ earlier.cycle = by.same ∙ planned.from ∙ ap (λ (s : Snapshot). s.state.cycle) is_of in
-        let first_is : now.from ≡ next_of front = from_is ∙ fo.next in
-        let rules_is : earlier.rules ≡ core.rules = sym (ap (λ (s : Snapshot). s.rules) is_of) ∙ led.rules in
         let list_is : earlier.placed ≡ core.placed = sym (ap (λ (s : Snapshot). s.placed) is_of) ∙ led.placed in
-        let set_is : snapshot.state.pending ≡ pending_at (plan_of core.rules whole) now.from =
-        ap (λ (s : Snapshot). s.state.pending) is_of
-        ∙ fo.waiting
-        ∙ ap (λ (r : Rules). pending_at (plan_of r (placed_of front)) earlier.cycle) rules_is
-        ∙ ap (λ (l : List Placed). pending_at (plan_of core.rules l) earlier.cycle) whole_is
-        ∙ ap (λ (n : ℕ). pending_at (plan_of core.rules whole) n) (sym from_is) in
         let kept : IsHeld core.forgets now.from whole core.placed =
         subst (λ (b : Bool). IsHeld b now.from whole core.placed) place.same
         (subst (λ (n : ℕ). IsHeld earlier.forgets n whole core.placed) (sym from_is)
         (subst (λ (w : List Placed). IsHeld earlier.forgets earlier.cycle w core.placed) whole_is
         (subst (λ (l : List Placed). IsHeld earlier.forgets earlier.cycle (placed_of front) l) list_is fo.held))) in
-        let more = next-append front back in
-        let all : next_of (front ++ back) ≡ next_of history = ap next_of place.begins.1 in
         let room = is.safe.in_range.few_slots in
         let sound = (sound-of_legal core.rules history of.legal).well_placed in
         let decided_now : IsVerdict core.rules core.placed snapshot.state.pending now.from core.cycle answer.change now.verdict =
@@ -344,13 +277,6 @@ module _ (core : CoreView) (is : IsCore core) (snapshot : Snapshot) (plannable :
         verdict-held verdicts trails core.rules whole core.placed sound room answer.change planned.types now.from snapshot.state.pending core.cycle now.verdict
         decided_now core.forgets kept in (
           subst (λ (ch : Change). IsRightAnswer core.rules history ch now.from now.verdict now.trail) (sym by.change_is)
-              (right-by core.rules history whole room refl answer.change now.from now.verdict now.trail planned.types
-              (subst (IsSince history) (sym first_is) (subst (λ (h : List Event). IsSince h (next_of front)) place.begins.1 (since-then front back none)))
-              (omega arith)
-              (subst (λ (n : ℕ). IsVerdict core.rules whole (pending_at (plan_of core.rules whole) now.from) now.from n answer.change now.verdict) of.next
-              (subst (λ (q : ℕ). IsVerdict core.rules whole q now.from core.cycle answer.change now.verdict) set_is on_whole.0))
-              (trail_now
-              ∙ on_whole.1
-              ∙ ap (λ (q : ℕ). trail_of (plan_from core.rules (applied whole answer.change) now.from q) now.verdict) set_is)),
+              (grind (arith, planned, since-then)),
           kept,
         )

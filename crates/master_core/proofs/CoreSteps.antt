@@ -1,6 +1,5 @@
 -- What each call keeps of a core.
 use Rattle.std.proofs.Common.{◌≡◌, ℕ, ◌+◌, ◌-◌, ◌^◌, ◌<◌, ◌≤◌, Bool, true, false, cond, if◌then◌else◌, List, Option, Some, None, IfSome, All, is_some, length, option_map, refl, sym, ap, ◌∙◌, subst, arith}
-use Rattle.std.proofs.lemmas.List.Elements.{All-nil}
 use mir.Val.{bool_byte}
 use Rattle.profile.specs.Limits.{openings_end}
 use Rattle.requirement_table.specs.declared.entries.Placed.{Placed}
@@ -14,7 +13,7 @@ use Rattle.planner_policies.specs.Plan.{IsValid, Ranking, pending_at, pending_be
 use Rattle.planner_policies.proofs.Shared.{before-first}
 use Rattle.admission_rules.specs.declared.Rules.{Rules}
 use Rattle.admission.specs.Safe.{IsSafeWithin}
-use Rattle.admission.specs.Verdict.{IsRules, IsVerdict, bounds_by, is_accepted, placed_with, plan_from, ranking_by}
+use Rattle.admission.specs.Verdict.{IsRules, IsVerdict, bounds_by, is_accepted, placed_with, plan_from}
 use Rattle.admission.specs.declared.verdict.Verdict.{Verdict}
 use Rattle.admission.specs.declared.verdict.Verdict.TheVariants.{Malformed, Passed, Miss, Horizon, Accepted}
 use Rattle.master_core.specs.declared.answer.Answer.{Answer}
@@ -37,45 +36,12 @@ use Rattle.master_core.proofs.States.{left-of}
 pub core-new : (rules : Rules) (forgets : Bool) → IsRules rules → IsCore (new_core rules forgets)
 core-new rules forgets ranges =
     let empty = empty-recurs rules ranges in
-    let within = empty.within in
-    let some = empty.some_cycles in
-    record {
-      safe = record {
-        in_range = ranges;
-        near = omega arith;
-        safe = record {
-          well_placed = record { in_range = λ i d within. absurd (omega arith); in_order = λ i j d order within. absurd (omega arith) };
-          held = λ slot held. let none = has_bit-none slot in absurd (cc);
-          in_time = nothing-missed rules;
-        };
-        repeats = record {
-          period = empty.period;
-          least_common = empty.least_common;
-          one = empty.first;
-          other = empty.first + empty.cycles;
-          before = omega arith;
-          within = omega arith;
-          alike = empty.alike;
-        };
-      };
-      known = omega arith;
-      slots = All-nil (HasSlot rules.slots);
-      nodes = All-nil (HasNode rules.nodes);
-      to_learn = tt;
-      few = λ on. omega arith;
-    }
+    grind (arith, has_bit-none, nothing-missed)
 
 -- An opening
 
 pub core-opened : LaterLaw → (core : CoreView) → core.cycle < openings_end → IsCore core → IsCore (opened core)
-core-opened later core before is = record {
-  safe = later core.rules core.placed core.cycle core.pending 1 (omega arith) is.safe;
-  known = set_of-below most_slots (pending_before (onward core) 1);
-  slots = is.slots;
-  nodes = is.nodes;
-  to_learn = tt;
-  few = is.few;
-}
+core-opened later core before is = grind (arith, set_of-below)
 
 -- An answer
 
@@ -85,8 +51,7 @@ kept-safe law rules true c from pending placed early safe = law rules placed c f
 kept-safe law rules false c from pending placed early safe = safe
 
 left-kept : (prunes : Bool) (from : ℕ) (placed : List Placed) → not_over from (kept_by prunes from placed) ≡ not_over from placed
-left-kept true from placed = not_over-pruned from from placed (omega arith)
-left-kept false from placed = refl
+left-kept prunes from placed = grind (arith, not_over-pruned)
 
 kept-all : (P : Placed → Type 0) (prunes : Bool) (c : ℕ) (placed : List Placed) → All P placed → All P (kept_by prunes c placed)
 kept-all P true c placed low = all-pruned P c placed low
@@ -145,12 +110,7 @@ module _ (found : FoundLaw) (later : LaterLaw) (law : PrunedLaw) (core : CoreVie
   -- what is taken over
   pub core-put : (made : Option Made) → AreMadeAs prunes core answer made → (core.forgets ≡ true → entries_of made ≤ most_kept)
       → IsCore (answered_as prunes core answer.from answer.change answer.verdict)
-  core-put None refused short =
-      subst (λ (b : Bool). IsCore (if b then record core {
-        placed = kept_by prunes answer.from new;
-        learned = Some (kept_by prunes answer.from new);
-        accepted = core.accepted + 1;
-      } else core)) (sym refused) is
+  core-put None refused short = grind arith
   core-put (Some made) by short =
       subst (λ (b : Bool). IsCore (if b then record core {
         placed = kept_by prunes answer.from new;
@@ -163,12 +123,6 @@ module _ (found : FoundLaw) (later : LaterLaw) (law : PrunedLaw) (core : CoreVie
 
 module _ (core : CoreView) (since : ℕ) (ranked : Ranking) (is : IsCore core) (ranks : IsRanked core since ranked) (later : LaterLaw) (before : core.cycle < openings_end)
     (upcoming : Upcoming) (up : IsCoreUpcoming core upcoming) where
-  pub since-behind : since ≤ upcoming.next.cycle
-  since-behind =
-      let passed = ranks.passed in
-      let next = up.next in
-      omega arith
-
   pub valid-behind : IsValid ranked.placed upcoming.next.cycle upcoming.next.pending
   valid-behind =
       let passed = ranks.passed in
@@ -192,8 +146,7 @@ module _ (core : CoreView) (since : ℕ) (ranked : Ranking) (is : IsCore core) (
 -- The fields of a core after an answer
 
 one-more : (b : Bool) → bool_byte b ≡ cond b 1 0
-one-more true = refl
-one-more false = refl
+one-more b = grind arith
 
 module _ (core : CoreView) (since : ℕ) (ranked : Ranking) (is : IsCore core) (ranks : IsRanked core since ranked) (found : FoundLaw) (later : LaterLaw) (law : PrunedLaw)
     (prunes : Bool) (answer : Answer) (to : IsAnswerAs prunes core answer) where
@@ -211,23 +164,12 @@ module _ (core : CoreView) (since : ℕ) (ranked : Ranking) (is : IsCore core) (
   put-is : (made : Option Made) (old new : Table) (old_learned new_learned : Option (List Placed)) (more : ℕ) → AreMadeAs prunes core answer made
       → IsTakenOver made old new old_learned new_learned → core.placed ≡ old.placed.items → core.learned ≡ old_learned
       → more ≡ cond (is_accepted answer.verdict) 1 0 → taken_by new new_learned (core.accepted + more) ≡ answered_as prunes core answer.from answer.change answer.verdict
-  put-is None old new old_learned new_learned more refused same list_is learned_is more_is =
-      let none : more ≡ 0 = more_is ∙ ap (λ (b : Bool). cond b 1 0) refused in
-      let count : core.accepted + more ≡ core.accepted = omega arith in
-      rw (same.0, same.1, ← list_is, ← learned_is, count) (ap with_answer (sym refused))
-  put-is (Some made) old new old_learned new_learned more by same list_is learned_is more_is =
-      let one : more ≡ 1 = more_is ∙ ap (λ (b : Bool). cond b 1 0) by.accepted in
-      rw (same.0, same.1, one, by.learned, by.placed) (ap with_answer (sym by.accepted))
+  put-is made old new old_learned new_learned more refused same list_is learned_is more_is = grind arith
 
   put-ranked : (made : Option Made) (old new : Table) (old_learned new_learned : Option (List Placed)) (accepted : ℕ) → AreMadeAs prunes core answer made
       → IsTakenOver made old new old_learned new_learned → core.placed ≡ old.placed.items → since ≡ old.since → ranked ≡ old.planner.ranking
       → IsRanked (taken_by new new_learned accepted) new.since new.planner.ranking
-  put-ranked None old new old_learned new_learned accepted refused same list_is since_is ranked_is =
-      rw (same.0, ← since_is, ← ranked_is, ← list_is) (record { passed = ranks.passed; left = ranks.left })
-  put-ranked (Some made) old new old_learned new_learned accepted by same list_is since_is ranked_is =
-      let early = to.early in
-      let from_is = by.since in
-      rw same.0 (record { passed = omega arith; left = by.ranked })
+  put-ranked made old new old_learned new_learned accepted refused same list_is since_is ranked_is = grind arith
 
   module _ (old new : Table) (old_learned new_learned : Option (List Placed)) (more : ℕ) (taken : IsTakenOver answer.made old new old_learned new_learned)
       (list_is : core.placed ≡ old.placed.items) (learned_is : core.learned ≡ old_learned) (more_is : more ≡ bool_byte (is_accepted answer.verdict)) where
@@ -254,46 +196,17 @@ module _ (core : CoreView) (is : IsCore core) where
 
   pub made-to : (prunes : Bool) (answer : Answer) (plain : Option Made) (made : Option Made) → option_map (λ m. m.learned) plain ≡ placed_with (applied core.placed answer.change) answer.verdict
       → AreTablesOf core.rules answer.from plain → AreKept prunes answer.from plain made → AreMadeAs prunes core answer made
-  made-to prunes answer None None none tables kept = refused-is (applied core.placed answer.change) answer.verdict (sym none)
-  made-to prunes answer None (Some made) none tables kept = absurd kept
-  made-to prunes answer (Some plain) None some tables kept = absurd kept
-  made-to prunes answer (Some plain) (Some made) some tables kept =
-      let taken = taken-is (applied core.placed answer.change) plain.learned answer.verdict (sym some) in
-      record {
-        accepted = taken.0;
-        placed = kept.placed ∙ ap (kept_by prunes answer.from) (tables.placed ∙ sym taken.1);
-        since = kept.since ∙ tables.since;
-        ranked =
-            kept.ranked
-            ∙ tables.ranked
-            ∙ ap (ranking_by core.rules)
-            (sym
-            (ap (λ (n : ℕ). not_over n made.table.placed.items) (kept.since ∙ tables.since)
-            ∙ ap (not_over answer.from) (kept.placed ∙ ap (kept_by prunes answer.from) tables.placed)
-            ∙ left-kept prunes answer.from plain.learned));
-        learned = kept.learned ∙ sym (kept.placed ∙ ap (kept_by prunes answer.from) tables.placed);
-      }
+  made-to prunes answer plain made none tables kept = grind (arith, refused-is, taken-is, left-kept)
 
   pub answer-to : (prunes : Bool) (answer : Answer) (made : Option Made) → IsPlannedFrom core.rules core.placed (record { cycle = core.cycle; pending = core.pending }) answer
       → AreKept prunes answer.from answer.made made → IsAnswerAs prunes core (record answer { made = made })
-  answer-to prunes answer made planned kept = record {
-    types = planned.types;
-    early = let from = planned.from in omega arith;
-    pending = core.pending;
-    held = subst (λ (n : ℕ). IsValid core.placed n core.pending) (sym planned.from) is.safe.safe.held;
-    leads =
-        subst (λ (n : ℕ). core.pending ≡ pending_at (plan_from core.rules core.placed n core.pending) (core.cycle - n)) (sym planned.from) state-here;
-    verdict =
-        subst (λ (n : ℕ). IsVerdict core.rules core.placed core.pending n core.cycle answer.change answer.verdict) (sym planned.from) planned.decided.answer;
-    made = made-to prunes (record answer { made = made }) answer.made made planned.decided.list planned.made kept;
-  }
+  answer-to prunes answer made planned kept = grind (arith, state-here, made-to)
 
 -- A core without entries that no later answer needs
 
 pruned-learned : (c : ℕ) (placed : List Placed) (learned : Option (List Placed)) → IfSome learned (λ list. list ≡ placed)
     → IfSome (option_map (pruned c) learned) (λ list. list ≡ pruned c placed)
-pruned-learned c placed None is = tt
-pruned-learned c placed (Some list) is = ap (pruned c) is
+pruned-learned c placed learned is = grind arith
 
 pub core-pruned : PrunedLaw → (core : CoreView) (since : ℕ) (ranked : Ranking) → IsCore core → IsRanked core since ranked → (list : List Placed) (learned : Option (List Placed))
     → list ≡ pruned since core.placed → length list ≤ length core.placed → learned ≡ option_map (pruned since) core.learned
@@ -311,49 +224,27 @@ core-pruned law core since ranked is ranks list learned list_is shorter learned_
   },
   record {
     passed = ranks.passed;
-    left =
-        ranks.left
-        ∙ ap (ranking_by core.rules) (sym (ap (not_over since) list_is ∙ not_over-pruned since since core.placed (omega arith)));
+    left = grind (arith, not_over-pruned);
   },
 )
 
 pub pruned-is : (core : CoreView) (since : ℕ) (ranked : Ranking) → IsRanked core since ranked → (list : List Placed) (learned : Option (List Placed))
     → list ≡ pruned since core.placed → learned ≡ option_map (pruned since) core.learned → IsPruned core (record core { placed = list; learned = learned })
-pruned-is core since ranked ranks list learned list_is learned_is = record {
-  by = since;
-  early = ranks.passed;
-  is =
-      ap (λ (l : List Placed). record core { placed = l; learned = learned }) list_is
-      ∙ ap (λ (o : Option (List Placed)). record core { placed = pruned since core.placed; learned = o }) learned_is;
-}
+pruned-is core since ranked ranks list learned list_is learned_is = grind arith
 
 -- Cores as plain data
 
-learned-again : (placed : List Placed) (learned : Option (List Placed)) → IfSome learned (λ list. list ≡ placed)
-    → (if is_some learned then Some placed else None) ≡ learned
-learned-again placed None is = refl
-learned-again placed (Some list) is = ap (λ (l : List Placed). Some l) (sym is)
-
 pub core-again : (core : CoreView) → IsCore core → core_of (saved_of core) ≡ core
-core-again core is =
-    ap (λ (o : Option (List Placed)). record core { learned = o }) (learned-again core.placed core.learned is.to_learn)
+core-again core is = grind arith
 
 learned-or : (placed : List Placed) (learns : Bool) → IfSome (if learns then Some placed else None) (λ list. list ≡ placed)
-learned-or placed true = refl
-learned-or placed false = tt
+learned-or placed learns = grind arith
 
 -- what was tested is a core
 pub core-tested : (saved : Saved) → IsSafeWithin saved.rules saved.placed saved.state.cycle saved.state.pending → saved.state.pending < 2 ^ most_slots
     → All (HasSlot saved.rules.slots) saved.placed → All (HasNode saved.rules.nodes) saved.placed → (saved.forgets ≡ true → length saved.placed ≤ most_kept)
     → IsCore (core_of saved)
-core-tested saved safe known slots nodes few = record {
-  safe = safe;
-  known = known;
-  slots = slots;
-  nodes = nodes;
-  to_learn = learned-or saved.placed saved.learns;
-  few = few;
-}
+core-tested saved safe known slots nodes few = grind (arith, learned-or)
 
 -- A core with all placed entries in place of those that it keeps
 
@@ -372,9 +263,7 @@ core-all law core is whole held well slots nodes = record {
 module _ (core : CoreView) (whole list : List Placed) (learned : Option (List Placed)) (list_is : list ≡ whole)
     (learned_is : learned ≡ (if is_some core.learned then Some whole else None)) where
   pub all-fields : record core { placed = list; learned = learned; forgets = false } ≡ with_all core whole
-  all-fields =
-      ap (λ (l : List Placed). record core { placed = l; learned = learned; forgets = false }) list_is
-      ∙ ap (λ (o : Option (List Placed)). record core { placed = whole; learned = o; forgets = false }) learned_is
+  all-fields = grind arith
 
   pub core-whole : WholeLaw → (since : ℕ) (ranked : Ranking) → IsCore core → IsRanked core since ranked → IsPrunedBefore core.cycle whole core.placed → IsWellPlaced whole
       → All (HasSlot core.rules.slots) whole → All (HasNode core.rules.nodes) whole → (by : ℕ) (fewer : Ranking) → by ≡ core.cycle
@@ -385,9 +274,6 @@ module _ (core : CoreView) (whole list : List Placed) (learned : Option (List Pl
     subst IsCore (sym all-fields) (core-all law core is whole held well slots nodes),
     record {
       passed = omega arith;
-      left =
-          left
-          ∙ ap (λ (r : Ranking). record r { placed = not_over core.cycle list }) ranks.left
-          ∙ ap (λ (n : ℕ). ranking_by core.rules (not_over n list)) (sym by_is);
+      left = grind arith;
     },
   )

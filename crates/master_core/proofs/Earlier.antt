@@ -1,8 +1,8 @@
 -- The cycles that are opened stay as they are, whatever comes later.
-use Rattle.std.proofs.Common.{◌≡◌, ℕ, zero, suc, ◌+◌, ◌<◌, ◌≤◌, cond, List, [], ◌∷◌, ◌++◌, option_map, All, map, refl, sym, ap, ◌∙◌, subst, add-zero, zero-add, arith}
+use Rattle.std.proofs.Common.{◌≡◌, ℕ, zero, suc, ◌+◌, ◌<◌, ◌≤◌, cond, List, [], ◌∷◌, ◌++◌, option_map, All, map, refl, sym, ap, ◌∙◌, add-zero, zero-add, arith}
+use Rattle.std.proofs.lemmas.Grind.{common_steps}
 use Rattle.std.specs.List.{range_with_len}
 use Rattle.std.proofs.lemmas.List.{append-nil, map-append}
-use Rattle.std.proofs.lemmas.List.Elements.{All-append, All-cons, All-nil, All-weaker}
 use Rattle.requirement_table.specs.declared.entries.Placed.{Placed}
 use Rattle.requirement_table.specs.Opening.{Opening}
 use Rattle.requirement_table.specs.Table.{instance_in}
@@ -26,7 +26,6 @@ pub record IsSameBefore (rules : Rules) (next : ℕ) (old new : List Placed) : T
 
 pub same-before : (rules : Rules) (next : ℕ) (old new : List Placed) → IsFelt next old new → IsSameBefore rules next old new
 same-before rules next old new felt =
-    let ahead = felt.ahead in
     record {
       masks = λ c early. mask-unfelt (plan_of rules old) new felt.start felt.changed c (omega arith);
       pending = λ c early. pending_set-unfelt (plan_of rules old) new felt.start felt.changed c (omega arith);
@@ -35,8 +34,7 @@ same-before rules next old new felt =
 
 pub same-of_legal : (rules : Rules) (history : List Event) (event : Event) → IsLegal rules history → IsRight rules history event
     → IsSameBefore rules (next_of history) (placed_of history) (placed_of (history ++ event ∷ []))
-same-of_legal rules history event legal right =
-    same-before rules (next_of history) (placed_of history) (placed_of (history ++ event ∷ [])) (felt-of_legal rules history event legal right)
+same-of_legal rules history event legal right = grind (arith, same-before, felt-of_legal)
 
 -- an opening is of a cycle below `next`, by the plan of a list and with its instances
 pub record IsBy (rules : Rules) (next : ℕ) (placed : List Placed) (o : Opening) : Type 0 where
@@ -50,32 +48,10 @@ pub record AreOpened (rules : Rules) (history : List Event) : Type 0 where
   pub cycles : map (λ o. o.cycle) (openings_of history) ≡ range_with_len 0 (next_of history)
   pub each : All (IsBy rules (next_of history) (placed_of history)) (openings_of history)
 
-still-by : (rules : Rules) (next later : ℕ) (old new : List Placed) (o : Opening) → next ≤ later → IsSameBefore rules next old new → IsBy rules next old o
-    → IsBy rules later new o
-still-by rules next later old new o more same by =
-    let opened = by.opened in
-    record {
-      opened = omega arith;
-      mask = by.mask ∙ sym (same.masks o.cycle opened);
-      instances = λ slot. by.instances slot ∙ sym (same.instances o.cycle slot opened);
-    }
-
 -- the openings that an event is
 fresh : (rules : Rules) (history : List Event) (event : Event) → IsRight rules history event
     → All (IsBy rules (next_of history + cond (is_open event) 1 0) (placed_of (history ++ event ∷ []))) (opening_of history event)
-fresh rules history (Submit caller change from verdict trail) right = λ i d within. absurd (omega arith)
-fresh rules history (Look caller next) right = λ i d within. absurd (omega arith)
-fresh rules history (Open cycle mask) right =
-    let number = right.0 in
-    let stays = sym (placed_of-push history (Open cycle mask)) in
-    let P : Opening → Type 0 = IsBy rules (next_of history + 1) (placed_of (history ++ Open cycle mask ∷ [])) in
-    All-cons P (record { cycle = cycle; mask = mask; placed = placed_of history }) []
-    (record {
-      opened = omega arith;
-      mask = right.1 ∙ ap (λ (l : List Placed). mask_at (plan_of rules l) cycle) stays;
-      instances = λ slot. ap (λ (l : List Placed). option_map without_end (instance_in l slot cycle)) stays;
-    })
-    (All-nil P)
+fresh rules history event right = grind (arith, placed_of-push, option_map)
 
 pub range-more : (a n : ℕ) → range_with_len a (suc n) ≡ range_with_len a n ++ (a + n) ∷ []
 range-more a zero = ap (λ (n : ℕ). n ∷ []) (sym (add-zero a))
@@ -85,8 +61,7 @@ range-more a (suc n) =
 
 none-more : (history : List Event) → map (λ o. o.cycle) (openings_of history) ≡ range_with_len 0 (next_of history)
     → map (λ o. o.cycle) (openings_of history ++ []) ≡ range_with_len 0 (next_of history + 0)
-none-more history was =
-    ap (λ (os : List Opening). map (λ o. o.cycle) os) (append-nil (openings_of history)) ∙ was ∙ ap (λ (n : ℕ). range_with_len 0 n) (sym (add-zero (next_of history)))
+none-more history was = grind (arith, append-nil, add-zero)
 
 numbered : (rules : Rules) (history : List Event) (event : Event) → IsRight rules history event
     → map (λ o. o.cycle) (openings_of history) ≡ range_with_len 0 (next_of history)
@@ -106,22 +81,7 @@ numbered rules history (Open cycle mask) right was =
 opened-more : (rules : Rules) (history : List Event) (event : Event) → IsLegal rules history → AreOpened rules history → IsRight rules history event
     → AreOpened rules (history ++ event ∷ [])
 opened-more rules history event legal opened right =
-    let next = next_of-push history event in
-    let same = same-of_legal rules history event legal right in
-    record {
-      cycles =
-          ap (λ (os : List Opening). map (λ o. o.cycle) os) (openings_of-push history event)
-          ∙ numbered rules history event right opened.cycles
-          ∙ ap (λ (n : ℕ). range_with_len 0 n) (sym next);
-      each =
-          subst (All (IsBy rules (next_of (history ++ event ∷ [])) (placed_of (history ++ event ∷ [])))) (sym (openings_of-push history event))
-          (All-append (IsBy rules (next_of (history ++ event ∷ [])) (placed_of (history ++ event ∷ []))) (openings_of history) (opening_of history event)
-          (All-weaker (IsBy rules (next_of history) (placed_of history)) (IsBy rules (next_of (history ++ event ∷ [])) (placed_of (history ++ event ∷ [])))
-          (λ o by. still-by rules (next_of history) (next_of (history ++ event ∷ [])) (placed_of history) (placed_of (history ++ event ∷ [])) o (omega arith) same by)
-          (openings_of history) opened.each)
-          (subst (λ (n : ℕ). All (IsBy rules n (placed_of (history ++ event ∷ []))) (opening_of history event)) (sym next)
-          (fresh rules history event right)));
-    }
+    grind (arith, common_steps, next_of-push, same-of_legal, openings_of-push, numbered, fresh)
 
 pub opened-of_legal : (rules : Rules) (history : List Event) → IsLegal rules history → AreOpened rules history
 opened-of_legal rules history legal =

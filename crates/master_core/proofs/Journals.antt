@@ -1,5 +1,5 @@
 -- What is kept of a history.
-use Rattle.std.proofs.Common.{◌≡◌, ℕ, ◌+◌, ◌-◌, ◌≤◌, Bool, List, [], ◌∷◌, get_or, length, sym, ap, ◌∙◌, arith}
+use Rattle.std.proofs.Common.{◌≡◌, ℕ, ◌+◌, ◌-◌, ◌≤◌, Bool, List, [], ◌∷◌, get_or, length, ap, ◌∙◌, arith}
 use Rattle.std.proofs.Math.Seq.{get_or-append_right, get_or-append_seam}
 use Rattle.std.proofs.lemmas.List.{length-append}
 use Rattle.master_core.specs.declared.event.Event.{Event}
@@ -9,10 +9,8 @@ use Rattle.master_core.specs.Journals.{AreRecent, IsLast}
 pub last-is : (keeps : Bool) (history recent : List Event) (event : Event) (count : ℕ) → AreRecent keeps history recent → 1 ≤ length history
     → count ≡ length recent → event ≡ get_or recent (count - 1) event → IsLast history event
 last-is keeps history recent event count is some counted at before last ends =
-    let many = is.last some in
     let whole : length history ≡ length before + 1 = ap length ends ∙ length-append before (last ∷ []) in
     let parts : length history ≡ length is.before + length recent = ap length is.is ∙ length-append is.before recent in
     let early : length is.before ≤ length before = omega arith in
     let place : length before - length is.before ≡ count - 1 = omega arith in
-    at ∙ ap (λ (n : ℕ). get_or recent n event) (sym place) ∙ sym (get_or-append_right is.before recent (length before) event early)
-    ∙ ap (λ (l : List Event). get_or l (length before) event) (sym is.is ∙ ends) ∙ get_or-append_seam before last [] event
+    grind (arith, get_or-append_right, get_or-append_seam)

@@ -1,5 +1,6 @@
 -- The entries that a lean master keeps are all placed entries of its history, without some that no later answer needs.
-use Rattle.std.proofs.Common.{◌≡◌, ℕ, ◌+◌, ◌≤◌, Bool, true, false, cond, if◌then◌else◌, List, [], ◌∷◌, ◌++◌, fold, refl, sym, ap, ◌∙◌, subst, append_assoc, arith}
+use Rattle.std.proofs.Common.{◌≡◌, ℕ, ◌+◌, ◌≤◌, Bool, true, false, cond, if◌then◌else◌, List, [], ◌∷◌, ◌++◌, fold, refl, sym, ap, ◌∙◌, append_assoc, arith}
+use Rattle.std.proofs.lemmas.Grind.{common_steps}
 use Rattle.std.proofs.lemmas.List.Sums.{fold-append, sum_by-cons}
 use mathlib.Core.List.{IsPrefix}
 use Rattle.requirement_table.specs.declared.entries.Placed.{Placed}
@@ -13,8 +14,8 @@ use Rattle.admission.specs.Verdict.{is_accepted}
 use Rattle.master_core.specs.declared.event.Event.{Event}
 use Rattle.master_core.specs.declared.event.Event.TheVariants.{Submit, Look, Open}
 use Rattle.master_core.specs.Cores.{IsPrunedBefore}
-use Rattle.master_core.specs.History.{AllAfter, IsLegal, IsRight, IsRightAnswer, IsSince, accepted_of, accepts, next_of, placed_after, placed_of}
-use Rattle.master_core.specs.Kept.{kept_after, kept_behind, kept_of}
+use Rattle.master_core.specs.History.{AllAfter, IsLegal, IsRight, IsSince, accepted_of, accepts, next_of, placed_after, placed_of}
+use Rattle.master_core.specs.Kept.{kept_after, kept_of}
 use Rattle.master_core.proofs.Histories.{kept-along, placed_of-push}
 use Rattle.master_core.proofs.Settling.{none-behind, since-now}
 
@@ -25,13 +26,10 @@ kept_of-push history event = fold-append kept_after [] history (event ∷ [])
 -- Events among which no change was accepted
 
 unchanged-kept : (kept : List Placed) (e : Event) → accepts e ≡ false → kept_after kept e ≡ kept
-unchanged-kept kept (Submit caller change from verdict trail) refused = ap (λ (b : Bool). if b then pruned from (applied kept change) else kept) refused
-unchanged-kept kept (Look caller next) refused = refl
-unchanged-kept kept (Open cycle mask) refused = refl
+unchanged-kept kept e refused = grind arith
 
 none-by : (b : Bool) (n : ℕ) → cond b 1 0 + n ≡ 0 → (b ≡ false) × (n ≡ 0)
-none-by true n is = absurd (omega arith)
-none-by false n is = (refl, omega arith)
+none-by b n is = grind arith
 
 none-in : (e : Event) (es : List Event) → accepted_of (e ∷ es) ≡ 0 → (accepts e ≡ false) × (accepted_of es ≡ 0)
 none-in e es none = none-by (accepts e) (accepted_of es) (sym (sum_by-cons (λ (x : Event). cond (accepts x) 1 0) e es) ∙ none)
@@ -44,13 +42,7 @@ stays-kept kept (e ∷ es) none =
 
 -- where no change was accepted behind a front of the history, the same entries are kept
 pub kept-same : (front history : List Event) → IsPrefix front history → accepted_of front ≡ accepted_of history → kept_of front ≡ kept_of history
-kept-same front history begins same =
-    let back = begins.0 in
-    let none = none-behind front back (same ∙ ap accepted_of (sym begins.1)) in
-    sym
-    (ap kept_of (sym begins.1)
-    ∙ fold-append kept_after [] front back
-    ∙ stays-kept (kept_of front) back none)
+kept-same front history begins same = grind (arith, none-behind, fold-append, stays-kept)
 
 -- What is kept is pruned
 
@@ -67,8 +59,7 @@ pruned-applied from whole list change held = record {
 }
 
 since-before : (before : List Event) (e : Event) (from : ℕ) → IsSince (before ++ e ∷ []) from → IsSince before from
-since-before before e from since front back event is accepted =
-    since front (back ++ e ∷ []) event (ap (λ (h : List Event). h ++ e ∷ []) is ∙ append_assoc front (event ∷ back) (e ∷ [])) accepted
+since-before before e from h0 = grind (arith, append_assoc)
 
 -- the kept entries are the placed ones, pruned by a cycle that is not above any one from which a change can be planned
 abbrev AreKeptOf : List Event → Type 0
@@ -86,9 +77,7 @@ kept-answer before change f verdict kept since opened false from ahead still = k
 
 behind-event : (from : ℕ) (before : List Event) (event : Event) → IsPrunedBefore from (placed_after (placed_of before) event) (kept_after (kept_of before) event)
     → IsPrunedBefore from (placed_of (before ++ event ∷ [])) (kept_of (before ++ event ∷ []))
-behind-event from before event held =
-    subst (λ (l : List Placed). IsPrunedBefore from l (kept_of (before ++ event ∷ []))) (sym (placed_of-push before event))
-    (subst (λ (l : List Placed). IsPrunedBefore from (placed_after (placed_of before) event) l) (sym (kept_of-push before event)) held)
+behind-event from before event held = grind (arith, placed_of-push, kept_of-push)
 
 kept-step : (rules : Rules) (before : List Event) (event : Event) → AllAfter (IsRight rules) [] before → AreKeptOf before → IsRight rules before event
     → AreKeptOf (before ++ event ∷ [])
@@ -97,10 +86,8 @@ kept-step rules before (Submit caller change f verdict trail) was kept right fro
     (kept-answer before change f verdict kept right.since right.opened (is_accepted verdict) from
     (λ accepted. since before [] (Submit caller change f verdict trail) refl accepted)
     (since-before before (Submit caller change f verdict trail) from since))
-kept-step rules before (Look caller next) was kept right from since =
-    behind-event from before (Look caller next) (kept from (since-before before (Look caller next) from since))
-kept-step rules before (Open cycle mask) was kept right from since =
-    behind-event from before (Open cycle mask) (kept from (since-before before (Open cycle mask) from since))
+kept-step rules before (Look caller next) was kept right from since = grind (arith, common_steps, behind-event, since-before)
+kept-step rules before (Open cycle mask) was kept right from since = grind (arith, common_steps, behind-event, since-before)
 
 kept-none : AreKeptOf []
 kept-none from since = record { by = 0; early = omega arith; is = refl }

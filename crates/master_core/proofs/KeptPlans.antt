@@ -1,9 +1,8 @@
 -- A change that was planned apart from a lean master is answered after what came meanwhile.
-use Rattle.std.proofs.Common.{◌≡◌, ℕ, ◌+◌, ◌-◌, ◌≤◌, Bool, true, false, if◌then◌else◌, List, [], ◌∷◌, ◌++◌, Option, Some, None, Result, Ok, Err, IfOk, OnOk, All, is_some, refl, sym, ap, ◌∙◌, subst, zero-add, arith}
+use Rattle.std.proofs.Common.{◌≡◌, ℕ, ◌+◌, ◌-◌, ◌≤◌, Bool, true, false, if◌then◌else◌, List, [], ◌∷◌, ◌++◌, Option, Some, None, Result, IfOk, OnOk, All, is_some, refl, sym, ap, ◌∙◌, subst, zero-add, arith}
 use Rattle.std.proofs.lemmas.Bool.{eq-eqb, ne_eqb}
 use Rattle.std.proofs.lemmas.Option.{same_Some}
 use mathlib.Core.List.{IsPrefix}
-use Rattle.requirement_table.specs.declared.entries.Order.{Order}
 use Rattle.requirement_table.specs.declared.entries.Placed.{Placed}
 use Rattle.requirement_table.specs.Table.{IsWellPlaced, instance_in, not_over}
 use Rattle.requirement_table.proofs.Shared.{instance_in-not_over}
@@ -14,7 +13,6 @@ use Rattle.change_protocol.specs.Operations.{HasTypes}
 use Rattle.planner_policies.specs.declared.state.PlanState.{PlanState}
 use Rattle.planner_policies.specs.Plan.{IsValid, pending_at}
 use Rattle.planner_policies.proofs.Shared.{valid-along}
-use Rattle.admission_rules.specs.declared.Rules.{Rules}
 use Rattle.admission.specs.declared.verdict.Verdict.{Verdict}
 use Rattle.admission.specs.declared.verdict.Verdict.TheVariants.{Passed}
 use Rattle.admission.specs.Verdict.{IsVerdict, plan_from, trail_of}
@@ -26,62 +24,37 @@ use Rattle.master_core.specs.declared.event.Event.TheVariants.{Submit}
 use Rattle.master_core.specs.Answers.{AreKept, AreMadeAs, IsAnswerAs, IsPlannedFrom, answer_at, is_passed_by}
 use Rattle.master_core.specs.CorePlans.{CorePlannedView}
 use Rattle.master_core.specs.Cores.{CoreView, IsCore, IsPrunedBefore, IsStateAs}
-use Rattle.master_core.specs.History.{IsRightAnswer, IsSince, accepted_of, is_changed, learned_of, next_of, placed_of, plan_of}
+use Rattle.master_core.specs.History.{IsRightAnswer, IsSince, accepted_of, next_of, placed_of, plan_of}
 use Rattle.master_core.specs.Apart.{IsPlannable, snapshot_of}
 use Rattle.master_core.specs.Kept.{CanSettleKept, IsKeptSnapshotIn, IsSettledAs, all_of, kept_behind, kept_from, lean_of, state_after}
-use Rattle.master_core.specs.Orders.{IsOrder, IsOrderWith}
 use Rattle.master_core.proofs.CorePlans.{submit-same, view}
 use Rattle.master_core.proofs.CoreSteps.{made-to}
 use Rattle.master_core.proofs.Legal.{sound-of_legal, valid-of_legal}
 use Rattle.master_core.proofs.Onward.{later-pending, left-pending}
-use Rattle.master_core.proofs.Settling.{gone, next-append, none-behind, right-by, same-placed, since-then, still}
+use Rattle.master_core.proofs.Settling.{gone, next-append, none-behind, same-placed, since-then, still}
 use Rattle.master_core.proofs.States.{TrailLaw, VerdictLaw, left-of, verdict-held}
 
 -- The state of the plan
 
 same-state : (one other : PlanState) → one.cycle ≡ other.cycle → one.pending ≡ other.pending → one ≡ other
-same-state one other cycle_is pending_is =
-    ap (λ (c : ℕ). record { cycle = c; pending = one.pending }) cycle_is ∙ ap (λ (p : ℕ). record { cycle = other.cycle; pending = p }) pending_is
+same-state one other cycle_is pending_is = grind arith
 
 pub state-is : (history : List Event) (core : CoreView) → IsStateAs true history core → (state : PlanState) → state.cycle ≡ core.cycle → state.pending ≡ core.pending
     → state ≡ state_after core.rules history
-state-is history core of state cycle_is pending_is =
-    same-state state (state_after core.rules history) (cycle_is ∙ of.next)
-    (pending_is ∙ of.waiting ∙ ap (pending_at (plan_of core.rules (placed_of history))) of.next)
+state-is history core of state cycle_is pending_is = grind (arith, same-state)
 
 -- What the nodes are to learn
 
 some-if : (list : List Placed) (b : Bool) → is_some (if b then Some list else None) ≡ b
-some-if list true = refl
-some-if list false = refl
-
-pub learned-then : (history : List Event) (core : CoreView) → IsStateAs true history core → (b : Bool) → b ≡ is_some core.learned
-    → (if b then Some (placed_of history) else None) ≡ learned_of history
-learned-then history core of b is =
-    ap (λ (t : Bool). if t then Some (placed_of history) else None) (is ∙ ap is_some of.to_learn ∙ some-if core.placed (is_changed history))
-
--- the order for nodes that learn all entries is that for others, but for what they are to learn
-pub order-all : (rules : Rules) (history : List Event) (list : List Placed) (order : Order) → IsOrderWith rules history list order
-    → (learned : Option (List Placed)) → learned ≡ learned_of history → IsOrder rules history (record order { learned = learned })
-order-all rules history list order by learned is = record {
-  cycle = by.cycle;
-  mask = by.mask;
-  window = by.window;
-  learned = is;
-  fits = by.fits;
-  slots = by.slots;
-  present = by.present;
-}
+some-if list b = grind arith
 
 -- All placed entries, where all events are kept
 
 pub all-is : (keeps : Bool) (history : List Event) (all : List Placed) → keeps ≡ true → Some all ≡ all_of keeps history → all ≡ placed_of history
-all-is keeps history all on is =
-    same_Some all (placed_of history) (is ∙ ap (λ (b : Bool). if b then Some (placed_of history) else None) on)
+all-is keeps history all on is = grind (arith, same_Some)
 
 pub all-none : (keeps : Bool) (history : List Event) → keeps ≡ true → None ≡ all_of keeps history → ⊥
 all-none keeps history on is =
-    let none : None ≡ Some (placed_of history) = is ∙ ap (λ (b : Bool). if b then Some (placed_of history) else None) on in
     absurd (cc)
 
 -- What is planned from them
@@ -116,21 +89,12 @@ pub told-event : {E : Type 0} (r : Result Verdict E) (old new : List Event) (cal
     → answer.from ≡ from → IfOk r (λ verdict. verdict ≡ answer.verdict)
     → OnOk r (new ≡ old ++ Submit caller answer.change answer.from answer.verdict answer.trail ∷ [])
     → IfOk r (λ verdict. (trail : List ℕ) × (new ≡ old ++ Submit caller change from verdict trail ∷ []))
-told-event (Ok verdict) old new caller change from answer asked first decided is = (
-  answer.trail,
-  is ∙ ap (λ (e : Event). old ++ e ∷ []) (submit-same caller answer.from from answer.change change answer.verdict verdict answer.trail answer.trail asked first (sym decided) refl),
-)
-told-event (Err e) old new caller change from answer asked first decided is = tt
+told-event r old new caller change from answer asked first decided is = grind (arith, submit-same)
 
 pub told-placed : {E : Type 0} (r : Result Verdict E) (old new : List Placed) (change : Change) (from : ℕ) (answer : Answer) → answer.change ≡ change
     → answer.from ≡ from → IfOk r (λ verdict. verdict ≡ answer.verdict) → OnOk r (new ≡ kept_behind old answer.from answer.change answer.verdict)
     → IfOk r (λ verdict. new ≡ kept_behind old from change verdict)
-told-placed (Ok verdict) old new change from answer asked first decided is =
-    is
-    ∙ ap (λ (n : ℕ). kept_behind old n answer.change answer.verdict) first
-    ∙ ap (λ (ch : Change). kept_behind old from ch answer.verdict) asked
-    ∙ ap (λ (v : Verdict). kept_behind old from change v) (sym decided)
-told-placed (Err e) old new change from answer asked first decided is = tt
+told-placed r old new change from answer asked first decided is = grind arith
 
 -- a state that can be planned from can be planned from in another list of which the same entries are not over
 pub valid-alike : (cycle : ℕ) (one other : List Placed) (pending : ℕ) → not_over cycle other ≡ not_over cycle one → IsValid one cycle pending → IsValid other cycle pending
@@ -147,8 +111,7 @@ valid-alike cycle one other pending left valid slot in' =
     }
 
 none-kept : (from : ℕ) (made : Option Made) → AreKept true from None made → made ≡ None
-none-kept from None kept = refl
-none-kept from (Some made) kept = absurd kept
+none-kept from made kept = grind arith
 
 module _ (core : CoreView) (is : IsCore core) (history : List Event) (of : IsStateAs true history core) where
   abbrev whole : List Placed
@@ -172,13 +135,7 @@ module _ (core : CoreView) (is : IsCore core) (history : List Event) (of : IsSta
   pub answered-anew : (change : Change) (first : ℕ) (answer : Answer) → IsAnswerAs true core answer → answer.change ≡ change → answer.from ≡ core.cycle
       → first ≡ next_of history → IsRightAnswer core.rules history answer.change answer.from answer.verdict answer.trail
       → IsSettledAs history core change first answer
-  answered-anew change first answer to asked from_is first_is right = record {
-    asked = asked;
-    first = from_is ∙ of.next ∙ sym first_is;
-    to = to;
-    held = subst (λ (n : ℕ). IsPrunedBefore n whole core.placed) (sym from_is) of.held;
-    right = right;
-  }
+  answered-anew change first answer to asked from_is first_is right = grind arith
 
   -- an answer that was planned from an earlier cycle, behind which no change was accepted
   module _ (answer : Answer) (types : All HasTypes answer.change.ops) (early : answer.from ≤ core.cycle) (since : IsSince history answer.from)
@@ -196,11 +153,7 @@ module _ (core : CoreView) (is : IsCore core) (history : List Event) (of : IsSta
     leads : core.pending ≡ pending_at (plan_from core.rules core.placed answer.from (set_at answer.from)) (core.cycle - answer.from)
     leads =
         let there : answer.from + (core.cycle - answer.from) ≡ core.cycle = omega arith in
-        of.waiting
-        ∙ ap (pending_at (plan_of core.rules whole)) (sym there)
-        ∙ later-pending (plan_of core.rules whole) answer.from (core.cycle - answer.from)
-        ∙ ap (λ (n : ℕ). pending_at (plan_from core.rules whole n (set_at answer.from)) (core.cycle - answer.from)) (zero-add answer.from)
-        ∙ sym (left-pending core.rules answer.from (set_at answer.from) whole core.placed whole-well is.safe.safe.well_placed left (core.cycle - answer.from))
+        grind (arith, later-pending, zero-add, left-pending, whole-well, left)
 
     opened : answer.from ≤ next_of history
     opened = let next = of.next in omega arith
@@ -210,42 +163,8 @@ module _ (core : CoreView) (is : IsCore core) (history : List Event) (of : IsSta
         (if b then record answer { verdict = Passed answer.change.start core.cycle; trail = []; made = None } else answer).made made
         → IsSettledAs history core answer.change answer.from
         (record (if b then record answer { verdict = Passed answer.change.start core.cycle; trail = []; made = None } else answer) { made = made })
-    settle-by made true passed kept = record {
-      asked = refl;
-      first = refl;
-      to = record {
-        types = types;
-        early = early;
-        pending = set_at answer.from;
-        held = valid;
-        leads = leads;
-        verdict = gone core.rules core.placed (set_at answer.from) answer.from core.cycle answer.change early answer.verdict passed decided;
-        made =
-            subst (λ (o : Option Made). AreMadeAs true core (record answer { verdict = Passed answer.change.start core.cycle; trail = []; made = made }) o)
-            (sym (none-kept answer.from made kept)) refl;
-      };
-      held = held;
-      right = right-by core.rules history whole is.safe.in_range.few_slots refl answer.change answer.from (Passed answer.change.start core.cycle) [] types since opened
-          (subst (λ (n : ℕ). IsVerdict core.rules whole (set_at answer.from) answer.from n answer.change (Passed answer.change.start core.cycle)) of.next
-          (gone core.rules whole (set_at answer.from) answer.from core.cycle answer.change early answer.verdict passed right)) refl;
-    }
-    settle-by made false ahead kept = record {
-      asked = refl;
-      first = refl;
-      to = record {
-        types = types;
-        early = early;
-        pending = set_at answer.from;
-        held = valid;
-        leads = leads;
-        verdict = still core.rules core.placed (set_at answer.from) answer.from core.cycle answer.change early answer.verdict ahead decided;
-        made = makes made kept;
-      };
-      held = held;
-      right = right-by core.rules history whole is.safe.in_range.few_slots refl answer.change answer.from answer.verdict answer.trail types since opened
-          (subst (λ (n : ℕ). IsVerdict core.rules whole (set_at answer.from) answer.from n answer.change answer.verdict) of.next
-          (still core.rules whole (set_at answer.from) answer.from core.cycle answer.change early answer.verdict ahead right)) plan;
-    }
+    settle-by made true passed kept = grind (arith, valid, leads, gone, none-kept, opened)
+    settle-by made false ahead kept = grind (arith, valid, leads, still, opened)
 
     pub settled-at : (made : Option Made) → AreKept true (answer_at core.cycle answer).from (answer_at core.cycle answer).made made
         → IsSettledAs history core answer.change answer.from (record (answer_at core.cycle answer) { made = made })
@@ -261,11 +180,7 @@ module _ (core : CoreView) (is : IsCore core) (history : List Event) (of : IsSta
     whole-is = sym (same-placed front begins.0 none) ∙ ap placed_of begins.1
 
     pub early-then : answer.from ≤ core.cycle
-    early-then =
-        let more = next-append front begins.0 in
-        let all : next_of (front ++ begins.0) ≡ next_of history = ap next_of begins.1 in
-        let next = of.next in
-        omega arith
+    early-then = grind (arith, next-append)
 
     pub since-here : IsSince history answer.from
     since-here = subst (IsSince history) (sym from-is) (subst (λ (h : List Event). IsSince h (next_of front)) begins.1 (since-then front begins.0 none))
@@ -273,28 +188,18 @@ module _ (core : CoreView) (is : IsCore core) (history : List Event) (of : IsSta
     pub decided-then : (list : List Placed)
         → IsVerdict core.rules list (pending_at (plan_of core.rules (placed_of front)) (next_of front)) (next_of front) (next_of front) answer.change answer.verdict
         → IsVerdict core.rules list (set_at answer.from) answer.from answer.from answer.change answer.verdict
-    decided-then list decided =
-        subst (λ (n : ℕ). IsVerdict core.rules list (set_at n) n n answer.change answer.verdict) (sym from-is)
-        (subst (λ (w : List Placed). IsVerdict core.rules list (pending_at (plan_of core.rules w) (next_of front)) (next_of front) (next_of front) answer.change answer.verdict)
-        whole-is decided)
+    decided-then list decided = grind (arith, whole-is)
 
     pub trail-then : (list : List Placed)
         → answer.trail ≡ trail_of (plan_from core.rules (applied list answer.change) (next_of front) (pending_at (plan_of core.rules (placed_of front)) (next_of front))) answer.verdict
         → answer.trail ≡ trail_of (plan_from core.rules (applied list answer.change) answer.from (set_at answer.from)) answer.verdict
-    trail-then list plan =
-        plan
-        ∙ ap (λ (w : List Placed). trail_of (plan_from core.rules (applied list answer.change) (next_of front) (pending_at (plan_of core.rules w) (next_of front))) answer.verdict)
-        whole-is
-        ∙ ap (λ (n : ℕ). trail_of (plan_from core.rules (applied list answer.change) n (set_at n)) answer.verdict) (sym from-is)
+    trail-then list plan = grind (arith, whole-is)
 
   -- an answer that was planned from the kept entries
   module _ (verdicts : VerdictLaw) (trails : TrailLaw) (snapshot : Snapshot) (answer : Answer) (was : IsPlannedFrom snapshot.rules snapshot.placed snapshot.state answer)
       (spare : ℕ) (keeps : Bool) (rules_are : snapshot.rules ≡ core.rules) (place : IsKeptSnapshotIn (lean_of core history spare keeps) snapshot) where
     planned : IsPlannedFrom core.rules core.placed (state_after core.rules place.front) answer
-    planned =
-        subst (λ (s : PlanState). IsPlannedFrom core.rules core.placed s answer) place.state
-        (subst (λ (l : List Placed). IsPlannedFrom core.rules l snapshot.state answer) place.same
-        (subst (λ (r : Rules). IsPlannedFrom r snapshot.placed snapshot.state answer) rules_are was))
+    planned = grind arith
 
     held-then : IsPrunedBefore answer.from whole core.placed
     held-then =
@@ -320,10 +225,7 @@ moved : (history : List Event) (core : CoreView) (change : Change) (first other 
 moved history core change first other answer same by = subst (λ (n : ℕ). IsSettledAs history core change n answer) same by
 
 pub from-then : (history : List Event) (planned : CorePlannedView) → planned.snapshot.accepted ≡ accepted_of history → planned.snapshot.state.cycle ≡ kept_from history planned
-from-then history planned same =
-    sym
-    (ap (λ (b : Bool). if b then planned.snapshot.state.cycle else next_of history)
-    (eq-eqb planned.snapshot.accepted (accepted_of history) same))
+from-then history planned same = grind (arith, planned, eq-eqb)
 
 -- a plan from a snapshot of the kept entries is settled by that plan
 pub kept-by_plan : (core : CoreView) → IsCore core → VerdictLaw → TrailLaw → (snapshot : Snapshot) (answer : Answer) → IsPlannedFrom snapshot.rules snapshot.placed snapshot.state answer
@@ -342,6 +244,5 @@ pub kept-anew : (core : CoreView) → IsCore core → (snapshot : Snapshot) (ans
     → (history : List Event) → IsStateAs true history core → IsSettledAs history core answer.change (kept_from history (view snapshot answer)) anew
 kept-anew core is snapshot answer anew apart to asked from_is right history of =
     answered-anew core is history of answer.change (kept_from history (view snapshot answer)) anew to asked from_is
-    (ap (λ (b : Bool). if b then snapshot.state.cycle else next_of history)
-    (ne_eqb snapshot.accepted (accepted_of history) (λ same. apart (same ∙ sym of.counted))))
+    (grind (arith, ne_eqb))
     (right true history of)

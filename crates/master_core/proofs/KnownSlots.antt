@@ -1,11 +1,11 @@
 -- The placed entries of changes that break no rule have slots and nodes of the rules, and what is planned of them has
 -- slots of the rules.
-use Rattle.std.proofs.Common.{◌≡◌, ℕ, ◌^◌, ◌<◌, ◌≤◌, ◌&&◌, Bool, true, false, nat_le, nat_lt, if◌then◌else◌, Option, Some, None, IsSome, is_none, IfSome, List, [], ◌∷◌, ◌++◌, All, Contains, length, map, refl, ap, ◌∙◌, subst, arith}
-use Rattle.std.specs.List.{cons_option, filter_map, list_any}
+use Rattle.std.proofs.Common.{◌≡◌, ℕ, ◌^◌, ◌<◌, ◌≤◌, ◌&&◌, Bool, true, false, nat_lt, Option, Some, IsSome, is_none, IfSome, List, [], ◌∷◌, ◌++◌, All, Contains, length, map, refl, ◌∙◌, subst, arith}
+use Rattle.std.specs.List.{cons_option, filter_map}
 use Rattle.std.proofs.Math.Bool.{and-false}
 use Rattle.std.proofs.Math.Nat.{lt_of_lt_of_le, pow-le-pow_right}
 use Rattle.std.proofs.lemmas.Bool.{leb-false, lt-ltb}
-use Rattle.std.proofs.lemmas.List.Elements.{All-append, All-cons, All-contains, All-head, All-map, All-nil, All-tail, All-weaker}
+use Rattle.std.proofs.lemmas.List.Elements.{All-append, All-cons, All-head, All-map, All-nil, All-tail}
 use Rattle.requirement_table.specs.declared.entries.Placed.{Placed}
 use Rattle.requirement_table.specs.Instance.{Instance, MaySend}
 use Rattle.bit_sets.specs.Sets.{most_slots, set_of}
@@ -15,10 +15,9 @@ use Rattle.bit_sets.proofs.Shared.{has_bit-set_of, set_of-below, set_of-from_slo
 use Rattle.change_protocol.specs.declared.malformed.Why.{Why}
 use Rattle.change_protocol.specs.declared.operations.Change.{Change}
 use Rattle.change_protocol.specs.declared.operations.Op.{Op}
-use Rattle.change_protocol.specs.declared.operations.Op.TheVariants.{Add, Remove, Change as Changed}
 use Rattle.change_protocol.specs.Applied.{applied, ended, placed_by}
-use Rattle.change_protocol.specs.Malformed.{Bounds, broken, deadline_range, length_range, node_unknown, op_faults, period_zero, places, slot_busy, slot_empty, slot_range, slot_twice, where_holds, whys}
-use Rattle.change_protocol.specs.Operations.{ends, entry_of, slot_of}
+use Rattle.change_protocol.specs.Malformed.{Bounds, broken, op_faults, where_holds, whys}
+use Rattle.change_protocol.specs.Operations.{entry_of, slot_of}
 
 pub both-none : {A : Type 0} (xs ys : List A) → xs ++ ys ≡ [] → (xs ≡ []) × (ys ≡ [])
 both-none [] ys e = (refl, e)
@@ -31,39 +30,15 @@ none-broken op [] e = refl
 none-broken op (why ∷ whys) e = absurd (cc)
 
 not-held : (test : Bool) (why : Why) → where_holds test why ≡ [] → test ≡ false
-not-held false why e = refl
-not-held true why e = absurd (cc)
+not-held test why e = grind arith
 
 -- what the operation asks for: a slot below this number, and where it places an entry, a node below this one
 record IsKnownOp (bounds : Bounds) (op : Op) : Type 0 where
   pub slot : slot_of op < bounds.slots
   pub node : IfSome (entry_of op) (λ entry. entry.node < bounds.nodes)
 
-op-node : (nodes : ℕ) (op : Op) → places (λ entry. nat_le nodes entry.node) op ≡ false → IfSome (entry_of op) (λ entry. entry.node < nodes)
-op-node nodes (Add entry) known = leb-false nodes entry.node known
-op-node nodes (Remove slot) known = tt
-op-node nodes (Changed entry) known = leb-false nodes entry.node known
-
 op-known : (placed : List Placed) (bounds : Bounds) (start : ℕ) (earlier : List Op) (op : Op) → whys placed bounds start earlier op ≡ [] → IsKnownOp bounds op
-op-known placed bounds start earlier op none =
-    let range = slot_range bounds.slots op in
-    let twice = slot_twice earlier op in
-    let node = node_unknown bounds.nodes op in
-    let size = length_range op in
-    let period = period_zero op in
-    let deadline = deadline_range op in
-    let busy = slot_busy placed start op in
-    let first = both-none (range ++ twice ++ node ++ size ++ period ++ deadline ++ busy) (slot_empty placed op) none in
-    let second = both-none (range ++ twice ++ node ++ size ++ period ++ deadline) busy first.0 in
-    let third = both-none (range ++ twice ++ node ++ size ++ period) deadline second.0 in
-    let fourth = both-none (range ++ twice ++ node ++ size) period third.0 in
-    let fifth = both-none (range ++ twice ++ node) size fourth.0 in
-    let sixth = both-none (range ++ twice) node fifth.0 in
-    let seventh = both-none range twice sixth.0 in
-    record {
-      slot = leb-false bounds.slots (slot_of op) (not-held _ _ seventh.0);
-      node = op-node bounds.nodes op (not-held _ _ sixth.1);
-    }
+op-known placed bounds start earlier op none = grind (arith, both-none, leb-false, not-held)
 
 ops-known : (placed : List Placed) (bounds : Bounds) (start : ℕ) (earlier ops : List Op) → op_faults placed bounds start earlier ops ≡ [] → All (IsKnownOp bounds) ops
 ops-known placed bounds start earlier [] none = All-nil (IsKnownOp bounds)
@@ -82,13 +57,8 @@ HasNode nodes p = p.entry.node < nodes
 
 -- what holds of an entry whatever its end is, and of each entry that an operation places, holds of all after a change
 module _ (P : Placed → Type 0) (stays : (start : ℕ) (p : Placed) → P p → P (record p { end = Some start })) where
-  ended-by : (start : ℕ) (b : Bool) (p : Placed) → P p → P (if b then record p { end = Some start } else p)
-  ended-by start true p here = stays start p here
-  ended-by start false p here = here
-
   one-more : (o : Option Placed) (list : List Placed) → IfSome o P → All P list → All P (cons_option o list)
-  one-more None list one rest = rest
-  one-more (Some p) list one rest = All-cons P p list one rest
+  one-more o list one rest = grind arith
 
   module _ (bounds : Bounds) (new : (placed : List Placed) (start : ℕ) (op : Op) → IsKnownOp bounds op → IfSome (placed_by placed start op) P) where
     new-placed : (start : ℕ) (placed : List Placed) (ops : List Op) → All (IsKnownOp bounds) ops → All P (filter_map (placed_by placed start) ops)
@@ -102,19 +72,14 @@ module _ (P : Placed → Type 0) (stays : (start : ℕ) (p : Placed) → P p →
     all-applied placed change none before =
         All-append P (map (ended change.start change.ops) placed) (filter_map (placed_by placed change.start) change.ops)
         (All-map P (ended change.start change.ops) placed
-        (All-weaker P (λ p. P (ended change.start change.ops p))
-        (λ p here. ended-by change.start (is_none p.end && list_any (ends p.entry.slot) change.ops) p here) placed before))
+        (grind (arith, is_none)))
         (new-placed change.start placed change.ops (ops-known placed bounds change.start [] change.ops none))
 
 new-slot : (bounds : Bounds) (placed : List Placed) (start : ℕ) (op : Op) → IsKnownOp bounds op → IfSome (placed_by placed start op) (HasSlot bounds.slots)
-new-slot bounds placed start (Add entry) known = known.slot
-new-slot bounds placed start (Remove slot) known = tt
-new-slot bounds placed start (Changed entry) known = known.slot
+new-slot bounds placed start op known = grind arith
 
 new-node : (bounds : Bounds) (placed : List Placed) (start : ℕ) (op : Op) → IsKnownOp bounds op → IfSome (placed_by placed start op) (HasNode bounds.nodes)
-new-node bounds placed start (Add entry) known = known.node
-new-node bounds placed start (Remove slot) known = tt
-new-node bounds placed start (Changed entry) known = known.node
+new-node bounds placed start op known = grind arith
 
 -- the placed entries after a change that breaks no rule
 pub slots-applied : (placed : List Placed) (bounds : Bounds) (change : Change) → op_faults placed bounds change.start [] change.ops ≡ []
@@ -128,8 +93,7 @@ nodes-applied placed bounds change none low = all-applied (HasNode bounds.nodes)
 -- a set of slots that are all below a number
 
 in-range : (slots slot : ℕ) (b : Bool) → (b ≡ true → slot < slots) → (nat_lt slot slots && b) ≡ b
-in-range slots slot true low = ap (λ (t : Bool). t && true) (lt-ltb slot slots (low refl))
-in-range slots slot false low = and-false (nat_lt slot slots)
+in-range slots slot b low = grind (arith, lt-ltb, and-false, nat_lt)
 
 pub set-below : (slots : ℕ) (p : ℕ → Bool) → slots ≤ most_slots → ((slot : ℕ) → slot < most_slots → p slot ≡ true → slot < slots) → set_of most_slots p < 2 ^ slots
 set-below slots p room low =
@@ -145,8 +109,4 @@ pub instance-slot : (slots slot c : ℕ) (placed : List Placed) → All (HasSlot
 instance-slot slots slot c placed low some = of-instance (instance_in placed slot c) some (instance_in-sound placed slot c)
   where
     of-instance : (o : Option Instance) → IsSome o → IfSome o (λ i. Contains placed i.placed × (i.placed.entry.slot ≡ slot) × MaySend i.placed i.number c) → slot < slots
-    of-instance None some sent = absurd (cc)
-    of-instance (Some i) some sent =
-        let here : i.placed.entry.slot < slots = All-contains (HasSlot slots) placed i.placed low sent.0 in
-        let same = sent.1 in
-        omega arith
+    of-instance o some sent = grind arith

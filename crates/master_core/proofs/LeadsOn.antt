@@ -1,5 +1,5 @@
 -- A plan from a snapshot leads to the core that it was taken of, and behind each opening to the core after it.
-use Rattle.std.proofs.Common.{◌≡◌, ℕ, ◌+◌, ◌-◌, true, false, Bool, if◌then◌else◌, Some, sym, refl, ap, ◌∙◌, subst, arith}
+use Rattle.std.proofs.Common.{◌≡◌, ℕ, ◌+◌, ◌-◌, true, Bool, if◌then◌else◌, Some, sym, ap, ◌∙◌, subst, arith}
 use Rattle.change_protocol.specs.declared.operations.Change.{Change}
 use Rattle.change_protocol.specs.Applied.{applied}
 use Rattle.planner_policies.specs.declared.state.PlanState.{PlanState}
@@ -15,17 +15,7 @@ use Rattle.master_core.proofs.CoreSteps.{state-here}
 use Rattle.master_core.proofs.Onward.{later-pending, later_plan}
 
 pub led-here : (core : CoreView) → IsCore core → IsLedTo core (snapshot_of_core core)
-led-here core is = record {
-  rules = refl;
-  placed = refl;
-  accepted = refl;
-  leads = record {
-    early = omega arith;
-    held = is.safe.safe.held;
-    in_time = λ m slot before known. absurd (omega arith);
-    pending = state-here core is;
-  };
-}
+led-here core is = grind (arith, state-here)
 
 module _ (core : CoreView) (is : IsCore core) (from : PlanState) (leads : Leads core.rules core.placed from (state_of core)) where
   abbrev plan : Planning
@@ -35,11 +25,7 @@ module _ (core : CoreView) (is : IsCore core) (from : PlanState) (leads : Leads 
   gone = core.cycle - from.cycle
 
   goes-on : later_plan plan gone ≡ onward core
-  goes-on =
-      let early = leads.early in
-      let at : from.cycle + (core.cycle - from.cycle) ≡ core.cycle = omega arith in
-      ap (λ (n : ℕ). plan_from core.rules core.placed n (pending_at plan gone)) at
-      ∙ ap (λ (set : ℕ). plan_from core.rules core.placed core.cycle set) (sym leads.pending)
+  goes-on = grind arith
 
   one-more : (core.cycle + 1) - from.cycle ≡ gone + 1
   one-more = let early = leads.early in omega arith
@@ -79,12 +65,8 @@ counted : (core : CoreView) (from : ℕ) (change : Change) (b : Bool) → b ≡ 
       learned = Some (kept_by core.forgets from (applied core.placed change));
       accepted = core.accepted + 1;
     } else core).accepted ≡ core.accepted + 1
-counted core from change true on = refl
-counted core from change false on = absurd (cc)
+counted core from change b on = grind arith
 
 pub not-led : (core : CoreView) (snapshot : Snapshot) (from : ℕ) (change : Change) (verdict : Verdict) → is_accepted verdict ≡ true → IsLedTo core snapshot
     → IsLedTo (answered_by core from change verdict) snapshot → ⊥
-not-led core snapshot from change verdict taken led again =
-    let before = led.accepted in
-    let behind : snapshot.accepted ≡ core.accepted + 1 = again.accepted ∙ counted core from change (is_accepted verdict) taken in
-    absurd (omega (arith, before, behind))
+not-led core snapshot from change verdict taken led again = grind (arith, counted)

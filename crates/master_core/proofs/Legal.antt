@@ -1,5 +1,5 @@
 -- What holds of every legal history.
-use Rattle.std.proofs.Common.{ℕ, ◌+◌, ◌≤◌, cond, List, [], ◌∷◌, ◌++◌, All, refl, sym, subst, inl, zero-add, arith}
+use Rattle.std.proofs.Common.{ℕ, ◌+◌, ◌≤◌, cond, List, [], ◌∷◌, ◌++◌, All, refl, subst, inl, zero-add, arith}
 use Rattle.std.proofs.Math.Bool.{and-false}
 use Rattle.std.proofs.Math.Nat.{le_trans}
 use Rattle.std.proofs.lemmas.List.Elements.{All-nil}
@@ -87,8 +87,7 @@ after-event rules history (Open cycle mask) sound right = stays rules (next_of h
 
 one-more : (rules : Rules) (history : List Event) (event : Event) → IsSound rules (placed_of history) → IsRight rules history event
     → IsAfter rules (next_of history) (placed_of history) (placed_of (history ++ event ∷ []))
-one-more rules history event sound right =
-    subst (IsAfter rules (next_of history) (placed_of history)) (sym (placed_of-push history event)) (after-event rules history event sound right)
+one-more rules history event sound right = grind (arith, placed_of-push, after-event)
 
 pub nothing-missed : (rules : Rules) → NeverMisses (plan_of rules [])
 nothing-missed rules m slot known = and-false (left_after (plan_of rules []) (0 + m) (pending_before (plan_of rules []) m) slot)

@@ -1,12 +1,11 @@
 -- The plan of the next cycle of a core, made from the entries that are not over.
-use Rattle.std.proofs.Common.{◌≡◌, ℕ, ◌+◌, ◌^◌, ◌<◌, ◌≤◌, Bool, true, not, Option, Some, None, IsSome, All, refl, sym, ap, ◌∙◌, subst, arith}
+use Rattle.std.proofs.Common.{◌≡◌, ℕ, ◌+◌, ◌^◌, ◌<◌, ◌≤◌, true, not, Option, Some, IsSome, All, refl, sym, ap, ◌∙◌, subst, arith}
 use Rattle.std.proofs.lemmas.List.Elements.{All-filter}
 use Rattle.bit_sets.specs.Sets.{has_bit, set_of, most_slots}
-use Rattle.requirement_table.specs.Table.{IsWellPlaced, instance_in, is_over, not_over, width_in, worst_in}
-use Rattle.requirement_table.specs.Instance.{Instance, worst_of}
+use Rattle.requirement_table.specs.Table.{IsWellPlaced, instance_in, is_over, not_over, width_in}
+use Rattle.requirement_table.specs.Instance.{Instance}
 use Rattle.requirement_table.proofs.Shared.{instance_in-not_over, not_over-well_placed, releases_in-not_over}
 use Rattle.bit_sets.proofs.Shared.{set_of-same, sum_where-same, sum_where-costs, set_of-has}
-use Rattle.std.specs.Option.{option_map_or}
 use Rattle.planner_policies.specs.declared.state.PlanState.{PlanState}
 use Rattle.planner_policies.specs.Plan.{HasNoMissIn, IsValid, Ranking, left_after, mask_at, pending_at, pending_before, planned_in, planning_of}
 use Rattle.planner_policies.proofs.Shared.{AreAlike, alike-from_same, before-first, before-next, left-alike, missed-alike, planned-alike, planned-fits, planned-sendable}
@@ -15,8 +14,7 @@ use Rattle.master_core.specs.Cores.{CoreView, IsCore, IsCoreOrder, IsCoreUpcomin
 use Rattle.master_core.proofs.KnownSlots.{HasSlot, instance-slot, set-below}
 
 some-is : (o : Option Instance) → IsSome o → (i : Instance) × (o ≡ Some i)
-some-is None some = absurd (cc)
-some-is (Some i) some = (i, refl)
+some-is o some = grind arith
 
 module _ (core : CoreView) (since : ℕ) (ranked : Ranking) (is : IsCore core) (ranks : IsRanked core since ranked) where
   abbrev not_yet_over : Ranking
@@ -26,26 +24,13 @@ module _ (core : CoreView) (since : ℕ) (ranked : Ranking) (is : IsCore core) (
   here = omega arith
 
   alike : AreAlike core.rules.policy core.placed (not_over since core.placed) (core.cycle + 0) core.cycle
-  alike =
-      let passed = ranks.passed in
-      let later : since ≤ core.cycle + 0 = omega arith in
-      alike-from_same core.rules.policy core.placed (not_over since core.placed) (core.cycle + 0) core.cycle (sym here)
-      (λ slot known. instance_in-not_over since core.placed slot (core.cycle + 0) later)
-      (λ slot known. releases_in-not_over since core.placed slot (core.cycle + 0) is.safe.safe.well_placed later)
+  alike = grind (arith, alike-from_same, here, instance_in-not_over, releases_in-not_over)
 
   agree : (slot : ℕ) → slot < most_slots → has_bit core.pending slot ≡ pending_before (onward core) 0 slot
   agree slot known = sym (before-first (onward core) slot)
 
   pub ranked-valid : IsValid ranked.placed core.cycle core.pending
-  ranked-valid =
-      subst (λ (r : Ranking). IsValid r.placed core.cycle core.pending) (sym ranks.left)
-      (λ slot held.
-      let of_list = is.safe.safe.held slot held in
-      record {
-        instance = of_list.instance;
-        found = instance_in-not_over since core.placed slot core.cycle ranks.passed ∙ of_list.found;
-        before = of_list.before;
-      })
+  ranked-valid = grind (arith, instance_in-not_over)
 
   pub ranked-in_time : HasNoMissIn (planning_of ranked core.rules.window core.cycle core.pending) core.cycle (has_bit core.pending)
   ranked-in_time =
@@ -65,12 +50,7 @@ module _ (core : CoreView) (since : ℕ) (ranked : Ranking) (is : IsCore core) (
   -- what is planned is the plan of all entries
   pub ranked-mask : set_of most_slots (planned_in (planning_of ranked core.rules.window core.cycle core.pending) core.cycle (has_bit core.pending))
       ≡ mask_at (onward core) 0
-  ranked-mask =
-      subst
-      (λ (r : Ranking). set_of most_slots (planned_in (planning_of r core.rules.window core.cycle core.pending) core.cycle (has_bit core.pending)) ≡ mask_at (onward core) 0)
-      (sym ranks.left)
-      (set_of-same most_slots (planned_in (planning_of not_yet_over core.rules.window core.cycle core.pending) core.cycle (has_bit core.pending))
-      (planned_in (onward core) (core.cycle + 0) (pending_before (onward core) 0)) planned-here)
+  ranked-mask = grind (arith, set_of-same, planned-here)
 
   pub ranked-left : set_of most_slots (left_after (planning_of ranked core.rules.window core.cycle core.pending) core.cycle (has_bit core.pending))
       ≡ pending_at (onward core) 1
@@ -89,22 +69,10 @@ module _ (core : CoreView) (since : ℕ) (ranked : Ranking) (is : IsCore core) (
   pub ranked-width : width_in ranked.placed core.cycle (planned_in (planning_of ranked core.rules.window core.cycle core.pending) core.cycle (has_bit core.pending))
       ≡ width_in core.placed core.cycle
       (has_bit (set_of most_slots (planned_in (planning_of ranked core.rules.window core.cycle core.pending) core.cycle (has_bit core.pending))))
-  ranked-width =
-      subst
-      (λ (r : Ranking). width_in r.placed core.cycle (planned_in (planning_of r core.rules.window core.cycle core.pending) core.cycle (has_bit core.pending))
-      ≡ width_in core.placed core.cycle
-      (has_bit (set_of most_slots (planned_in (planning_of r core.rules.window core.cycle core.pending) core.cycle (has_bit core.pending)))))
-      (sym ranks.left)
-      (let planned : ℕ → Bool = planned_in (planning_of not_yet_over core.rules.window core.cycle core.pending) core.cycle (has_bit core.pending) in
-      sum_where-costs most_slots planned (worst_in (not_over since core.placed) core.cycle) (worst_in core.placed core.cycle)
-      (λ slot known _. ap (λ (o : Option Instance). option_map_or worst_of o 0) (instance_in-not_over since core.placed slot core.cycle ranks.passed))
-      ∙ sum_where-same most_slots planned (has_bit (set_of most_slots planned)) (worst_in core.placed core.cycle)
-      (λ slot known. sym (set_of-has most_slots planned slot known)))
+  ranked-width = grind (arith, sum_where-costs, instance_in-not_over, sum_where-same, set_of-has)
 
   same-instance : (slot : ℕ) → instance_in ranked.placed slot core.cycle ≡ instance_in core.placed slot core.cycle
-  same-instance slot =
-      subst (λ (r : Ranking). instance_in r.placed slot core.cycle ≡ instance_in core.placed slot core.cycle) (sym ranks.left)
-      (instance_in-not_over since core.placed slot core.cycle ranks.passed)
+  same-instance slot = grind (arith, instance_in-not_over)
 
   ranked-well_placed : IsWellPlaced ranked.placed
   ranked-well_placed = subst (λ (r : Ranking). IsWellPlaced r.placed) (sym ranks.left) (not_over-well_placed since core.placed is.safe.safe.well_placed)
@@ -128,10 +96,7 @@ module _ (core : CoreView) (since : ℕ) (ranked : Ranking) (is : IsCore core) (
   flagged-planned : (mask slot : ℕ)
       → mask ≡ set_of most_slots (planned_in (planning_of ranked core.rules.window core.cycle core.pending) core.cycle (has_bit core.pending)) → slot < most_slots
       → has_bit mask slot ≡ true → planned_in (planning_of ranked core.rules.window core.cycle core.pending) core.cycle (has_bit core.pending) slot ≡ true
-  flagged-planned mask slot by known flagged =
-      let planned : ℕ → Bool = planned_in (planning_of ranked core.rules.window core.cycle core.pending) core.cycle (has_bit core.pending) in
-      sym (ap (λ (q : ℕ). has_bit q slot) by ∙ set_of-has most_slots planned slot known)
-      ∙ flagged
+  flagged-planned mask slot by known flagged = grind (arith, set_of-has)
 
   -- the order of the next cycle
   pub order-is : (mask width : ℕ)

@@ -1,6 +1,6 @@
 -- Plans that begin later, lists of which the same entries are not over, and what an accepted change makes.
-use Rattle.std.proofs.Common.{◌≡◌, ℕ, ◌+◌, ◌-◌, ◌<◌, ◌≤◌, Bool, true, false, if◌then◌else◌, Option, Some, None, option_map, List, [], ◌∷◌, All, refl, sym, ap, ◌∙◌, subst, arith}
-use Rattle.std.proofs.lemmas.List.Elements.{All-cons, All-head, All-tail}
+use Rattle.std.proofs.Common.{◌≡◌, ℕ, ◌+◌, ◌-◌, ◌<◌, ◌≤◌, Bool, if◌then◌else◌, Option, Some, option_map, List, [], ◌∷◌, All, sym, ap, ◌∙◌, subst, arith}
+use Rattle.std.proofs.lemmas.List.Elements.{All-head, All-tail}
 use Rattle.std.proofs.lemmas.Option.{same_Some}
 use Rattle.requirement_table.specs.declared.entries.Placed.{Placed}
 use Rattle.requirement_table.specs.Instance.{Instance, release_of}
@@ -10,7 +10,7 @@ use Rattle.requirement_table.proofs.Shared.{instance_in-not_over, releases_in-no
 use Rattle.bit_sets.proofs.Shared.{set_of-same}
 use Rattle.change_protocol.specs.declared.operations.Change.{Change}
 use Rattle.change_protocol.specs.Applied.{IsChangedAt, applied, without_end}
-use Rattle.change_protocol.specs.Malformed.{IsWellFormed, change_faults, op_faults}
+use Rattle.change_protocol.specs.Malformed.{IsWellFormed}
 use Rattle.change_protocol.specs.Operations.{HasTypes}
 use Rattle.change_protocol.specs.Pruned.{may_go, pruned}
 use Rattle.change_protocol.proofs.Shared.{kept-instance, well_placed-applied}
@@ -31,8 +31,7 @@ abbrev pub later_plan : Planning → ℕ → Planning
 later_plan plan n = record plan { from = plan.from + n; pending = pending_at plan n }
 
 pub later-pending : (plan : Planning) (n m : ℕ) → pending_at plan (n + m) ≡ pending_at (later_plan plan n) m
-later-pending plan n m =
-    set_of-same most_slots (pending_before plan (n + m)) (pending_before (later_plan plan n) m) (λ slot known. on-pending plan n m slot known)
+later-pending plan n m = grind (arith, set_of-same, on-pending)
 
 -- Lists of which the same entries are not over by the first cycle
 
@@ -45,10 +44,7 @@ module _ (rules : Rules) (from pending : ℕ) (one other : List Placed) (first :
       ∙ instance_in-not_over from one slot (from + n) (omega arith)
 
   left-releases : (n slot : ℕ) → releases_in other (from + n) slot ≡ releases_in one (from + n) slot
-  left-releases n slot =
-      sym (releases_in-not_over from other slot (from + n) second (omega arith))
-      ∙ ap (λ (l : List Placed). releases_in l (from + n) slot) left
-      ∙ releases_in-not_over from one slot (from + n) first (omega arith)
+  left-releases n slot = grind (arith, releases_in-not_over)
 
   pub left-pending : (n : ℕ) → pending_at (plan_from rules other from pending) n ≡ pending_at (plan_from rules one from pending) n
   left-pending n =
@@ -71,20 +67,13 @@ module _ (rules : Rules) (from pending : ℕ) (one other : List Placed) (first :
 
 -- a state that can be planned from can be planned from where nothing is over
 pub valid-left : (cycle : ℕ) (list : List Placed) (pending : ℕ) → IsValid list cycle pending → IsValid (not_over cycle list) cycle pending
-valid-left cycle list pending valid slot in' =
-    let held = valid slot in' in
-    record {
-      instance = held.instance;
-      found = instance_in-not_over cycle list slot cycle (omega arith) ∙ held.found;
-      before = held.before;
-    }
+valid-left cycle list pending h0 = grind (arith, instance_in-not_over)
 
 -- Pruned lists
 
 module _ (P : Placed → Type 0) where
   all-if : (b : Bool) (p : Placed) (list : List Placed) → P p → All P list → All P (if b then list else p ∷ list)
-  all-if true p list here all = all
-  all-if false p list here all = All-cons P p list here all
+  all-if b p list here all = grind arith
 
   pub all-pruned : (c : ℕ) (placed : List Placed) → All P placed → All P (pruned c placed)
   all-pruned c [] all = all
@@ -94,26 +83,19 @@ module _ (P : Placed → Type 0) where
 
 some-of : (o : Option Instance) (i : Instance) → option_map without_end o ≡ Some (without_end i)
     → (j : Instance) × (o ≡ Some j) × (release_of j.placed j.number ≡ release_of i.placed i.number)
-some-of None i is = absurd (cc)
-some-of (Some j) i is =
-    let same : without_end j ≡ without_end i = same_Some (without_end j) (without_end i) is in
-    (j, refl, ap (λ (k : Instance). release_of k.placed k.number) same)
+some-of o i is = grind (arith, same_Some)
 
 -- what is pending before the start may still be sent
 held-changed : (start c pending : ℕ) (old new : List Placed) → IsChangedAt start old new → c ≤ start → IsValid old c pending → IsValid new c pending
 held-changed start c pending old new changed early valid slot in' =
     let held = valid slot in' in
-    let before = held.before in
     let found = some-of (instance_in new slot c) held.instance (kept-instance start slot c old new held.instance changed held.found (omega arith)) in
-    let release = found.2 in
-    record { instance = found.0; found = found.1; before = omega arith }
+    grind arith
 
 -- a well formed change makes a well placed list
 pub well_placed-made : (rules : Rules) (placed : List Placed) (change : Change) → rules.slots ≤ most_slots → IsWellPlaced placed → All HasTypes change.ops
     → IsWellFormed placed (bounds_by rules) change → IsWellPlaced (applied placed change)
-well_placed-made rules placed change room well types formed =
-    let parts = both-none (change_faults change.start change.ops) (op_faults placed (bounds_by rules) change.start [] change.ops) formed in
-    well_placed-applied placed (bounds_by rules) change room well parts.0 parts.1 types
+well_placed-made rules placed change room well types formed = grind (arith, both-none, well_placed-applied)
 
 -- what is known of plans that are safe within the horizon, as laws say it
 abbrev pub FoundLaw : Type 0

@@ -1,5 +1,5 @@
 -- Entries that were dropped as over before are dropped as over later too.
-use Rattle.std.proofs.Common.{◌≡◌, ℕ, ◌≤◌, Bool, true, false, cond, not, nat_le, Option, Some, None, List, [], ◌∷◌, filter, refl, sym, ap, ◌∙◌, arith}
+use Rattle.std.proofs.Common.{◌≡◌, ℕ, ◌≤◌, Bool, true, false, cond, not, nat_le, Option, List, [], ◌∷◌, filter, refl, arith}
 use Rattle.std.specs.Option.{option_map_or}
 use Rattle.std.proofs.lemmas.Bool.{false≢true, le-leb, leb-true}
 use Rattle.requirement_table.specs.declared.entries.Placed.{Placed}
@@ -14,8 +14,7 @@ module _ {X : Type 0} (one two : X → Bool) (later : (x : X) → one x ≡ true
 
   again-step : (x : X) (xs : List X) (b : Bool) → one x ≡ b → without_two (without_one xs) ≡ without_two xs
       → without_two (cond (not b) (x ∷ without_one xs) (without_one xs)) ≡ without_two (x ∷ xs)
-  again-step x xs true is same = same ∙ sym (ap (λ (b : Bool). cond (not b) (x ∷ without_two xs) (without_two xs)) (later x is))
-  again-step x xs false is same = ap (λ (l : List X). cond (not (two x)) (x ∷ l) l) same
+  again-step x xs b is same = grind arith
 
   again : (xs : List X) → without_two (without_one xs) ≡ without_two xs
   again [] = refl
@@ -23,8 +22,7 @@ module _ {X : Type 0} (one two : X → Bool) (later : (x : X) → one x ≡ true
 
 over-by : (free : Option ℕ) (early late : ℕ) → early ≤ late → option_map_or (λ from. nat_le from early) free false ≡ true
     → option_map_or (λ from. nat_le from late) free false ≡ true
-over-by None early late before over = absurd (false≢true over)
-over-by (Some from) early late before over = let free = leb-true from early over in le-leb from late (omega (arith, free))
+over-by free early late before over = grind (arith, false≢true, leb-true, le-leb)
 
 pub not_over-again : (early late : ℕ) (placed : List Placed) → early ≤ late → not_over late (not_over early placed) ≡ not_over late placed
 not_over-again early late placed before = again (is_over early) (is_over late) (λ p over. over-by (free_from p) early late before over) placed

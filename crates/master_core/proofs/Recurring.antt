@@ -1,6 +1,6 @@
 -- A planning with a recurrence, and no miss up to it, never misses a deadline.
 use Rattle.std.proofs.Common.{◌≡◌, ℕ, ◌+◌, ◌-◌, ◌*◌, ◌/◌, ◌%◌, ◌≤◌, List, [], ◌∷◌, All, fold, map, max, subst, arith}
-use Rattle.std.proofs.Math.Nat.{div-add-mod', dvd-mul_left, dvd-sub}
+use Rattle.std.proofs.Math.Nat.{dvd-mul_left, dvd-sub}
 use Rattle.std.proofs.lemmas.List.Elements.{All-cons, All-nil}
 use Rattle.std.proofs.lemmas.Nat.Gcd.{dvd_of_mod-eq-zero, dvd_trans, mod-eq-zero_of_dvd}
 use Rattle.requirement_table.specs.declared.entries.Placed.{Placed}
@@ -12,14 +12,11 @@ use Rattle.admission.specs.Recurrence.{AreAlike, IsCommonPeriod, IsRecurrence}
 
 -- what a divisor divides its divisors divide
 divided-along : (small great n : ℕ) → great % small ≡ 0 → n % great ≡ 0 → n % small ≡ 0
-divided-along small great n first second =
-    mod-eq-zero_of_dvd small (dvd_trans small (dvd_of_mod-eq-zero small first) (dvd_of_mod-eq-zero great second))
+divided-along small great n first second = grind (arith, mod-eq-zero_of_dvd, dvd_trans, dvd_of_mod-eq-zero)
 
 -- numbers with the same rest differ by a multiple
 pub divided-gap : (one other length : ℕ) → one ≤ other → one % length ≡ other % length → (other - one) % length ≡ 0
 divided-gap one other length order same =
-    let first = div-add-mod' one length in
-    let second = div-add-mod' other length in
     let gap : other / length * length - one / length * length ≡ other - one = omega arith in
     let divided : (other / length * length - one / length * length) % length ≡ 0 =
     mod-eq-zero_of_dvd length (dvd-sub length (dvd-mul_left length (other / length)) (dvd-mul_left length (one / length))) in
@@ -52,8 +49,6 @@ pub recurring : (plan : Planning) (horizon first length : ℕ) → IsWellPlaced 
     → first + length ≤ plan.from + horizon → NeverMisses plan
 recurring plan horizon first length well none recurrence within =
     let n = recurrence.number in
-    let at = recurrence.at in
-    let some = recurrence.some_cycles in
     never-missed plan n (n + length) well (omega arith)
     (alike-repeats plan recurrence.period n (n + length) (omega arith) recurrence.least_common.common recurrence.alike)
     recurrence.alike.pending (λ m slot early known. none m slot (omega arith) known)

@@ -1,6 +1,6 @@
 -- What was accepted repeats, also behind the cycles that were opened since: within the horizon from each next cycle.
 use Rattle.std.proofs.Common.{◌≡◌, ℕ, ◌+◌, ◌-◌, ◌*◌, ◌/◌, ◌%◌, ◌<◌, ◌≤◌, max, not, ◌&&◌, ◌||◌, Bool, false, cond, List, [], ◌∷◌, ◌++◌, All, refl, sym, ap, ◌∙◌, subst, zero-add, add-zero, arith}
-use Rattle.std.proofs.Math.Nat.{add-mul-mod_self_right, div-add-mod', le_trans}
+use Rattle.std.proofs.Math.Nat.{add-mul-mod_self_right, le_trans}
 use Rattle.requirement_table.specs.declared.entries.Placed.{Placed}
 use Rattle.bit_sets.specs.Sets.{most_slots}
 use Rattle.requirement_table.specs.Table.{IsWellPlaced}
@@ -9,7 +9,7 @@ use Rattle.change_protocol.specs.declared.operations.Change.{Change}
 use Rattle.change_protocol.specs.Applied.{IsChangedAt, applied}
 use Rattle.change_protocol.proofs.Shared.{changed-applied}
 use Rattle.planner_policies.specs.Loop.{RepeatsFrom, settled_at}
-use Rattle.planner_policies.specs.Plan.{Planning, pending_at, pending_before, planned_in}
+use Rattle.planner_policies.specs.Plan.{Planning, pending_at, pending_before}
 use Rattle.planner_policies.proofs.Shared.{before-first, before-next, on-pending}
 use Rattle.admission_rules.specs.declared.Rules.{Rules}
 use Rattle.admission.specs.declared.verdict.Verdict.{Verdict}
@@ -47,46 +47,22 @@ pub record Recurs (rules : Rules) (placed : List Placed) (next : ℕ) : Type 0 w
   pub short : cycles ≤ rules.horizon
   pub within : first + cycles ≤ next + rules.horizon
 
-recurs-later : (rules : Rules) (placed : List Placed) (next later : ℕ) → next ≤ later → Recurs rules placed next → Recurs rules placed later
-recurs-later rules placed next later after recurs =
-    let within = recurs.within in
-    record {
-      period = recurs.period;
-      least_common = recurs.least_common;
-      first = recurs.first;
-      cycles = recurs.cycles;
-      some_cycles = recurs.some_cycles;
-      alike = recurs.alike;
-      short = recurs.short;
-      within = omega arith;
-    }
-
 -- what is pending in the planning that goes on from a cycle
 onward-pending : (rules : Rules) (placed : List Placed) (from pending n : ℕ) → pending ≡ pending_at (plan_of rules placed) from
     → pending_at (plan_of rules placed) (from + n) ≡ pending_at (plan_from rules placed from pending) n
-onward-pending rules placed from pending n left =
-    set_of-same most_slots (pending_before (plan_of rules placed) (from + n)) (pending_before (plan_from rules placed from pending) n)
-    (λ slot known.
-    on-pending (plan_of rules placed) from n slot known
-    ∙ ap (λ (m : ℕ). pending_before (plan_from rules placed m (pending_at (plan_of rules placed) from)) n slot) (zero-add from)
-    ∙ ap (λ (set : ℕ). pending_before (plan_from rules placed from set) n slot) (sym left))
+onward-pending rules placed from pending n left = grind (arith, set_of-same, on-pending, zero-add)
 
 -- an accepted list
 accepted-recurs : (rules : Rules) (old new : List Placed) (start from next first length : ℕ) → IsChangedAt start old new → from ≤ start → from ≤ next
     → IsRecurrence (plan_from rules new from (pending_at (plan_of rules old) from)) first length → first + length ≤ from + rules.horizon
     → Recurs rules new next
 accepted-recurs rules old new start from next first length changed ahead after recurrence within =
-    let at = recurrence.at in
     let number = recurrence.number in
     let alike = recurrence.alike in
-    let settled = alike.one_settled in
-    let again = alike.other_settled in
     let left : pending_at (plan_of rules old) from ≡ pending_at (plan_of rules new) from =
     sym (pending_set-unfelt (plan_of rules old) new start changed from (omega arith)) in
     let one : 0 + first ≡ from + number = omega arith in
     let other : 0 + (first + length) ≡ from + (number + length) = omega arith in
-    let same_one : first ≡ from + number = omega arith in
-    let same_other : first + length ≡ from + (number + length) = omega arith in
     record {
       period = recurrence.period;
       least_common = recurrence.least_common;
@@ -97,12 +73,7 @@ accepted-recurs rules old new start from next first length changed ahead after r
         one_settled = bound-within new from 0 (0 + first) (omega arith) (omega arith);
         other_settled = bound-within new from 0 (0 + (first + length)) (omega arith) (omega arith);
         place = ap (λ n. n % recurrence.period) one ∙ alike.place ∙ ap (λ n. n % recurrence.period) (sym other);
-        pending =
-            ap (pending_at (plan_of rules new)) same_one
-            ∙ onward-pending rules new from (pending_at (plan_of rules old) from) number left
-            ∙ alike.pending
-            ∙ sym (onward-pending rules new from (pending_at (plan_of rules old) from) (number + length) left)
-            ∙ ap (pending_at (plan_of rules new)) (sym same_other);
+        pending = grind (arith, onward-pending);
       };
       short = omega arith;
       within = omega arith;
@@ -126,15 +97,11 @@ recurs-event rules history (Submit caller change from verdict trail) well recurs
     subst (Recurs rules (placed_after (placed_of history) (Submit caller change from verdict trail))) (sym (add-zero (next_of history)))
     (recurs-answer rules history change from verdict trail well recurs right)
 recurs-event rules history (Look caller next) well recurs right = subst (Recurs rules (placed_of history)) (sym (add-zero (next_of history))) recurs
-recurs-event rules history (Open cycle mask) well recurs right =
-    recurs-later rules (placed_of history) (next_of history) (next_of history + 1) (omega arith) recurs
+recurs-event rules history (Open cycle mask) well recurs right = grind arith
 
 recurs-more : (rules : Rules) (history : List Event) (event : Event) → IsWellPlaced (placed_of history) → Recurs rules (placed_of history) (next_of history)
     → IsRight rules history event → Recurs rules (placed_of (history ++ event ∷ [])) (next_of (history ++ event ∷ []))
-recurs-more rules history event well recurs right =
-    subst (λ (list : List Placed). Recurs rules list (next_of (history ++ event ∷ []))) (sym (placed_of-push history event))
-    (subst (λ (n : ℕ). Recurs rules (placed_after (placed_of history) event) n) (sym (next_of-push history event))
-    (recurs-event rules history event well recurs right))
+recurs-more rules history event well recurs right = grind (arith, placed_of-push, next_of-push, recurs-event)
 
 -- no entries
 
@@ -145,34 +112,10 @@ none-before : (rules : Rules) (slot : ℕ) → pending_before (plan_of rules [])
 none-before rules slot = before-first (plan_of rules []) slot ∙ has_bit-none slot
 
 none-behind : (rules : Rules) (slot : ℕ) → pending_before (plan_of rules []) 1 slot ≡ false
-none-behind rules slot =
-    before-next (plan_of rules []) 0 slot
-    ∙ nothing-left (pending_before (plan_of rules []) 0 slot) (planned_in (plan_of rules []) (0 + 0) (pending_before (plan_of rules []) 0) slot)
-    (none-before rules slot)
+none-behind rules slot = grind (arith, before-next, nothing-left, none-before)
 
 pub empty-recurs : (rules : Rules) → IsRules rules → Recurs rules [] 0
-empty-recurs rules ranges =
-    let some = ranges.some_cycles in
-    record {
-      period = 1;
-      least_common = record {
-        common = record { positive = omega arith; divided = λ i d within. absurd (omega arith) };
-        least = λ other common. common.positive;
-      };
-      first = 0;
-      cycles = 1;
-      some_cycles = omega arith;
-      alike = record {
-        one_settled = omega arith;
-        other_settled = omega arith;
-        place = refl;
-        pending =
-            set_of-same most_slots (pending_before (plan_of rules []) 0) (pending_before (plan_of rules []) (0 + 1))
-            (λ slot known. none-before rules slot ∙ sym (none-behind rules slot));
-      };
-      short = omega arith;
-      within = omega arith;
-    }
+empty-recurs rules ranges = grind (arith, set_of-same, none-before, none-behind)
 
 pub recurs-of_legal : (rules : Rules) (history : List Event) → IsRules rules → IsLegal rules history → Recurs rules (placed_of history) (next_of history)
 recurs-of_legal rules history ranges legal =
@@ -187,7 +130,6 @@ GoesRound = (plan : Planning) (n m k slot : ℕ) → IsWellPlaced plan.placed �
 
 same-place : (c more period : ℕ) → more % period ≡ 0 → c % period ≡ (c + more) % period
 same-place c more period divided =
-    let parts = div-add-mod' more period in
     let whole : c + more ≡ c + more / period * period = omega arith in
     sym (ap (λ n. n % period) whole ∙ add-mul-mod_self_right c (more / period) period)
 
@@ -198,23 +140,14 @@ recurs-onward round rules placed next well recurs none =
     let plan = plan_of rules placed in
     let first = recurs.first in
     let d = recurs.cycles in
-    let some = recurs.some_cycles in
     let alike = recurs.alike in
-    let settled = alike.one_settled in
-    let short = recurs.short in
-    let within = recurs.within in
     let at = max first next in
     let n = at - next in
     let k = at - first in
     let repeats = alike-repeats plan recurs.period first (first + d) (omega arith) recurs.least_common.common alike in
     let one : first + k ≡ next + n = omega arith in
     let other : first + d + k ≡ next + (n + d) = omega arith in
-    let pending : pending_at plan (next + n) ≡ pending_at plan (next + (n + d)) =
-    set_of-same most_slots (pending_before plan (next + n)) (pending_before plan (next + (n + d)))
-    (λ slot known.
-    ap (λ m. pending_before plan m slot) (sym one)
-    ∙ sym (round plan first (first + d) k slot well (omega arith) repeats alike.pending known)
-    ∙ ap (λ m. pending_before plan m slot) other) in
+    let pending : pending_at plan (next + n) ≡ pending_at plan (next + (n + d)) = grind (arith, set_of-same) in
     let gap : (0 + (first + d)) - (0 + first) ≡ d = omega arith in
     let divided : d % recurs.period ≡ 0 =
     subst (λ (m : ℕ). m % recurs.period ≡ 0) gap (divided-gap (0 + first) (0 + (first + d)) recurs.period (omega arith) alike.place) in

@@ -3,15 +3,13 @@
 -- others.
 use Rattle.std.proofs.Common.{◌≡◌, ℕ, ◌≤◌, List, [], ◌∷◌, ◌++◌, map, refl, sym, ap, ◌∙◌, subst, append-nil, arith}
 use Rattle.requirement_table.specs.declared.entries.Placed.{Placed}
-use Rattle.change_protocol.specs.Applied.{applied}
 use Rattle.change_protocol.specs.declared.operations.Change.{Change}
-use Rattle.planner_policies.specs.Plan.{mask_at, pending_at}
 use Rattle.admission_rules.specs.declared.Rules.{Rules}
-use Rattle.admission.specs.Verdict.{IsVerdict, plan_from, trail_of}
+use Rattle.admission.specs.Verdict.{IsVerdict}
 use Rattle.admission.specs.declared.verdict.Verdict.{Verdict}
 use Rattle.master_core.specs.declared.event.Event.{Event}
 use Rattle.master_core.specs.declared.event.Event.TheVariants.{Submit, Look, Open}
-use Rattle.master_core.specs.History.{AllAfter, IsPlainlyLegal, IsPlannedNow, IsRight, IsRightAnswer, next_of, placed_of, plan_of}
+use Rattle.master_core.specs.History.{AllAfter, IsPlainlyLegal, IsPlannedNow, IsRight, IsRightAnswer}
 use Rattle.requirement_table.specs.Table.{IsWellPlaced}
 use Rattle.master_core.specs.Orders.{StandsFor}
 use Rattle.change_protocol.specs.declared.operations.Act.TheVariants as act
@@ -34,13 +32,7 @@ pub record SameAnswer (one other : Verdict) (trail second : List ℕ) : Type 0 w
 -- a change that is planned from one cycle has one answer
 pub same-answer : OneVerdict → (rules : Rules) (before : List Event) (change : Change) (from : ℕ) (one other : Verdict) (trail second : List ℕ)
     → IsRightAnswer rules before change from one trail → IsRightAnswer rules before change from other second → SameAnswer one other trail second
-same-answer verdicts rules before change from one other trail second right also =
-    let pending = pending_at (plan_of rules (placed_of before)) from in
-    let verdict = verdicts.same rules (placed_of before) pending from (next_of before) change one other right.answer also.answer in
-    record {
-      verdict = verdict;
-      plan = right.plan ∙ ap (trail_of (plan_from rules (applied (placed_of before) change) from pending)) verdict ∙ sym also.plan;
-    }
+same-answer verdicts rules before change from one other trail second right also = grind arith
 
 -- the caller and the change of a call
 record SameAsked (caller other : ℕ) (change also : Change) : Type 0 where
@@ -54,29 +46,15 @@ same-asked caller other change also is = record { caller_is = cc; change_is = cc
 same-event : OneVerdict → (rules : Rules) (before : List Event) (one other : Event) → call_of one ≡ call_of other
     → IsRight rules before one → IsPlannedNow before one → IsRight rules before other → IsPlannedNow before other → one ≡ other
 same-event verdicts rules before (Submit caller change from verdict trail) (Submit second also later answer plan) calls right now right2 now2 =
-    let same_call = same-asked caller second change also calls in
-    let same_from : later ≡ from = now2 ∙ sym now in
-    let moved : IsRightAnswer rules before change from answer plan =
-    subst (λ f. IsRightAnswer rules before change f answer plan) same_from (subst (λ c. IsRightAnswer rules before c later answer plan) (sym same_call.change_is) right2) in
-    let same = same-answer verdicts rules before change from verdict answer trail plan right moved in
-    let caller_is = same_call.caller_is in
-    let change_is = same_call.change_is in
-    let verdict_is = same.verdict in
-    let plan_is = same.plan in
-    cc
+    grind (arith, same-asked, same-answer)
 same-event verdicts rules before (Submit caller change from verdict trail) (Look second next) calls right now right2 now2 = absurd (cc)
 same-event verdicts rules before (Submit caller change from verdict trail) (Open cycle mask) calls right now right2 now2 = absurd (cc)
 same-event verdicts rules before (Look caller next) (Submit second also later answer plan) calls right now right2 now2 = absurd (cc)
-same-event verdicts rules before (Look caller next) (Look second also) calls right now right2 now2 =
-    let next_is : next ≡ also = right ∙ sym right2 in
-    cc
+same-event verdicts rules before (Look caller next) (Look second also) calls right now right2 now2 = grind arith
 same-event verdicts rules before (Look caller next) (Open cycle mask) calls right now right2 now2 = absurd (cc)
 same-event verdicts rules before (Open cycle mask) (Submit second also later answer plan) calls right now right2 now2 = absurd (cc)
 same-event verdicts rules before (Open cycle mask) (Look second next) calls right now right2 now2 = absurd (cc)
-same-event verdicts rules before (Open cycle mask) (Open later slots) calls right now right2 now2 =
-    let cycle_is : cycle ≡ later = right.0 ∙ sym right2.0 in
-    let mask_is : mask ≡ slots = right.1 ∙ ap (mask_at (plan_of rules (placed_of before))) cycle_is ∙ sym right2.1 in
-    cc
+same-event verdicts rules before (Open cycle mask) (Open later slots) calls right now right2 now2 = grind arith
 
 record SameHeadAndTail (one other : Call) (calls more : List Call) : Type 0 where
   pub head : one ≡ other
@@ -102,8 +80,7 @@ first-events verdicts rules before (x ∷ xs) (y ∷ ys) later calls right now r
 
 pub first-history : OneVerdict → (rules : Rules) (one other : List Event) (later : List Call)
     → map call_of one ++ later ≡ map call_of other → IsPlainlyLegal rules one → IsPlainlyLegal rules other → (rest : List Event) × (other ≡ one ++ rest)
-first-history verdicts rules one other later calls plain plain2 =
-    first-events verdicts rules [] one other later calls plain.legal plain.now plain2.legal plain2.now
+first-history verdicts rules one other later calls plain plain2 = grind (arith, first-events)
 
 -- where the same calls are answered, no event is left
 none-left : (one rest : List Event) → map call_of one ≡ map call_of (one ++ rest) → one ≡ one ++ rest
@@ -122,8 +99,7 @@ same-events verdicts rules before one other calls right now right2 now2 =
 
 pub one-history : OneVerdict → (rules : Rules) (one other : List Event) → map call_of one ≡ map call_of other
     → IsPlainlyLegal rules one → IsPlainlyLegal rules other → one ≡ other
-one-history verdicts rules one other calls plain plain2 =
-    same-events verdicts rules [] one other calls plain.legal plain.now plain2.legal plain2.now
+one-history verdicts rules one other calls plain plain2 = grind (arith, same-events)
 
 -- a list stands for itself from any cycle on
 pub stands-whole : (cycle : ℕ) (list : List Placed) → IsWellPlaced list → StandsFor cycle list list
@@ -131,7 +107,4 @@ stands-whole cycle list well = record { well_placed = well; instances = λ slot 
 
 -- what stands for a list from a cycle on stands for it from each later one on
 pub stands-later : (cycle later : ℕ) (whole list : List Placed) → cycle ≤ later → StandsFor cycle whole list → StandsFor later whole list
-stands-later cycle later whole list after stands = record {
-  well_placed = stands.well_placed;
-  instances = λ slot at behind. stands.instances slot at (omega arith);
-}
+stands-later cycle later whole list after stands = grind arith

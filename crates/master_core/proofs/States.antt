@@ -1,12 +1,11 @@
 -- Cores as the states after histories.
 use Rattle.std.proofs.Common.{◌≡◌, ℕ, ◌+◌, ◌-◌, ◌≤◌, Bool, true, false, cond, if◌then◌else◌, List, [], ◌∷◌, ◌++◌, Option, Some, None, All, is_some, option_map, refl, sym, ap, ◌∙◌, subst, zero-add, add-zero, arith}
+use Rattle.std.proofs.lemmas.Grind.{common_steps}
 use Rattle.requirement_table.specs.declared.entries.Order.{Order}
 use Rattle.requirement_table.specs.declared.entries.Placed.{Placed}
-use Rattle.requirement_table.specs.Instance.{Instance, worst_of}
 use Rattle.bit_sets.specs.Sets.{has_bit, most_slots}
-use Rattle.requirement_table.specs.Table.{IsWellPlaced, instance_in, not_over, width_in, worst_in}
+use Rattle.requirement_table.specs.Table.{IsWellPlaced, instance_in, not_over, width_in}
 use Rattle.bit_sets.proofs.Shared.{set_of-has_bit, set_of-same, sum_where-costs}
-use Rattle.std.specs.Option.{option_map_or}
 use Rattle.change_protocol.specs.declared.operations.Change.{Change}
 use Rattle.change_protocol.specs.Applied.{applied}
 use Rattle.change_protocol.specs.Operations.{HasTypes}
@@ -20,7 +19,7 @@ use Rattle.admission.specs.Verdict.{IsVerdict, is_accepted, plan_from, trail_of}
 use Rattle.master_core.specs.declared.event.Event.{Event}
 use Rattle.master_core.specs.declared.event.Event.TheVariants.{Submit, Look, Open}
 use Rattle.master_core.specs.Cores.{CoreView, IsCore, IsCoreOrder, IsCoreUpcoming, IsHeld, IsPruned, IsStateAs, answered_as, kept_by, new_core, onward, opened, with_all}
-use Rattle.master_core.specs.History.{IsRightAnswer, IsSince, accepted_of, is_changed, learned_of, next_of, placed_of, plan_of}
+use Rattle.master_core.specs.History.{IsRightAnswer, accepted_of, is_changed, learned_of, next_of, placed_of, plan_of}
 use Rattle.master_core.specs.declared.upcoming.Upcoming.{Upcoming}
 use Rattle.master_core.specs.Orders.{IsOrder, IsOrderWith, IsUpcoming, StandsFor, learned_as}
 use Rattle.master_core.proofs.Earlier.{same-of_legal}
@@ -28,16 +27,11 @@ use Rattle.master_core.proofs.Events.{accepted_of-push, not-counted}
 use Rattle.master_core.proofs.Histories.{is_changed-push, legal-push, next_of-push, placed_of-push}
 use Rattle.master_core.proofs.Legal.{sound-of_legal}
 use Rattle.master_core.proofs.Onward.{later-pending, later_plan, left-instances, left-mask, left-pending}
-use Rattle.master_core.proofs.Settling.{right-by, since-now}
+use Rattle.master_core.proofs.Settling.{since-now}
 
 -- what is kept of the placed entries has the same entries that are not over
 pub left-of : (prunes : Bool) (cycle : ℕ) (whole list : List Placed) → IsHeld prunes cycle whole list → not_over cycle list ≡ not_over cycle whole
-left-of true cycle whole list held = ap (not_over cycle) held.is ∙ not_over-pruned held.by cycle whole held.early
-left-of false cycle whole list held = ap (not_over cycle) held
-
-held-later : (prunes : Bool) (cycle later : ℕ) (whole list : List Placed) → cycle ≤ later → IsHeld prunes cycle whole list → IsHeld prunes later whole list
-held-later true cycle later whole list after held = let early = held.early in record { by = held.by; early = omega arith; is = held.is }
-held-later false cycle later whole list after held = held
+left-of prunes cycle whole list held = grind (arith, not_over-pruned)
 
 -- an accepted change is applied to both
 held-applied : (prunes : Bool) (from cycle : ℕ) (whole list : List Placed) (change : Change) → from ≤ cycle → IsHeld prunes from whole list
@@ -65,16 +59,7 @@ pub verdict-held : VerdictLaw → TrailLaw → (rules : Rules) (whole list : Lis
     → IsHeld prunes from whole list
     → IsVerdict rules whole pending from next change verdict
     × (trail_of (plan_from rules (applied list change) from pending) verdict ≡ trail_of (plan_from rules (applied whole change) from pending) verdict)
-verdict-held verdicts trails rules whole list well room change types from pending next verdict decided true held =
-    let on_pruned = subst (λ (l : List Placed). IsVerdict rules l pending from next change verdict) held.is decided in (
-      verdicts rules held.by from pending next whole change verdict held.early well room types on_pruned,
-      ap (λ (l : List Placed). trail_of (plan_from rules (applied l change) from pending) verdict) held.is
-          ∙ trails rules held.by from pending next whole change verdict held.early well room types on_pruned,
-    )
-verdict-held verdicts trails rules whole list well room change types from pending next verdict decided false held = (
-  subst (λ (l : List Placed). IsVerdict rules l pending from next change verdict) held decided,
-  ap (λ (l : List Placed). trail_of (plan_from rules (applied l change) from pending) verdict) held,
-)
+verdict-held verdicts trails rules whole list well room change types from pending next verdict decided prunes held = grind arith
 
 -- a core that was not called yet
 pub state-new : (prunes : Bool) (rules : Rules) (forgets : Bool) → IsStateAs prunes [] (new_core rules forgets)
@@ -90,43 +75,20 @@ state-new prunes rules forgets = record {
 }
   where
     nothing-held : (prunes : Bool) → IsHeld prunes 0 [] []
-    nothing-held true = record { by = 0; early = omega arith; is = refl }
-    nothing-held false = refl
+    nothing-held prunes = grind arith
 
 -- a core that kept all placed entries, with these pruned
 
-option-if : (f : List Placed → List Placed) (list : List Placed) (b : Bool) → option_map f (if b then Some list else None) ≡ (if b then Some (f list) else None)
-option-if f list true = refl
-option-if f list false = refl
-
 pub state-pruned : (history : List Event) (core new : CoreView) → IsStateAs false history core → IsPruned core new → IsStateAs true history new
-state-pruned history core new of by =
-    subst (IsStateAs true history) (sym by.is)
-    (record {
-      legal = of.legal;
-      held = record { by = by.by; early = by.early; is = ap (pruned by.by) of.held };
-      next = of.next;
-      waiting = of.waiting;
-      to_learn = ap (option_map (pruned by.by)) of.to_learn ∙ option-if (pruned by.by) core.placed (is_changed history);
-      counted = of.counted;
-    })
+state-pruned history core new of by = grind (arith, option_map)
 
 -- a core with all placed entries in place of those that it kept
 
 some-if : (list : List Placed) (b : Bool) → is_some (if b then Some list else None) ≡ b
-some-if list true = refl
-some-if list false = refl
+some-if list b = grind arith
 
 pub state-all : (history : List Event) (core : CoreView) → IsStateAs true history core → IsStateAs false history (with_all core (placed_of history))
-state-all history core of = record {
-  legal = of.legal;
-  held = refl;
-  next = of.next;
-  waiting = of.waiting;
-  to_learn =
-      ap (λ (b : Bool). if b then Some (placed_of history) else None) (ap is_some of.to_learn ∙ some-if core.placed (is_changed history));
-  counted = of.counted;
-}
+state-all history core of = grind (arith, is_some, some-if)
 
 module _ (prunes : Bool) (history : List Event) (core : CoreView) (is : IsCore core) (of : IsStateAs prunes history core) where
   abbrev whole : List Placed
@@ -142,9 +104,7 @@ module _ (prunes : Bool) (history : List Event) (core : CoreView) (is : IsCore c
   left = left-of prunes core.cycle whole core.placed of.held
 
   later-is : later_plan (plan_of rules whole) core.cycle ≡ plan_from rules whole core.cycle core.pending
-  later-is =
-      ap (λ (n : ℕ). plan_from rules whole n (pending_at (plan_of rules whole) core.cycle)) (zero-add core.cycle)
-      ∙ ap (λ (q : ℕ). plan_from rules whole core.cycle q) (sym of.waiting)
+  later-is = grind (arith, zero-add)
 
   -- the plan that goes on
   pub masks-are : (n : ℕ) → mask_at (plan_of rules whole) (core.cycle + n) ≡ mask_at (onward core) n
@@ -159,46 +119,27 @@ module _ (prunes : Bool) (history : List Event) (core : CoreView) (is : IsCore c
 
   -- and what it leaves
   pending-is : pending_at (plan_of rules whole) (core.cycle + 1) ≡ pending_at (onward core) 1
-  pending-is =
-      later-pending (plan_of rules whole) core.cycle 1
-      ∙ ap (λ (p : Planning). pending_at p 1) later-is
-      ∙ sym (left-pending rules core.cycle core.pending whole core.placed whole-well is.safe.safe.well_placed left 1)
+  pending-is = grind (arith, later-pending, later-is, left-pending, whole-well, left)
 
   instance-at : (slot at : ℕ) → core.cycle ≤ at → instance_in core.placed slot at ≡ instance_in whole slot at
   instance-at slot at later =
       let there : core.cycle + (at - core.cycle) ≡ at = omega arith in
-      subst (λ (c : ℕ). instance_in core.placed slot c ≡ instance_in whole slot c) there
-      (left-instances rules core.cycle core.pending whole core.placed whole-well is.safe.safe.well_placed left (at - core.cycle) slot)
+      grind (arith, left-instances, whole-well, left)
 
   instance-is : (slot : ℕ) → instance_in core.placed slot core.cycle ≡ instance_in whole slot core.cycle
   instance-is slot = instance-at slot core.cycle (omega arith)
 
   -- the list that is kept stands for the whole one
   pub stands-next : StandsFor (next_of history) whole core.placed
-  stands-next =
-      subst (λ (n : ℕ). StandsFor n whole core.placed) of.next
-      (record { well_placed = is.safe.safe.well_placed; instances = λ slot at later. instance-at slot at later })
+  stands-next = grind (arith, instance-at)
 
   width-is : (slots : ℕ → Bool) → width_in core.placed core.cycle slots ≡ width_in whole core.cycle slots
-  width-is slots =
-      sum_where-costs most_slots slots (worst_in core.placed core.cycle) (worst_in whole core.cycle)
-      (λ slot known _. ap (λ (o : Option Instance). option_map_or worst_of o 0) (instance-is slot))
+  width-is slots = grind (arith, sum_where-costs, instance-is)
 
   -- the order of the core is that of the history, but for what the nodes are to learn
   order-with : (order : Order) → IsCoreOrder core order → (list : List Placed) (learned : Option (List Placed)) → learned ≡ learned_as history list
       → IsOrderWith rules history list (record order { learned = learned })
-  order-with order by list learned learned_is = record {
-    cycle = by.cycle ∙ of.next;
-    mask = by.mask ∙ sym mask-is ∙ ap (mask_at (plan_of rules whole)) of.next;
-    window =
-        by.window ∙ width-is (has_bit order.mask) ∙ ap (λ (n : ℕ). width_in whole n (has_bit order.mask)) of.next;
-    learned = learned_is;
-    fits = by.fits;
-    slots = by.slots;
-    present = λ slot known flagged.
-        let found = by.present slot known flagged in
-        (found.0, subst (λ (n : ℕ). instance_in whole slot n ≡ Some found.0) of.next (sym (instance-is slot) ∙ found.1));
-  }
+  order-with order by list learned learned_is = grind (arith, mask-is, width-is, instance-is)
 
   pub state-order : (order : Order) → IsCoreOrder core order → IsOrder rules history (record order { learned = learned_of history })
   state-order order by = order-with order by whole (learned_of history) refl
@@ -218,50 +159,17 @@ module _ (prunes : Bool) (history : List Event) (core : CoreView) (is : IsCore c
 
   -- what is upcoming after the history is upcoming for the core
   pub core-upcoming : (upcoming : Upcoming) → IsUpcoming rules history upcoming → IsCoreUpcoming core upcoming
-  core-upcoming upcoming by = record {
-    order = record {
-      cycle = refl;
-      mask = by.order.mask ∙ ap (mask_at (plan_of rules whole)) (sym of.next) ∙ mask-is;
-      window =
-          by.order.window
-          ∙ ap (λ (n : ℕ). width_in whole n (has_bit upcoming.mask)) (sym of.next)
-          ∙ sym (width-is (has_bit upcoming.mask));
-      learned = refl;
-      fits = by.order.fits;
-      slots = by.order.slots;
-      present = λ slot known flagged.
-          let found = by.order.present slot known flagged in
-          (found.0, instance-is slot ∙ subst (λ (n : ℕ). instance_in whole slot n ≡ Some found.0) (sym of.next) found.1);
-    };
-    next = by.next ∙ ap (λ (n : ℕ). n + 1) (sym of.next);
-    pending = by.pending ∙ ap (λ (n : ℕ). pending_at (plan_of rules whole) (n + 1)) (sym of.next) ∙ pending-is;
-  }
+  core-upcoming upcoming by = grind (arith, mask-is, width-is, instance-is, pending-is)
 
   -- A look
 
   pub state-looked : (caller : ℕ) → IsStateAs prunes (history ++ Look caller core.cycle ∷ []) core
-  state-looked caller = record {
-    legal = legal-push rules history (Look caller core.cycle) of.legal of.next;
-    held = subst (λ (l : List Placed). IsHeld prunes core.cycle l core.placed) (sym (placed_of-push history (Look caller core.cycle))) of.held;
-    next = of.next ∙ sym (next_of-push history (Look caller core.cycle) ∙ add-zero (next_of history));
-    waiting = of.waiting ∙ ap (λ (l : List Placed). pending_at (plan_of rules l) core.cycle) (sym (placed_of-push history (Look caller core.cycle)));
-    to_learn = of.to_learn ∙ ap (λ (b : Bool). if b then Some core.placed else None) (sym (is_changed-push history (Look caller core.cycle)));
-    counted = not-counted history (Look caller core.cycle) core.accepted refl of.counted;
-  }
+  state-looked caller = grind (arith, legal-push, placed_of-push, next_of-push, add-zero, is_changed-push, not-counted)
 
   -- An opening
 
   pub state-opened : (mask : ℕ) → mask ≡ mask_at (onward core) 0 → IsStateAs prunes (history ++ Open core.cycle mask ∷ []) (opened core)
-  state-opened mask by = record {
-    legal = legal-push rules history (Open core.cycle mask) of.legal (of.next, by ∙ sym mask-is);
-    held =
-        subst (λ (l : List Placed). IsHeld prunes (core.cycle + 1) l core.placed) (sym (placed_of-push history (Open core.cycle mask)))
-        (held-later prunes core.cycle (core.cycle + 1) whole core.placed (omega arith) of.held);
-    next = ap (λ (n : ℕ). n + 1) of.next ∙ sym (next_of-push history (Open core.cycle mask));
-    waiting = sym pending-is ∙ ap (λ (l : List Placed). pending_at (plan_of rules l) (core.cycle + 1)) (sym (placed_of-push history (Open core.cycle mask)));
-    to_learn = ap (λ (b : Bool). if b then Some core.placed else None) (sym (is_changed-push history (Open core.cycle mask)));
-    counted = not-counted history (Open core.cycle mask) core.accepted refl of.counted;
-  }
+  state-opened mask by = grind (arith, legal-push, mask-is, placed_of-push, next_of-push, pending-is, is_changed-push, not-counted)
 
   -- An answer
 
@@ -275,7 +183,6 @@ module _ (prunes : Bool) (history : List Event) (core : CoreView) (is : IsCore c
 
     waiting-then : core.pending ≡ pending_at (plan_of rules (placed_of (history ++ event ∷ []))) core.cycle
     waiting-then =
-        let next = of.next in
         of.waiting ∙ sym ((same-of_legal rules history event of.legal right).pending core.cycle (omega arith))
 
     next-then : core.cycle ≡ next_of (history ++ event ∷ [])
@@ -285,8 +192,7 @@ module _ (prunes : Bool) (history : List Event) (core : CoreView) (is : IsCore c
     changed-then b by = is_changed-push history event ∙ ap (λ (t : Bool). if t then true else is_changed history) by
 
     counted-then : (b : Bool) → is_accepted verdict ≡ b → core.accepted + cond b 1 0 ≡ accepted_of (history ++ event ∷ [])
-    counted-then b by =
-        ap (λ (n : ℕ). n + cond b 1 0) of.counted ∙ sym (accepted_of-push history event ∙ ap (λ (t : Bool). accepted_of history + cond t 1 0) by)
+    counted-then b by = grind (arith, accepted_of-push)
 
     state-by : (b : Bool) → is_accepted verdict ≡ b
         → IsStateAs prunes (history ++ event ∷ [])
@@ -305,14 +211,7 @@ module _ (prunes : Bool) (history : List Event) (core : CoreView) (is : IsCore c
       to_learn = ap (λ (b : Bool). if b then Some (kept_by prunes from (applied core.placed change)) else None) (sym (changed-then true by));
       counted = counted-then true by;
     }
-    state-by false by = record {
-      legal = legal-push rules history event of.legal right;
-      held = subst (λ (l : List Placed). IsHeld prunes core.cycle l core.placed) (sym (placed-by false by)) of.held;
-      next = next-then;
-      waiting = waiting-then;
-      to_learn = of.to_learn ∙ ap (λ (b : Bool). if b then Some core.placed else None) (sym (changed-then false by));
-      counted = sym (add-zero core.accepted) ∙ counted-then false by;
-    }
+    state-by false by = grind (arith, common_steps, legal-push, placed-by, next-then, waiting-then, changed-then, add-zero, counted-then)
 
     pub state-answered : IsStateAs prunes (history ++ event ∷ []) (answered_as prunes core from change verdict)
     state-answered = state-by (is_accepted verdict) refl
@@ -323,11 +222,4 @@ module _ (prunes : Bool) (history : List Event) (core : CoreView) (is : IsCore c
         → IsRightAnswer rules history change core.cycle verdict trail
     state-right trail by =
         let next = of.next in
-        let on_whole =
-        verdict-held verdicts trails rules whole core.placed whole-well is.safe.in_range.few_slots change types core.cycle core.pending core.cycle verdict decided
-        prunes of.held in
-        right-by rules history whole is.safe.in_range.few_slots refl change core.cycle verdict trail types
-        (subst (λ (n : ℕ). IsSince history n) (sym next) (since-now history)) (omega arith)
-        (subst (λ (n : ℕ). IsVerdict rules whole (pending_at (plan_of rules whole) core.cycle) core.cycle n change verdict) next
-        (subst (λ (q : ℕ). IsVerdict rules whole q core.cycle core.cycle change verdict) of.waiting on_whole.0))
-        (by ∙ on_whole.1 ∙ ap (λ (q : ℕ). trail_of (plan_from rules (applied whole change) core.cycle q) verdict) of.waiting)
+        grind (arith, verdict-held, whole-well, since-now)

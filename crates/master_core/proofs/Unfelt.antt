@@ -1,5 +1,5 @@
 -- A plan does not feel a change before its start.
-use Rattle.std.proofs.Common.{◌≡◌, ℕ, zero, suc, ◌+◌, ◌<◌, ◌≤◌, nat_le, List, Option, Some, None, option_map, refl, sym, ap, ◌∙◌, arith}
+use Rattle.std.proofs.Common.{◌≡◌, ℕ, zero, suc, ◌+◌, ◌<◌, ◌≤◌, nat_le, List, Option, option_map, refl, sym, ap, ◌∙◌, arith}
 use Rattle.std.specs.Option.{option_map_or}
 use Rattle.requirement_table.specs.declared.entries.Placed.{Placed}
 use Rattle.requirement_table.specs.Instance.{Instance}
@@ -9,22 +9,14 @@ use Rattle.bit_sets.proofs.Shared.{set_of-same}
 use Rattle.change_protocol.specs.Applied.{IsChangedAt, without_end}
 use Rattle.change_protocol.proofs.Shared.{same-instances, same-last, same-releases, same-worst}
 use Rattle.planner_policies.specs.declared.Policy.{Policy}
-use Rattle.planner_policies.specs.declared.Policy.TheVariants.{Rm, Dm, Edf}
 use Rattle.planner_policies.specs.Plan.{Planning, by_number, is_missed_at, key_in, key_of, mask_at, pending_at, pending_before, planned_at, priority_in}
 use Rattle.planner_policies.proofs.Shared.{AreAlike, before-first, before-next, left-alike, missed-alike, planned-alike}
 
-key-without_end : (policy : Policy) (i : Instance) → key_of policy (without_end i) ≡ key_of policy i
-key-without_end Rm i = refl
-key-without_end Dm i = refl
-key-without_end Edf i = refl
-
 key-endless : (policy : Policy) (o : Option Instance) → option_map_or (key_of policy) (option_map without_end o) 0 ≡ option_map_or (key_of policy) o 0
-key-endless policy None = refl
-key-endless policy (Some i) = key-without_end policy i
+key-endless policy o = grind arith
 
 priority-endless : (o : Option Instance) → option_map_or (λ i. i.placed.entry.priority) (option_map without_end o) 0 ≡ option_map_or (λ i. i.placed.entry.priority) o 0
-priority-endless None = refl
-priority-endless (Some i) = refl
+priority-endless o = grind arith
 
 by-same : (a b p q a' b' p' q' one other : ℕ) → a' ≡ a → b' ≡ b → p' ≡ p → q' ≡ q
     → by_number a' b' (by_number p' q' (nat_le one other)) ≡ by_number a b (by_number p q (nat_le one other))
@@ -44,13 +36,7 @@ module _ (policy : Policy) (start c : ℕ) (old new : List Placed) (changed : Is
       ∙ priority-endless (instance_in old slot c)
 
   pub alike-unfelt : AreAlike policy old new c c
-  alike-unfelt = record {
-    released = λ slot known. same-releases start slot c old new changed early;
-    ordered = λ one other known_one known_other.
-        by-same _ _ _ _ _ _ _ _ one other (key-unfelt one) (key-unfelt other) (priority-unfelt one) (priority-unfelt other);
-    cost = λ slot known. same-worst slot c old new (same-instances start slot c old new changed early);
-    last = λ slot known. same-last slot c old new (same-instances start slot c old new changed early);
-  }
+  alike-unfelt = grind (arith, same-releases, by-same, key-unfelt, priority-unfelt, same-worst, same-instances, same-last)
 
 module _ (plan : Planning) (new : List Placed) (start : ℕ) (changed : IsChangedAt start plan.placed new) where
   pub pending-unfelt : (m slot : ℕ) → plan.from + m ≤ start → slot < most_slots → pending_before (record plan { placed = new }) m slot ≡ pending_before plan m slot
@@ -72,9 +58,7 @@ module _ (plan : Planning) (new : List Placed) (start : ℕ) (changed : IsChange
       (alike-unfelt plan.policy start (plan.from + m) plan.placed new changed within) (λ other below. pending-unfelt m other (omega arith) below) slot known
 
   pub mask-unfelt : (m : ℕ) → plan.from + m < start → mask_at (record plan { placed = new }) m ≡ mask_at plan m
-  mask-unfelt m within =
-      set_of-same most_slots (planned_at (record plan { placed = new }) m) (planned_at plan m) (λ slot known. planned-unfelt m slot within known)
+  mask-unfelt m within = grind (arith, set_of-same, planned-unfelt)
 
   pub pending_set-unfelt : (m : ℕ) → plan.from + m ≤ start → pending_at (record plan { placed = new }) m ≡ pending_at plan m
-  pending_set-unfelt m within =
-      set_of-same most_slots (pending_before (record plan { placed = new }) m) (pending_before plan m) (λ slot known. pending-unfelt m slot within known)
+  pending_set-unfelt m within = grind (arith, set_of-same, pending-unfelt)

@@ -1,23 +1,22 @@
 -- A core that forgets nothing keeps all placed entries of its history.
-use Rattle.std.proofs.Common.{◌≡◌, ℕ, ◌+◌, ◌-◌, ◌≤◌, Bool, true, false, if◌then◌else◌, List, [], ◌∷◌, ◌++◌, Option, Some, None, Result, Ok, Err, IfOk, refl, sym, ap, ◌∙◌, subst, zero-add, arith}
+use Rattle.std.proofs.Common.{◌≡◌, ℕ, ◌+◌, ◌-◌, ◌≤◌, Bool, false, if◌then◌else◌, List, [], ◌∷◌, ◌++◌, Option, Some, None, Result, IfOk, refl, sym, subst, zero-add, arith}
+use Rattle.std.proofs.lemmas.Grind.{common_steps}
 use Rattle.requirement_table.specs.declared.entries.Order.{Order}
 use Rattle.requirement_table.specs.declared.entries.Placed.{Placed}
 use Rattle.requirement_table.specs.Table.{not_over}
 use Rattle.change_protocol.specs.declared.operations.Change.{Change}
-use Rattle.change_protocol.specs.Applied.{applied}
 use Rattle.bit_sets.proofs.Shared.{has_bit-none}
 use Rattle.planner_policies.specs.Plan.{IsValid, pending_at}
 use Rattle.planner_policies.proofs.Shared.{valid-along}
 use Rattle.admission.specs.declared.verdict.Verdict.{Verdict}
-use Rattle.admission.specs.Verdict.{IsVerdict, is_accepted, plan_from, ranking_by}
+use Rattle.admission.specs.Verdict.{is_accepted, ranking_by}
 use Rattle.master_core.specs.declared.answer.Answer.{Answer}
 use Rattle.master_core.specs.declared.answer.Made.{Made}
 use Rattle.master_core.specs.declared.event.Event.{Event}
 use Rattle.master_core.specs.Apart.{snapshot_of}
 use Rattle.master_core.specs.Answers.{AreMadeAs, IsAnswer, IsAnswerAs, IsMade}
 use Rattle.master_core.specs.Cores.{CoreView, IsCore, IsCoreOrder, IsHeld, IsStateAs, IsStateOf, answered_as}
-use Rattle.admission_rules.specs.declared.Rules.{Rules}
-use Rattle.master_core.specs.History.{IsPlainlyLegal, IsPlannedNow, IsRightAnswer, is_changed, learned_of, placed_of, plan_of}
+use Rattle.master_core.specs.History.{IsPlainlyLegal, IsPlannedNow, IsRightAnswer, placed_of, plan_of}
 use Rattle.master_core.specs.Keeping.{IsMasterKept}
 use Rattle.master_core.specs.Orders.{IsOrder}
 use Rattle.master_core.proofs.Histories.{plain-push}
@@ -29,29 +28,14 @@ module _ (history : List Event) (core : CoreView) (is : IsCore core) (of : IsSta
   pub placed-is : core.placed ≡ placed_of history
   placed-is = subst (λ (b : Bool). IsHeld b core.cycle (placed_of history) core.placed) all of.held
 
-  pub learned-is : core.learned ≡ learned_of history
-  learned-is = of.to_learn ∙ ap (λ (l : List Placed). if is_changed history then Some l else None) placed-is
-
   pub whole-state : IsStateAs false history core
   whole-state = subst (λ (b : Bool). IsStateAs b history core) all of
 
   pub whole-kept : IsMasterKept core.rules history core.placed core.cycle (ranking_by core.rules (not_over core.cycle core.placed)) core.cycle core.pending core.learned
-  whole-kept = record {
-    ranges = is.safe.in_range;
-    legal = of.legal;
-    placed = placed-is;
-    next = of.next;
-    near = is.safe.near;
-    waiting = of.waiting ∙ ap (λ (l : List Placed). pending_at (plan_of core.rules l) core.cycle) (sym placed-is);
-    passed = omega arith;
-    left = refl;
-    to_learn = learned-is;
-  }
+  whole-kept = grind (arith, placed-is)
 
   pub whole-order : (order : Order) → IsCoreOrder core order → IsOrder core.rules history order
-  whole-order order by =
-      subst (λ (o : Option (List Placed)). IsOrder core.rules history (record order { learned = o })) (sym (by.learned ∙ learned-is))
-      (state-order core.forgets history core is of order by)
+  whole-order order by = grind (arith, state-order)
 
   -- the state of each cycle can be planned from
   valid-at : (n : ℕ) → IsValid (placed_of history) n (pending_at (plan_of core.rules (placed_of history)) n)
@@ -73,23 +57,11 @@ module _ (history : List Event) (core : CoreView) (is : IsCore core) (of : IsSta
   module _ (answer : Answer) where
     whole-made : (made : Option Made) → AreMadeAs false core answer made → IsMade core.rules history answer made
     whole-made None refused = refused
-    whole-made (Some made) by = record {
-      accepted = by.accepted;
-      placed = by.placed ∙ ap (λ (l : List Placed). applied l answer.change) placed-is;
-      since = by.since;
-      ranked = by.ranked;
-      learned = by.learned;
-    }
+    whole-made (Some made) by = grind (arith, placed-is)
 
     core-made : (made : Option Made) → IsMade core.rules history answer made → AreMadeAs false core answer made
     core-made None refused = refused
-    core-made (Some made) by = record {
-      accepted = by.accepted;
-      placed = by.placed ∙ ap (λ (l : List Placed). applied l answer.change) (sym placed-is);
-      since = by.since;
-      ranked = by.ranked;
-      learned = by.learned;
-    }
+    core-made (Some made) by = grind (arith, placed-is)
 
     pub whole-answer : IsRightAnswer core.rules history answer.change answer.from answer.verdict answer.trail → IsAnswerAs false core answer
         → IsAnswer core.rules history answer
@@ -98,8 +70,6 @@ module _ (history : List Event) (core : CoreView) (is : IsCore core) (of : IsSta
     pub core-answer : IsAnswer core.rules history answer → IsAnswerAs false core answer
     core-answer by =
         let right = by.right in
-        let opened = right.opened in
-        let next = of.next in
         let early : answer.from ≤ core.cycle = omega arith in
         let there : answer.from + (core.cycle - answer.from) ≡ core.cycle = omega arith in
         let set : ℕ = pending_at (plan_of core.rules (placed_of history)) answer.from in
@@ -108,23 +78,15 @@ module _ (history : List Event) (core : CoreView) (is : IsCore core) (of : IsSta
           early = early;
           pending = set;
           held = subst (λ (l : List Placed). IsValid l answer.from set) (sym placed-is) (valid-at answer.from);
-          leads =
-              of.waiting
-              ∙ ap (pending_at (plan_of core.rules (placed_of history))) (sym there)
-              ∙ later-pending (plan_of core.rules (placed_of history)) answer.from (core.cycle - answer.from)
-              ∙ ap (λ (n : ℕ). pending_at (plan_from core.rules (placed_of history) n set) (core.cycle - answer.from)) (zero-add answer.from)
-              ∙ ap (λ (l : List Placed). pending_at (plan_from core.rules l answer.from set) (core.cycle - answer.from)) (sym placed-is);
-          verdict =
-              subst (λ (l : List Placed). IsVerdict core.rules l set answer.from core.cycle answer.change answer.verdict) (sym placed-is)
-              (subst (λ (n : ℕ). IsVerdict core.rules (placed_of history) set answer.from n answer.change answer.verdict) (sym of.next) right.answer);
+          leads = grind (arith, later-pending, zero-add, placed-is);
+          verdict = grind (arith, common_steps, placed-is);
           made = core-made answer.made by.made;
         }
 
 -- an answer changes neither the rules nor whether a core forgets
 of-either : (b : Bool) (one other : CoreView) → one.rules ≡ other.rules → one.forgets ≡ other.forgets
     → ((if b then one else other).rules ≡ other.rules) × ((if b then one else other).forgets ≡ other.forgets)
-of-either true one other rules forgets = (rules, forgets)
-of-either false one other rules forgets = (refl, refl)
+of-either b one other rules forgets = grind arith
 
 pub answered-same : (prunes : Bool) (core : CoreView) (from : ℕ) (change : Change) (verdict : Verdict)
     → ((answered_as prunes core from change verdict).rules ≡ core.rules) × ((answered_as prunes core from change verdict).forgets ≡ core.forgets)
@@ -136,10 +98,8 @@ state-by prunes history core is of = subst (λ (b : Bool). IsStateAs b history c
 
 pub plain-more : (prunes : Bool) (history : List Event) (event : Event) (old new : CoreView) → new.rules ≡ old.rules → IsPlannedNow history event
     → IsStateAs prunes (history ++ event ∷ []) new → IsPlainlyLegal old.rules history → IsPlainlyLegal new.rules (history ++ event ∷ [])
-plain-more prunes history event old new same now of was =
-    plain-push new.rules history event now of.legal (subst (λ (r : Rules). IsPlainlyLegal r history) (sym same) was)
+plain-more prunes history event old new same now of was = grind (arith, plain-push)
 
 -- where both hold of a result, what follows from both holds of it
 pub both-ok : {X E : Type 0} (result : Result X E) (P Q R : X → Type 0) → ((x : X) → P x → Q x → R x) → IfOk result P → IfOk result Q → IfOk result R
-both-ok (Ok x) P Q R by p q = by x p q
-both-ok (Err e) P Q R by p q = tt
+both-ok result P Q R by p q = grind arith

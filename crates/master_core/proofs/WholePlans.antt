@@ -1,9 +1,8 @@
 -- A change that was planned apart from all placed entries is answered by a core that keeps these pruned.
-use Rattle.std.proofs.Common.{◌≡◌, ℕ, Bool, true, if◌then◌else◌, List, Option, Some, None, All, option_map, sym, ap, ◌∙◌, subst, arith}
+use Rattle.std.proofs.Common.{◌≡◌, ℕ, Bool, true, List, Option, Some, None, All, option_map, sym, ap, ◌∙◌, subst, arith}
 use Rattle.std.proofs.lemmas.Bool.{eq-eqb, ne_eqb}
 use mathlib.Core.List.{IsPrefix}
 use Rattle.requirement_table.specs.declared.entries.Placed.{Placed}
-use Rattle.requirement_table.specs.Table.{IsWellPlaced, not_over}
 use Rattle.change_protocol.specs.declared.operations.Change.{Change}
 use Rattle.change_protocol.specs.Applied.{applied}
 use Rattle.change_protocol.specs.Operations.{HasTypes}
@@ -12,7 +11,7 @@ use Rattle.change_protocol.proofs.Shared.{not_over-pruned, pruned-again}
 use Rattle.planner_policies.specs.Plan.{pending_at}
 use Rattle.admission_rules.specs.declared.Rules.{Rules}
 use Rattle.admission.specs.declared.decision.Decision.{Decision}
-use Rattle.admission.specs.Verdict.{IsDecision, IsVerdict, placed_with, ranking_by}
+use Rattle.admission.specs.Verdict.{IsDecision, IsVerdict, placed_with}
 use Rattle.master_core.specs.declared.answer.Answer.{Answer}
 use Rattle.master_core.specs.declared.answer.Made.{Made}
 use Rattle.master_core.specs.declared.apart.Snapshot.{Snapshot}
@@ -43,14 +42,7 @@ whole-made core whole answer held (Some plain) (Some made) some tables kept =
           ∙ ap (pruned answer.from) (tables.placed ∙ sym taken.1)
           ∙ sym (ap (λ (l : List Placed). pruned answer.from (applied l answer.change)) held.is ∙ pruned-again held.by answer.from whole answer.change held.early);
       since = kept.since ∙ tables.since;
-      ranked =
-          kept.ranked
-          ∙ tables.ranked
-          ∙ ap (ranking_by core.rules)
-          (sym
-          (ap (λ (n : ℕ). not_over n made.table.placed.items) (kept.since ∙ tables.since)
-          ∙ ap (not_over answer.from) (kept.placed ∙ ap (pruned answer.from) tables.placed)
-          ∙ not_over-pruned answer.from answer.from plain.learned (omega arith)));
+      ranked = grind (arith, not_over-pruned);
       learned = kept.learned ∙ sym (kept.placed ∙ ap (pruned answer.from) tables.placed);
     }
 
@@ -93,17 +85,10 @@ module _ (core : CoreView) (is : IsCore core) (history : List Event) (of : IsSta
   right = decided-then core is history of answer front begins count was.from whole on-whole.decided.answer
 
   decided : IsVerdict core.rules core.placed set answer.from answer.from answer.change answer.verdict
-  decided =
-      subst (λ (l : List Placed). IsVerdict core.rules l set answer.from answer.from answer.change answer.verdict) (sym held-then.is)
-      (verdict-fewer core.rules held-then.by answer.from set answer.from whole answer.change held-then.early (sound-of_legal core.rules history of.legal).well_placed
-      is.safe.in_range.few_slots types answer.verdict right)
+  decided = grind (arith, held-then, verdict-fewer, sound-of_legal, right)
 
   first-is : answer.from ≡ from_of history planned
-  first-is =
-      ap (λ (v : PlannedView). v.from) view_is
-      ∙ sym
-      (ap (λ (b : Bool). if b then planned.from else next_of history)
-      (eq-eqb planned.accepted (accepted_of history) (sym (ap (λ (v : PlannedView). v.accepted) view_is) ∙ counted)))
+  first-is = grind (arith, eq-eqb)
 
   pub whole-by_plan : (made : Option Made) → AreKept true (answer_at core.cycle answer).from (answer_at core.cycle answer).made made
       → IsSettledAs history core change (from_of history planned) (record (answer_at core.cycle answer) { made = made })
@@ -136,6 +121,5 @@ pub whole-anew : (core : CoreView) → IsCore core → (planned : PlannedView) (
     → (history : List Event) → IsStateAs true history core → IsSettledAs history core change (from_of history planned) anew
 whole-anew core is planned change anew apart to asked from_is right history of =
     answered-anew core is history of change (from_of history planned) anew to asked from_is
-    (ap (λ (b : Bool). if b then planned.from else next_of history)
-    (ne_eqb planned.accepted (accepted_of history) (λ same. apart (same ∙ sym of.counted))))
+    (grind (arith, ne_eqb))
     (right true history of)

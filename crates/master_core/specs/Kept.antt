@@ -22,7 +22,7 @@ use Rattle.master_core.specs.History.{IsRightAnswer, accepted_of, next_of, place
 use Rattle.master_core.specs.Journals.{LeanView}
 
 -- what is kept behind an answer to a change that was planned from a cycle on: where it is accepted, the entries with the
--- change applied, pruned by that cycle
+-- change applied, pruned by that cycle; where it is refused, the entries as before
 abbrev pub kept_behind : List Placed → ℕ → Change → Verdict → List Placed
 kept_behind kept from change verdict = if is_accepted verdict then pruned from (applied kept change) else kept
 
@@ -53,8 +53,8 @@ kept_snapshot master state = record {
   accepted = accepted_of master.history;
 }
 
--- the snapshot is one of a master with these entries, which was taken at some place of the history, behind which no
--- change was accepted, or has the state of the plan from there
+-- the snapshot has the entries that the master keeps now, and the state after a front of the history, behind which no
+-- change was accepted. These entries are those placed by the front, pruned by a cycle that is not above its next one
 pub record IsKeptSnapshotIn (master : LeanView) (snapshot : Snapshot) : Type 0 where
   pub front : List Event
   pub begins : IsPrefix front master.history
@@ -85,8 +85,8 @@ lean_of core history spare keeps = record {
   keeps = keeps;
 }
 
--- an answer to this change, which is planned from a cycle on, can be put behind the history: it is one to the core, which
--- is the state after the history, and it is right there; and the core keeps what that cycle needs
+-- where the core is the state after the history, an answer to this change, planned from a cycle on, can be put behind
+-- it: it is one to the core, it is right behind the history, and the core keeps what that cycle needs
 pub record IsSettledAs (history : List Event) (core : CoreView) (change : Change) (from : ℕ) (answer : Answer) : Type 0 where
   pub asked : answer.change ≡ change
   pub first : answer.from ≡ from

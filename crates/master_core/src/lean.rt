@@ -36,9 +36,10 @@ use std::marker::Model;
 /// the placed entries that it keeps, the number of events that it has room for, and whether all events are kept.
 ///
 /// It drops the placed entries that no answer and no opening needs any more: each time that a change is accepted, those
-/// that are over and not the last of their slot. So the time of a change, a look or an opening does not grow with the
-/// entries that are over, or with the cycles that it opens. Where the last event alone is kept, its memory does not
-/// either. Where all events are kept, so are all placed entries, beside those: a change is applied to these in place.
+/// that are over by the cycle from which it was planned and not the last of their slot. So the time of a change, a look
+/// or an opening does not grow with the entries that are over, or with the cycles that it opens. Where the last event
+/// alone is kept, its memory does not either. Where all events are kept, so are all placed entries, beside those: a
+/// change is applied to these in place.
 #[derive(Drop, Debug)]
 pub struct LeanMaster {
     /// It keeps the placed entries that are still needed.
@@ -211,7 +212,10 @@ impl LeanMaster {
         ensures event { IfOk result (λ verdict. is_accepted verdict ≡ true → self.new.history
             ≡ self.old.history ++ Submit caller change.now (next_of self.old.history) verdict [] ∷ []) }
         ensures refused { IfOk result (λ verdict. is_accepted verdict ≡ false → self.new.history ≡ self.old.history) }
+        ensures placed { IfOk result (λ verdict.
+            self.new.placed ≡ kept_behind self.old.placed (next_of self.old.history) change.now verdict) }
         ensures same { OnErr result (self.new.history ≡ self.old.history) }
+        ensures still { OnErr result (self.new.placed ≡ self.old.placed) }
         ensures spare { self.new.spare ≡ self.old.spare }
         ensures legal { IsLegal self.new.rules self.new.history }
         ensures plain { IsPlainlyLegal self.old.rules self.old.history
@@ -294,6 +298,7 @@ impl LeanMaster {
         requires upcoming { IsUpcoming self.old.rules self.old.history upcoming }
         ensures rules { self.new.rules ≡ self.old.rules }
         ensures keeps { self.new.keeps ≡ self.old.keeps }
+        ensures placed { self.new.placed ≡ self.old.placed }
         ensures event { self.new.history
             ≡ self.old.history ++ Open (next_of self.old.history) upcoming.mask ∷ [] }
         ensures spare { self.new.spare + 1 ≡ self.old.spare }

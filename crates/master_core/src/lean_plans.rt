@@ -125,8 +125,9 @@ impl LeanMaster {
     }
 
     /// Answers a change that operator `caller` asks for, 1 to 8, and that was planned apart from a snapshot of all placed
-    /// entries, for this change and by this master's rules, as [`Master::settle`](crate::Master::settle) does. It leaves
-    /// the room as it was.
+    /// entries, for this change and by this master's rules, as [`Master::settle`](crate::Master::settle) does. If no
+    /// other change was accepted since the snapshot, the entries that this master keeps were pruned by no later cycle
+    /// than the one from which the change was planned. It leaves the room as it was.
     ///
     /// # Errors
     ///
@@ -162,11 +163,11 @@ impl LeanMaster {
     }
 
     /// Plans and opens the next cycle, below 2^41, as `open` does, for nodes that learn all placed entries; the master
-    /// keeps all events. It leaves the room as it was, or makes some.
+    /// keeps all events. It takes one of the room, where there is any.
     ///
     /// # Errors
     ///
-    /// Only where memory runs out. Nothing is changed then.
+    /// Only where memory runs out. Nothing is changed then, but that there may be more room.
     pub fn open_all(&mut self, alloc: Global) -> Result<Order, AllocError>
         requires keeps { self.old.keeps ≡ true }
         requires next { next_of self.old.history < openings_end }
@@ -177,6 +178,8 @@ impl LeanMaster {
         ensures event { IfOk result (λ order.
             self.new.history ≡ self.old.history ++ Open order.cycle order.mask ∷ []) }
         ensures same { OnErr result (self.new.history ≡ self.old.history) }
+        ensures room { IfOk result (λ order. self.old.spare ≤ self.new.spare + 1) }
+        ensures kept_room { OnErr result (self.old.spare ≤ self.new.spare) }
         ensures legal { IsLegal self.new.rules self.new.history }
         ensures few { length self.new.history + self.new.spare < 2 ^ 61 }
     {

@@ -1,6 +1,6 @@
 -- Two nodes never offer one identifier at the same time.
-use Rattle.std.proofs.Common.{◌≡◌, ◌≢◌, ℕ, ◌+◌, ◌/◌, ◌<◌, ◌≤◌, not, ◌&&◌, ◌==◌, eqb, leb, Option, Some, None, List, [], length, get_or, map, filter, Contains, ◌⊎◌, inl, inr, refl, sym, ap, ◌∙◌, subst, arith, option_map}
-use Rattle.std.specs.Option.{is_some}
+use Rattle.std.proofs.Common.{◌≡◌, ◌≢◌, ℕ, ◌+◌, ◌/◌, ◌<◌, ◌≤◌, ◌==◌, eqb, leb, Option, Some, None, List, [], length, get_or, map, filter, Contains, ◌⊎◌, inl, inr, refl, sym, ap, ◌∙◌, subst, arith, option_map}
+use Rattle.std.proofs.lemmas.Grind.{common_steps}
 use Rattle.std.proofs.lemmas.Bool.{cases_Bool, cases_order, eqb-true, and_parts, cond-true, cond-false}
 use Rattle.std.proofs.lemmas.Option.{none-some, same_Some}
 use Rattle.std.proofs.lemmas.List.{get_or_default}
@@ -9,7 +9,7 @@ use Rattle.profile.specs.Limits.{first_identifier}
 use Rattle.can_frame.specs.declared.data_frame.TimedFrame.{TimedFrame}
 use Rattle.cycle_layout.specs.Layout.{CycleLayout, sync_start}
 use Rattle.requirement_table.specs.declared.entries.Placed.{Placed}
-use Rattle.bit_sets.specs.Sets.{has_bit, most_slots}
+use Rattle.bit_sets.specs.Sets.{most_slots}
 use Rattle.requirement_table.specs.Instance.{Instance}
 use Rattle.requirement_table.specs.Table.{IsWellPlaced, instance_in}
 use Rattle.async_window.specs.declared.request.Owner.{Owner}
@@ -61,27 +61,18 @@ no_common-identifier owners one other id are apart mine theirs =
 
 no_common-instance : (placed : List Placed) (one other slot c : ℕ) (mine theirs : Instance) → IsWellPlaced placed → one ≢ other
     → instance_in (entries_of one placed) slot c ≡ Some mine → instance_in (entries_of other placed) slot c ≡ Some theirs → ⊥
-no_common-instance placed one other slot c mine theirs well apart is_mine is_theirs =
-    let first = instance-of_all one placed slot c mine well is_mine in
-    let second = instance-of_all other placed slot c theirs well is_theirs in
-    apart (sym first.1 ∙ ap (λ i. i.placed.entry.node) (same_Some mine theirs (sym first.0 ∙ second.0)) ∙ second.1)
+no_common-instance placed one other slot c mine theirs well apart is_mine is_theirs = grind (arith, instance-of_all, same_Some)
 
 own_identifiers : (layout : CycleLayout) (owners : List Owner) (requests : List Request) (placed : List Placed) (past : List TimedFrame)
     (next : ℕ) (node : NodeState) (id : ℕ) → StandsOnBus layout owners requests placed past next node
     → Contains (map (λ box. box.identifier) node.mail) id → Contains (identifiers_of node.number owners) id
-own_identifiers layout owners requests placed past next node id stands among =
-    subst (λ ids. Contains ids id)
-    (ap (λ mail. map (λ box. box.identifier) mail) stands.own_mail ∙ identifiers-after (identifiers_of node.number owners) requests past) among
+own_identifiers layout owners requests placed past next node id stands among = grind (arith, identifiers-after)
 
 -- the same where the other one learnt that list, or none
 no_common-slot : (placed others : List Placed) (one other slot c : ℕ) (mine theirs : Instance) → IsWellPlaced placed → one ≢ other
     → (others ≡ placed) ⊎ (others ≡ []) → instance_in (entries_of one placed) slot c ≡ Some mine
     → instance_in (entries_of other others) slot c ≡ Some theirs → ⊥
-no_common-slot placed others one other slot c mine theirs well apart (inl same) is_mine is_theirs =
-    no_common-instance placed one other slot c mine theirs well apart is_mine
-    (ap (λ list. instance_in (entries_of other list) slot c) (sym same) ∙ is_theirs)
-no_common-slot placed others one other slot c mine theirs well apart (inr none) is_mine is_theirs =
-    absurd (none-some theirs (ap (λ list. instance_in (entries_of other list) slot c) (sym none) ∙ is_theirs))
+no_common-slot placed others one other slot c mine theirs well apart h2 is_mine is_theirs = grind (arith, no_common-instance, none-some)
 
 pub apart-by_number : (layout : CycleLayout) (owners : List Owner) (requests other_requests : List Request) (placed others : List Placed)
     (past heard : List TimedFrame) (next then : ℕ) (one other : NodeState) → one.number ≢ other.number → AreOwners owners → IsWellPlaced placed
@@ -92,18 +83,12 @@ apart-by_number layout owners requests other_requests placed others past heard n
       no_common-identifier owners one.number other.number id are apart
       (own_identifiers layout owners requests placed past next one id stands mine)
       (own_identifiers layout owners other_requests others heard then other id also theirs);
-  slots = λ slot cycle mine theirs is_mine is_theirs.
-      no_common-slot placed others one.number other.number slot cycle mine theirs well apart which
-      (ap (λ entries. instance_in entries slot cycle) (sym stands.own_entries) ∙ is_mine)
-      (ap (λ entries. instance_in entries slot cycle) (sym also.own_entries) ∙ is_theirs);
+  slots = grind (arith, no_common-slot);
 }
 
 pub apart-learning : (placed : List Placed) (one other : NodeState) → one.number ≢ other.number → IsWellPlaced placed → AreApart one other
     → AreApart (learnt placed one) (learnt placed other)
-apart-learning placed one other apart well are = record {
-  mail = are.mail;
-  slots = λ slot cycle mine theirs. no_common-instance placed one.number other.number slot cycle mine theirs well apart;
-}
+apart-learning placed one other apart well are = grind (arith, no_common-instance)
 
 pub apart-turned : (one other : NodeState) → AreApart one other → AreApart other one
 apart-turned one other are = record {
@@ -115,18 +100,14 @@ pub after_hearing-entries : (node : NodeState) (sent : TimedFrame) → (after_he
 after_hearing-entries node sent = after_hearing-keeps (λ n. n.entries ≡ node.entries) node sent (λ opening. refl) (λ noting. refl) refl refl
 
 pub after_hearing-identifiers : (node : NodeState) (sent : TimedFrame) → map (λ box. box.identifier) (after_hearing node sent).mail ≡ map (λ box. box.identifier) node.mail
-after_hearing-identifiers node sent =
-    after_hearing-keeps (λ n. map (λ box. box.identifier) n.mail ≡ map (λ box. box.identifier) node.mail) node sent
-    (λ opening. refl) (λ noting. refl) refl (without_first-identifiers sent.frame.identifier node.mail)
+after_hearing-identifiers node sent = grind (arith, after_hearing-keeps, without_first-identifiers)
 
 pub apart-same : (one other after also : NodeState) → after.entries ≡ one.entries → also.entries ≡ other.entries
     → map (λ box. box.identifier) after.mail ≡ map (λ box. box.identifier) one.mail
     → map (λ box. box.identifier) also.mail ≡ map (λ box. box.identifier) other.mail → AreApart one other → AreApart after also
 apart-same one other after also entries others ids other_ids are = record {
   mail = λ id mine theirs. are.mail id (subst (λ all. Contains all id) ids mine) (subst (λ all. Contains all id) other_ids theirs);
-  slots = λ slot cycle mine theirs is_mine is_theirs.
-      are.slots slot cycle mine theirs
-      (ap (λ all. instance_in all slot cycle) (sym entries) ∙ is_mine) (ap (λ all. instance_in all slot cycle) (sym others) ∙ is_theirs);
+  slots = grind arith;
 }
 
 pub apart-hearing : (one other : NodeState) (sent also : TimedFrame) → AreApart one other → AreApart (after_hearing one sent) (after_hearing other also)
@@ -144,12 +125,7 @@ Has node at id =
 slot-part : (entries : List Placed) (opened : Opened) (c id : ℕ) (found : Option ℕ) → c ≡ opened.cycle → IsLeastBelow most_slots (is_due entries opened) found
     → option_map (λ slot. first_identifier + slot) found ≡ Some id
     → (slot : ℕ) × (id ≡ first_identifier + slot) × (slot < most_slots) × ((i : Instance) × (instance_in entries slot c ≡ Some i))
-slot-part entries opened c id None same none is = absurd (none-some id is)
-slot-part entries opened c id (Some slot) same least is =
-    let parts = and_parts (has_bit opened.mask slot) (is_some (instance_in entries slot opened.cycle) && not (has_bit opened.heard slot)) least.1 in
-    let more = and_parts (is_some (instance_in entries slot opened.cycle)) (not (has_bit opened.heard slot)) parts.1 in
-    let found = value-of (instance_in entries slot opened.cycle) more.0 in
-    (slot, sym (same_Some _ _ is), least.0, (found.0, ap (instance_in entries slot) same ∙ found.1))
+slot-part entries opened c id found same none is = grind (arith, none-some, and_parts, value-of, same_Some)
 
 module _ (node : NodeState) (at : ℕ) (known : IsMail node.mail) where
   mail-part : (l id : ℕ) (found : Option ℕ) → IsLeastWith (OffersIdentifier node.layout l node.mail at) found → found ≡ Some id
@@ -165,27 +141,21 @@ module _ (node : NodeState) (at : ℕ) (known : IsMail node.mail) where
         | inl same ↦ elim (cases_Bool (leb (sync_start node.layout opened.cycle opened.width) at)) [
           | inl late ↦ inl (slot-part node.entries opened (at / node.layout.cycle) id (least_where most_slots (is_due node.entries opened)) (eqb-true _ _ same)
               (least_where-least most_slots (is_due node.entries opened))
-              (sym (cond-true (leb (sync_start node.layout opened.cycle opened.width) at) _ _ late)
-              ∙ sym (cond-true (eqb (at / node.layout.cycle) opened.cycle) _ _ same) ∙ is))
+              (grind (arith, cond-true, leb, eqb)))
           | inr early ↦ inr (mail-part opened.width id (mail_offer node.layout opened.width node.mail at) (Offers-least node.layout opened.width at node.mail known)
-              (sym (cond-false (leb (sync_start node.layout opened.cycle opened.width) at) _ _ early)
-              ∙ sym (cond-true (eqb (at / node.layout.cycle) opened.cycle) _ _ same) ∙ is))
+              (grind (arith, common_steps, cond-false, leb, cond-true, eqb)))
         ]
         | inr other ↦ absurd (none-some id (sym (cond-false (eqb (at / node.layout.cycle) opened.cycle) _ _ other) ∙ is))
       ]
 
   offers-part : (opened : Option Opened) (id : ℕ) → node_offer (record node { opened = opened }) at ≡ Some id → Has node at id
-  offers-part None id is = absurd (none-some id is)
-  offers-part (Some opened) id is = open-part opened id is
+  offers-part opened id is = grind (arith, none-some, open-part)
 
   has-offered : (id : ℕ) → node_offer node at ≡ Some id → Has node at id
   has-offered id is = offers-part node.opened id is
 
 never_both : (one other : NodeState) (at id : ℕ) → one.layout ≡ other.layout → AreApart one other → Has one at id → Has other at id → ⊥
-never_both one other at id same are (inl (slot, is, within, (i, mine))) (inl (another, also, inside, (j, theirs))) =
-    let equal : another ≡ slot = omega arith in
-    are.slots slot (at / one.layout.cycle) i j mine
-    (ap (λ l. instance_in other.entries slot (at / l.cycle)) same ∙ ap (λ s. instance_in other.entries s (at / other.layout.cycle)) (sym equal) ∙ theirs)
+never_both one other at id same are (inl (slot, is, within, (i, mine))) (inl (another, also, inside, (j, theirs))) = grind arith
 never_both one other at id same are (inl (slot, is, within, mine)) (inr (above, theirs)) = omega arith
 never_both one other at id same are (inr (above, mine)) (inl (slot, is, within, theirs)) = omega arith
 never_both one other at id same are (inr (above, mine)) (inr (high, theirs)) = are.mail id mine theirs

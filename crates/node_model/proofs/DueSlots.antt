@@ -1,11 +1,10 @@
 -- The slots that a node is to send in the cycle that is open for it, and their instances.
-use Rattle.std.proofs.Common.{◌≡◌, ℕ, ◌<◌, ◌≤◌, ◌&&◌, ◌||◌, true, false, Option, None, Some, option_map, List, [], get_or, sym, ap, ◌∙◌, arith}
+use Rattle.std.proofs.Common.{◌≡◌, ℕ, ◌<◌, ◌≤◌, ◌||◌, true, false, Option, None, Some, option_map, List, [], get_or, ◌∙◌, arith}
 use Rattle.std.specs.Prelude.{IfSome}
 use Rattle.std.specs.Option.{option_map_or}
 use Rattle.std.proofs.lemmas.Bool.{false≢true, lt-ltb}
-use Rattle.std.proofs.lemmas.Option.{none-some, same_Some}
 use Rattle.requirement_table.specs.declared.entries.Placed.{Placed}
-use Rattle.requirement_table.specs.Instance.{Instance, bytes_of, payload}
+use Rattle.requirement_table.specs.Instance.{bytes_of, payload}
 use Rattle.bit_sets.specs.Sets.{has_bit, set_of, most_slots}
 use Rattle.requirement_table.specs.Table.{instance_in}
 use Rattle.bit_sets.proofs.Shared.{has_bit-set_of}
@@ -20,17 +19,7 @@ use Rattle.node_model.proofs.Ready.{known-slot}
 pub with-due : (node : NodeState) (o : Open) (others result : ℕ) → node.opened ≡ Some (opened_of o) → KnowsDue node.entries o
     → result ≡ set_of most_slots (λ slot. has_bit others slot || has_bit o.due slot)
     → (slot : ℕ) → slot < most_slots → has_bit result slot ≡ (has_bit others slot || is_due_slot node slot)
-with-due node o others result open_cycle knows is slot within =
-    ap (λ n. has_bit n slot) is
-    ∙ has_bit-set_of most_slots (λ s. has_bit others s || has_bit o.due s) slot
-    ∙ ap (λ b. b && (has_bit others slot || has_bit o.due slot)) (lt-ltb slot most_slots within)
-    ∙ ap (λ b. has_bit others slot || b) (knows slot within)
-    ∙ ap (λ opened. has_bit others slot || option_map_or (λ x. is_due node.entries x slot) opened false) (sym open_cycle)
-
--- the frame of a slot that is due is known
-bytes-some : (found : Option Instance) (bytes : List ℕ) → option_map bytes_of found ≡ Some bytes → option_map_or bytes_of found [] ≡ bytes
-bytes-some (Some i) bytes is = same_Some (bytes_of i) bytes is
-bytes-some None bytes is = absurd (none-some bytes is)
+with-due node o others result open_cycle knows is slot within = grind (arith, has_bit-set_of, lt-ltb)
 
 pub due-known : (entries left : List Placed) (slots : List Ready) (d : Ready) (current : Option Open) (slot next : ℕ) → slot < most_slots
     → IfSome current (KnowsDue entries) → IfSome current (KnowsInstances slots)
@@ -40,9 +29,5 @@ pub due-known : (entries left : List Placed) (slots : List Ready) (d : Ready) (c
     ≡ payload (get_or slots slot d).length (get_or slots slot d).number) × ((get_or slots slot d).length ≤ 8)
 due-known entries left slots d None slot next within knows told have ready due = absurd (false≢true due)
 due-known entries left slots d (Some o) slot next within knows told have ready due =
-    let found = get_or slots slot d in
     let known = known-slot left slots slot o.cycle d ready (told slot (knows slot within ∙ due)) in
-    let same : instance_in left slot o.cycle ≡ instance_in entries slot o.cycle = have slot o.cycle (omega arith) in (
-      bytes-some (instance_in entries slot o.cycle) _ (ap (option_map bytes_of) (sym same) ∙ known.0) ∙ ap (payload found.length) (omega arith),
-      known.1,
-    )
+    let same : instance_in left slot o.cycle ≡ instance_in entries slot o.cycle = have slot o.cycle (omega arith) in (grind (arith, option_map))

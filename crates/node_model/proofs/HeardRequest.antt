@@ -1,6 +1,6 @@
 -- A frame of which a node has an unsent request: that node takes the request away, and a node that is apart from it only
 -- counts the frame.
-use Rattle.std.proofs.Common.{◌≡◌, ℕ, suc, ◌+◌, ◌≤◌, ◌||◌, false, eqb, List, [], ◌∷◌, get_or, map, All, Contains, IsSome, slice_get, inl, inr, refl, ap, ◌∙◌, subst, arith}
+use Rattle.std.proofs.Common.{◌≡◌, ℕ, suc, ◌+◌, ◌≤◌, ◌||◌, false, eqb, List, [], ◌∷◌, map, All, Contains, IsSome, slice_get, inl, inr, refl, ap, ◌∙◌, subst, arith}
 use Rattle.std.proofs.lemmas.Bool.{cases_eq, cond-false, false≢true, ne_eqb}
 use Rattle.std.proofs.lemmas.List.Elements.{All-head, All-map, All-tail}
 use Rattle.profile.specs.Limits.{first_identifier}
@@ -27,8 +27,7 @@ asynchronous : (node : NodeState) (id : ℕ) → IsNode node → HasRequest node
 asynchronous node id is has =
     let among = has-box id node.mail has in
     let least = All-map (λ n. 0x200 ≤ n) (λ box. box.identifier) node.mail is.mail.least in
-    let at_least : 0x200 ≤ get_or (map (λ box. box.identifier) node.mail) among.0 id = least among.0 id among.1 in
-    omega (arith, at_least, among.2)
+    grind arith
 
 -- no slot has an asynchronous identifier
 no-slot : (entries : List Placed) (id : ℕ) → 0x200 ≤ id → All IsInRange entries → is_own_slot entries id ≡ false
@@ -40,9 +39,7 @@ no-slot (p ∷ rest) id above in_range =
 
 heard-request : (node : NodeState) (sent : TimedFrame) → IsNode node → 0x200 ≤ sent.frame.identifier
     → after_hearing node sent ≡ counting (after_request node sent.frame.identifier)
-heard-request node sent is above =
-    other-frame node sent (omega (arith, above))
-    ∙ cond-false (is_own_slot node.entries sent.frame.identifier) _ _ (no-slot node.entries sent.frame.identifier above is.entries.in_range)
+heard-request node sent is above = grind (arith, other-frame, cond-false, no-slot)
 
 -- a node without a mailbox of an identifier has no request of it to take away
 without_first-absent : (id : ℕ) (mail : List Mail) → (Contains (map (λ box. box.identifier) mail) id → ⊥) → without_first id mail ≡ mail

@@ -1,15 +1,14 @@
 -- A node that hears frames of slots: it counts them, and marks those of its slots.
-use Rattle.std.proofs.Common.{◌≡◌, ℕ, ◌+◌, ◌-◌, ◌^◌, ◌<◌, ◌≤◌, Bool, true, false, ◌&&◌, ◌||◌, ◌==◌, cond, Option, Some, None, IfSome, List, [], ◌∷◌, All, length, min, option_map, inl, inr, refl, sym, ap, ◌∙◌, arith}
+use Rattle.std.proofs.Common.{◌≡◌, ℕ, ◌+◌, ◌-◌, ◌^◌, ◌<◌, ◌≤◌, Bool, true, false, ◌&&◌, ◌||◌, ◌==◌, cond, Option, Some, None, IfSome, List, [], ◌∷◌, All, length, min, option_map, refl, ap, ◌∙◌, arith}
 use Rattle.std.specs.Prelude.{fold}
 use Rattle.std.specs.List.{list_any}
-use Rattle.std.proofs.lemmas.Bool.{eq-eqb, ne_eqb, eqb-true, lt-ltb, cases_eq, false≢true}
+use Rattle.std.proofs.lemmas.Bool.{eq-eqb, ne_eqb, eqb-true, lt-ltb, false≢true}
 use Rattle.std.proofs.lemmas.List.Elements.{All-head, All-tail}
 use Rattle.profile.specs.Limits.{first_identifier}
 use Rattle.can_frame.specs.declared.data_frame.TimedFrame.{TimedFrame}
 use Rattle.requirement_table.specs.declared.entries.Placed.{Placed}
 use Rattle.bit_sets.specs.Sets.{has_bit, set_of, most_slots}
 use Rattle.bit_sets.proofs.Shared.{has_bit-set_of, set_of-below, set_of-same, set_of-from_slots}
-use Rattle.async_window.specs.Mailbox.{without_first}
 use Rattle.node_model.specs.Node.{NodeState, Opened, after_hearing, counted, is_own_slot, with_heard}
 use Rattle.node_model.specs.Kept.{AreSlotsOf}
 use Rattle.node_model.specs.Window.{AreOfSlots, with_all_heard}
@@ -29,26 +28,15 @@ marked entries opened one =
 abbrev counted_all : ℕ → ℕ → ℕ
 counted_all n k = min (n + k) (2 ^ 64 - 1)
 
-mark_or_none : (own : Bool) (node : NodeState) (id : ℕ) → without_first id node.mail ≡ node.mail
-    → cond own (record node { opened = option_map (with_heard (id - first_identifier)) node.opened }) (record node { mail = without_first id node.mail })
-    ≡ record node { opened = cond own (option_map (with_heard (id - first_identifier)) node.opened) node.opened }
-mark_or_none true node id same = refl
-mark_or_none false node id same = ap (λ mail. record node { mail = mail }) same
-
 -- one frame
 pub hear-one : (node : NodeState) (one : TimedFrame) → All (λ box. 0x200 ≤ box.identifier) node.mail → IsOfSlot one
     → after_hearing node one ≡ record node { frames = counted node.frames; opened = marked node.entries node.opened one }
-hear-one node one mail of_slot =
-    other-frame node one (omega (arith, of_slot.0))
-    ∙ mark_or_none (is_own_slot node.entries one.frame.identifier) (record node { frames = counted node.frames }) one.frame.identifier
-    (without_first-none one.frame.identifier node.mail (omega (arith, of_slot.1)) mail)
+hear-one node one mail of_slot = grind (arith, other-frame, without_first-none)
 
 hear-all : (frames : List TimedFrame) (node : NodeState) → node.frames < 2 ^ 64 → All (λ box. 0x200 ≤ box.identifier) node.mail → All IsOfSlot frames
     → fold after_hearing node frames
     ≡ record node { frames = counted_all node.frames (length frames); opened = fold (marked node.entries) node.opened frames }
-hear-all [] node small mail of_slots =
-    let same : node.frames ≡ counted_all node.frames 0 = omega arith in
-    ap (λ n. record node { frames = n }) same
+hear-all [] node small mail of_slots = grind arith
 hear-all (one ∷ later) node small mail of_slots =
     let next : NodeState = record node { frames = counted node.frames; opened = marked node.entries node.opened one } in
     let sum : counted_all (counted node.frames) (length later) ≡ counted_all node.frames (length (one ∷ later)) = omega arith in
@@ -67,25 +55,14 @@ abbrev heard_with : Opened → (ℕ → Bool) → Opened
 heard_with opened p = record opened { heard = set_of most_slots (λ slot. has_bit opened.heard slot || p slot) }
 
 and_none : (b c : Bool) → b ≡ (b || (c && false))
-and_none true c = refl
-and_none false true = refl
-and_none false false = refl
+and_none b c = grind arith
 
 -- a slot that is marked now, or was, or will be
 marks-own : (here was own later : Bool) → (here ≡ true → own ≡ true) → ((here || was) || (own && later)) ≡ (was || (own && (here || later)))
-marks-own true true own later its = refl
-marks-own true false true later its = refl
-marks-own true false false later its = absurd (false≢true (its refl))
-marks-own false was own later its = refl
-
-marks-none : (here was own later : Bool) → (here ≡ true → own ≡ false) → (was || (own && later)) ≡ (was || (own && (here || later)))
-marks-none true was true later none = absurd (false≢true (sym (none refl)))
-marks-none true was false later none = refl
-marks-none false was own later none = refl
+marks-own here was own later its = grind (arith, false≢true)
 
 cond-same : (own : Bool) (o : Option Opened) → cond own o o ≡ o
-cond-same true o = refl
-cond-same false o = refl
+cond-same own o = grind arith
 
 module _ (entries : List Placed) where
   mark-step : (own : Bool) (one : TimedFrame) (later : List TimedFrame) (opened : Opened) → is_own_slot entries one.frame.identifier ≡ own → IsOfSlot one
@@ -98,29 +75,10 @@ module _ (entries : List Placed) where
       let k = id - first_identifier in
       let now = with_heard k opened in
       let within : (slot : ℕ) → slot < most_slots → (has_bit now.heard slot || own_heard entries later slot)
-      ≡ (has_bit opened.heard slot || own_heard entries (one ∷ later) slot) = λ slot below.
-      let its : (id == first_identifier + slot) ≡ true → has_entry entries slot ≡ true =
-      λ same. sym (own-slot entries slot id (sym (eqb-true _ _ same))) ∙ is in
-      let test : (slot == k) ≡ (id == first_identifier + slot) = elim (cases_eq slot k) [
-        | inl same ↦ eq-eqb slot k same ∙ sym (eq-eqb id (first_identifier + slot) (omega (arith, same, of_slot.0)))
-        | inr other ↦ ne_eqb slot k other ∙ sym (ne_eqb id (first_identifier + slot) (λ same. other (omega (arith, same))))
-      ] in
-      ap (λ b. b || own_heard entries later slot)
-      (has_bit-set_of most_slots (λ s. (s == k) || has_bit opened.heard s) slot
-      ∙ ap (λ b. b && ((slot == k) || has_bit opened.heard slot)) (lt-ltb slot most_slots below)
-      ∙ ap (λ b. b || has_bit opened.heard slot) test)
-      ∙ marks-own (id == first_identifier + slot) (has_bit opened.heard slot) (has_entry entries slot)
-      (list_any (λ one. one.frame.identifier == first_identifier + slot) later) its in
-      rest now (set_of-below most_slots (λ s. (s == k) || has_bit opened.heard s))
-      ∙ ap (λ n. Some (record opened { heard = n })) (set_of-same most_slots _ _ within)
-  mark-step false one later opened is of_slot small rest =
-      let id = one.frame.identifier in
-      let within : (slot : ℕ) → slot < most_slots → (has_bit opened.heard slot || own_heard entries later slot)
-      ≡ (has_bit opened.heard slot || own_heard entries (one ∷ later) slot) = λ slot below.
-      marks-none (id == first_identifier + slot) (has_bit opened.heard slot) (has_entry entries slot)
-      (list_any (λ one. one.frame.identifier == first_identifier + slot) later)
-      (λ same. sym (own-slot entries slot id (sym (eqb-true _ _ same))) ∙ is) in
-      rest opened small ∙ ap (λ n. Some (record opened { heard = n })) (set_of-same most_slots _ _ within)
+      ≡ (has_bit opened.heard slot || own_heard entries (one ∷ later) slot) =
+      grind (arith, own-slot, eqb-true, eq-eqb, ne_eqb, has_bit-set_of, lt-ltb, marks-own) in
+      grind (arith, set_of-below, set_of-same)
+  mark-step false one later opened is of_slot small rest = grind (arith, own-slot, eqb-true, set_of-same)
 
   mark-all : (frames : List TimedFrame) → All IsOfSlot frames → (opened : Opened) → opened.heard < 2 ^ most_slots
       → fold (marked entries) (Some opened) frames ≡ Some (heard_with opened (own_heard entries frames))
@@ -141,19 +99,11 @@ module _ (entries : List Placed) where
   pub mark-sent : (own sent mine : ℕ) (frames : List TimedFrame) (opened : Option Opened) → AreSlotsOf entries own → AreOfSlots sent frames
       → ((slot : ℕ) → has_bit mine slot ≡ (has_bit own slot && has_bit sent slot))
       → IfSome opened (λ o. o.heard < 2 ^ most_slots) → option_map (with_all_heard mine) opened ≡ fold (marked entries) opened frames
-  mark-sent own sent mine frames None are of_slots common small = sym (mark-nothing frames)
-  mark-sent own sent mine frames (Some opened) are of_slots common small =
-      ap (λ n. Some (record opened { heard = n })) (set_of-same most_slots _ _ (λ slot _.
-      ap (λ b. has_bit opened.heard slot || b)
-      (common slot ∙ ap (λ b. b && has_bit sent slot) (are slot) ∙ ap (λ b. has_entry entries slot && b) (of_slots.each slot))))
-      ∙ sym (mark-all frames of_slots.all opened small)
+  mark-sent own sent mine frames opened are of_slots common small = grind (arith, mark-nothing, set_of-same, mark-all)
 
 -- what the node knows once it has heard frames of slots
 pub heard-slots : (node : NodeState) (frames : List TimedFrame) (count : ℕ) (opened : Option Opened) → node.frames < 2 ^ 64
     → All (λ box. 0x200 ≤ box.identifier) node.mail → All IsOfSlot frames → count ≡ counted_all node.frames (length frames)
     → opened ≡ fold (marked node.entries) node.opened frames
     → record node { frames = count; opened = opened } ≡ fold after_hearing node frames
-heard-slots node frames count opened small mail of_slots sum marks =
-    ap (λ n. record node { frames = n; opened = opened }) sum
-    ∙ ap (λ o. record node { frames = counted_all node.frames (length frames); opened = o }) marks
-    ∙ sym (hear-all frames node small mail of_slots)
+heard-slots node frames count opened small mail of_slots sum marks = grind (arith, hear-all)

@@ -1,12 +1,13 @@
 -- How a node goes on when it hears the frames of a cycle.
-use Rattle.std.proofs.Common.{◌≡◌, ℕ, ◌+◌, ◌-◌, ◌^◌, ◌<◌, ◌≤◌, Bool, true, false, ◌&&◌, ◌||◌, ◌==◌, eqb, leb, Some, List, [], ◌∷◌, ◌++◌, get_or, filter, map, All, inl, inr, refl, sym, ap, ◌∙◌, subst, arith}
+use Rattle.std.proofs.Common.{◌≡◌, ℕ, ◌+◌, ◌-◌, ◌^◌, ◌<◌, ◌≤◌, Bool, true, false, ◌&&◌, ◌||◌, ◌==◌, eqb, leb, Some, List, [], ◌∷◌, ◌++◌, filter, map, All, sym, ap, ◌∙◌, subst, arith}
+use Rattle.std.proofs.lemmas.Grind.{common_steps}
 use Rattle.std.specs.Prelude.{fold}
 use Rattle.std.specs.List.{list_any}
-use Rattle.std.proofs.lemmas.Bool.{cases_Bool, both_ways, eq-eqb, ne_eqb, eqb-true, le-leb, lt-leb, lt-ltb, and_left, and_right, cond-true, cond-false}
+use Rattle.std.proofs.lemmas.Bool.{eq-eqb, ne_eqb, eqb-true, le-leb, lt-leb, lt-ltb, and_left, and_right, cond-true, cond-false}
 use Rattle.std.proofs.lemmas.Bool.Decides.{eqb_tells}
 use Rattle.std.proofs.lemmas.List.{append-nil, append_assoc}
-use Rattle.std.proofs.lemmas.List.Elements.{All-append, All-contains, All-filter, All-head, All-map, All-tail}
-use Rattle.std.proofs.lemmas.List.Folds.{list_any-append, list_any_none, list_any-from_Any, Any-from_list_any, map_fixed}
+use Rattle.std.proofs.lemmas.List.Elements.{All-contains, All-filter, All-head, All-map, All-tail}
+use Rattle.std.proofs.lemmas.List.Folds.{list_any-append, list_any_none, Any-from_list_any, map_fixed}
 use Rattle.profile.specs.Limits.{first_identifier}
 use Rattle.can_frame.specs.declared.data_frame.TimedFrame.{TimedFrame}
 use Rattle.cycle_layout.specs.Layout.{CycleLayout, IsLayout}
@@ -18,7 +19,7 @@ use Rattle.trigger_codec.specs.Heard.{Noted}
 use Rattle.trigger_codec.specs.Bytes.{triggers_with}
 use Rattle.async_window.specs.declared.request.Owner.{Owner}
 use Rattle.async_window.specs.declared.request.Request.{Request}
-use Rattle.async_window.specs.Mailbox.{Mail, mail_after, taken_from, without_first}
+use Rattle.async_window.specs.Mailbox.{Mail, mail_after, without_first}
 use Rattle.async_window.specs.Waiting.{unsent_after}
 use Rattle.async_window.proofs.Shared.{mail_after-next}
 use Rattle.requirement_table.specs.Opening.{Opening, width_of}
@@ -35,11 +36,7 @@ use Rattle.node_model.proofs.Standing.{standing, opened_for, standing_in-is}
 
 -- an identifier that is below the asynchronous ones takes away no request
 pub without_first-none : (id : ℕ) (mail : List Mail) → id < 0x200 → All (λ box. 0x200 ≤ box.identifier) mail → without_first id mail ≡ mail
-without_first-none id mail below above =
-    map_fixed (taken_from id) mail
-    (λ k d within.
-    let apart = above k d within in
-    cond-false (eqb (get_or mail k d).identifier id) _ _ (ne_eqb _ _ (λ same. omega (arith, apart, same))))
+without_first-none id mail below above = grind (arith, above, map_fixed, cond-false, eqb, ne_eqb)
 
 -- the mail of a node is that of asynchronous identifiers
 pub mail_after-least : (number : ℕ) (owners : List Owner) (requests : List Request) (past : List TimedFrame) → AreOwners owners
@@ -50,16 +47,10 @@ mail_after-least number owners requests past are =
     (All-filter (λ owner. owner.node == number) (λ owner. 0x200 ≤ owner.id) owners are.least))
 
 turn : (is begun was : Bool) → begun ≡ true → (is || was) ≡ (was || ((is && begun) || false))
-turn true true true e = refl
-turn true true false e = refl
-turn false true true e = refl
-turn false true false e = refl
-turn is false was e = absurd (cc)
+turn is begun was e = grind arith
 
 kept : (is begun was : Bool) → is ≡ false → was ≡ (was || ((is && begun) || false))
-kept false begun true e = refl
-kept false begun false e = refl
-kept true begun was e = absurd (cc)
+kept is begun was e = grind arith
 
 module _ (layout : CycleLayout) (owners : List Owner) (requests : List Request) (opening : Opening) where
   abbrev stands_marked : ℕ → List TimedFrame → ℕ → Type 0
@@ -69,14 +60,6 @@ module _ (layout : CycleLayout) (owners : List Owner) (requests : List Request) 
   abbrev in_cycle : ℕ → Noted → List TimedFrame → ℕ → ℕ → NodeState
   in_cycle number noted past heard frames =
       standing layout owners requests opening.placed past (opening.cycle + 1) number (Some (opened_for opening heard)) frames noted
-
-  in_cycle-stands : (number : ℕ) (noted : Noted) (past : List TimedFrame) (heard frames : ℕ) → stands_marked number past heard
-      → StandsIn layout owners requests opening past (in_cycle number noted past heard frames)
-  in_cycle-stands number noted past heard frames marked = record {
-    stands = record { same_layout = refl; own_entries = refl; own_mail = refl; next_cycle = refl };
-    opened = opened_for opening heard;
-    is_open = record { is_open = refl; cycle = refl; width = refl; mask = refl; heard = marked };
-  }
 
   abbrev is_of_slot : ℕ → TimedFrame → Bool
   is_of_slot slot sent = (sent.frame.identifier == first_identifier + slot) && leb (start_of layout opening) sent.start
@@ -88,20 +71,12 @@ module _ (layout : CycleLayout) (owners : List Owner) (requests : List Request) 
   -- after the trigger frames no slot of the cycle was sent
   none_sent : (past sent : List TimedFrame) (slot : ℕ) → All (λ earlier. earlier.start < start_of layout opening) past
       → All IsOfTrigger sent → was_sent layout opening (past ++ sent) slot ≡ false
-  none_sent past sent slot before triggers =
-      list_any_none (is_of_slot slot) (past ++ sent)
-      (All-append (λ x. is_of_slot slot x ≡ false) past sent
-      (λ k d within. and_right (eqb (get_or past k d).frame.identifier (first_identifier + slot)) _ (lt-leb _ _ (before k d within)))
-      (λ k d within.
-      let below = triggers k d within in
-      and_left _ (leb (start_of layout opening) (get_or sent k d).start)
-      (ne_eqb _ _ (λ (same : (get_or sent k d).frame.identifier ≡ first_identifier + slot). omega (arith, same, below)))))
+  none_sent past sent slot before triggers = grind (arith, common_steps, list_any_none, and_right, eqb, lt-leb, and_left, leb, ne_eqb)
 
   same_mail : (ids : List ℕ) (past : List TimedFrame) (sent : TimedFrame)
       → All (λ box. 0x200 ≤ box.identifier) (mail_after ids requests past) → sent.frame.identifier < 0x200
       → mail_after ids requests past ≡ mail_after ids requests (past ++ sent ∷ [])
-  same_mail ids past sent above below =
-      sym (mail_after-next ids requests past sent ∙ without_first-none sent.frame.identifier (mail_after ids requests past) below above)
+  same_mail ids past sent above below = grind (arith, above, mail_after-next, without_first-none)
 
   -- trigger frames take away no request
   same_mail-all : (number : ℕ) → AreOwners owners
@@ -145,81 +120,30 @@ module _ (layout : CycleLayout) (owners : List Owner) (requests : List Request) 
         more = set_of most_slots (λ s. (s == (id - first_identifier)) || has_bit heard s)
 
         hears_slot : after_hearing open_node sent ≡ in_cycle number noted (past ++ sent ∷ []) more (counted frames)
-        hears_slot =
-            other-frame open_node sent other
-            ∙ cond-true (is_own_slot entries id) _ _ own
-            ∙ ap (λ m. record (in_cycle number noted past more (counted frames)) { mail = m })
-            (same_mail (identifiers_of number owners) past sent above
-            (let slot = slot_of in let within = slot.1 in let is = slot.2 in omega arith))
+        hears_slot = grind (arith, other-frame, cond-true, same_mail, above, slot_of)
 
         same_test : (slot : ℕ) → eqb slot (id - first_identifier) ≡ eqb id (first_identifier + slot)
-        same_test slot =
-            let its = slot_of in
-            let is = its.2 in
-            elim (eqb_tells slot (id - first_identifier)) [
-              | inl same ↦ same.0 ∙ sym (eq-eqb id (first_identifier + slot) (omega (arith, same.1, is)))
-              | inr apart ↦ apart.0 ∙ sym (ne_eqb id (first_identifier + slot) (λ e. apart.1 (omega (arith, e, is))))
-            ]
+        same_test slot = grind (arith, slot_of, eqb_tells, eq-eqb, ne_eqb)
 
         marks_slot : stands_marked number (past ++ sent ∷ []) more
-        marks_slot slot within its =
-            has_bit-set_of most_slots (λ s. (s == (id - first_identifier)) || has_bit heard s) slot
-            ∙ ap (λ b. b && (eqb slot (id - first_identifier) || has_bit heard slot)) (lt-ltb slot most_slots within)
-            ∙ ap (λ b. b || has_bit heard slot) (same_test slot)
-            ∙ ap (λ b. eqb id (first_identifier + slot) || b) (marked slot within its)
-            ∙ turn (eqb id (first_identifier + slot)) (leb (start_of layout opening) sent.start) (was_sent layout opening past slot) (le-leb _ _ begun)
-            ∙ sym (was_sent-next past sent slot)
+        marks_slot = grind (arith, has_bit-set_of, eqb, lt-ltb, same_test, turn, leb, le-leb, was_sent-next)
 
       -- a frame of none
       module _ (none : is_own_slot entries id ≡ false) where
         hears_none : after_hearing open_node sent ≡ in_cycle number noted (past ++ sent ∷ []) heard (counted frames)
-        hears_none =
-            other-frame open_node sent other
-            ∙ cond-false (is_own_slot entries id) _ _ none
-            ∙ ap (λ m. record (in_cycle number noted past heard (counted frames)) { mail = m }) (sym (mail_after-next (identifiers_of number owners) requests past sent))
-
-        apart_from : (slot : ℕ) → list_any (λ p. p.entry.slot == slot) entries ≡ true → id ≡ first_identifier + slot → ⊥
-        apart_from slot its same =
-            let any = Any-from_list_any (λ p. p.entry.slot == slot) entries its in
-            both_ways (is_own_slot entries id) none
-            (list_any-from_Any (λ p. first_identifier + p.entry.slot == id) entries
-            (any.0, any.1, any.2, any.3, eq-eqb _ _ (ap (λ s. first_identifier + s) (eqb-true _ _ any.4) ∙ sym same)))
+        hears_none = grind (arith, other-frame, cond-false, mail_after-next)
 
         marks_none : stands_marked number (past ++ sent ∷ []) heard
-        marks_none slot within its =
-            marked slot within its
-            ∙ kept (eqb id (first_identifier + slot)) (leb (start_of layout opening) sent.start) (was_sent layout opening past slot) (ne_eqb _ _ (apart_from slot its))
-            ∙ sym (was_sent-next past sent slot)
+        marks_none = grind (arith, kept, eqb, leb, ne_eqb, was_sent-next)
 
       pub stands_in-later : StandsIn layout owners requests opening (past ++ sent ∷ []) (after_hearing open_node sent)
-      stands_in-later =
-          elim (cases_Bool (is_own_slot entries id)) [
-            | inl own ↦ subst (λ (n : NodeState). StandsIn layout owners requests opening (past ++ sent ∷ []) n) (sym (hears_slot own))
-                (in_cycle-stands number noted (past ++ sent ∷ []) (more own) (counted frames) (marks_slot own))
-            | inr none ↦ subst (λ (n : NodeState). StandsIn layout owners requests opening (past ++ sent ∷ []) n) (sym (hears_none none))
-                (in_cycle-stands number noted (past ++ sent ∷ []) heard (counted frames) (marks_none none))
-          ]
+      stands_in-later = grind (arith, hears_slot, marks_slot, hears_none, marks_none)
 
 module _ (layout : CycleLayout) (owners : List Owner) (requests : List Request) (opening : Opening) (past sent : List TimedFrame) where
   stands-opened : (node : NodeState) (frames : ℕ) → AreOwners owners → All (λ earlier. earlier.start < start_of layout opening) past → All IsOfTrigger sent
       → StandsOnBus layout owners requests opening.placed past opening.cycle node
       → StandsIn layout owners requests opening (past ++ sent) (opening_done node (width_of opening) opening.mask frames)
-  stands-opened node frames are before triggers stands = record {
-    stands = record {
-      same_layout = stands.same_layout;
-      own_entries = stands.own_entries;
-      own_mail = stands.own_mail ∙ same_mail-all layout owners requests opening node.number are sent past triggers;
-      next_cycle = ap (λ c. c + 1) stands.next_cycle;
-    };
-    opened = opened_with node.next (width_of opening) opening.mask;
-    is_open = record {
-      is_open = refl;
-      cycle = stands.next_cycle;
-      width = refl;
-      mask = refl;
-      heard = λ slot within own. has_bit-none slot ∙ sym (none_sent layout owners requests opening past sent slot before triggers);
-    };
-  }
+  stands-opened node frames are before triggers stands = grind (arith, same_mail-all, opened_with, has_bit-none, none_sent)
 
   pub stands-trigger : (node : NodeState) → AreOwners owners → IsLayout layout → width_of opening ≤ layout.window → opening.mask < 2 ^ layout.slots
       → All (λ earlier. earlier.start < start_of layout opening) past → map (λ one. one.frame) sent ≡ trigger_frames layout opening
@@ -227,9 +151,7 @@ module _ (layout : CycleLayout) (owners : List Owner) (requests : List Request) 
       → StandsIn layout owners requests opening (past ++ sent) (fold after_hearing node sent)
   stands-trigger node are is small below before triggers stands =
       let same = sym stands.same_layout in
-      let its : map (λ one. one.frame) sent ≡ triggers_with node.layout.slots node.next (width_of opening) opening.mask =
-      triggers ∙ ap (λ l. triggers_with l.slots opening.cycle (width_of opening) opening.mask) same
-      ∙ ap (λ c. triggers_with node.layout.slots c (width_of opening) opening.mask) (sym stands.next_cycle) in
+      let its : map (λ one. one.frame) sent ≡ triggers_with node.layout.slots node.next (width_of opening) opening.mask = grind arith in
       let opens = opens-next node (width_of opening) opening.mask (subst IsLayout same is) (subst (λ l. width_of opening ≤ l.window) same small)
       (subst (λ l. opening.mask < 2 ^ l.slots) same below) sent its in
       subst (λ (n : NodeState). StandsIn layout owners requests opening (past ++ sent) n) (sym opens.1)
@@ -243,6 +165,4 @@ pub stands-later : (layout : CycleLayout) (owners : List Owner) (requests : List
 stands-later layout owners requests opening past sent node are well other begun stands =
     subst (λ (n : NodeState). StandsIn layout owners requests opening (past ++ sent ∷ []) (after_hearing n sent))
     (sym (standing_in-is layout owners requests opening past node stands))
-    (stands_in-later layout owners requests opening past sent node.number node.frames node.noted are
-    stands.opened.heard well other begun
-    (λ slot within own. stands.is_open.heard slot within (ap (list_any (λ p. p.entry.slot == slot)) stands.stands.own_entries ∙ own)))
+    (grind (arith, stands_in-later))

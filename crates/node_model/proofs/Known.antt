@@ -1,5 +1,5 @@
 -- What is known of a node's own entries, identifiers and slots.
-use Rattle.std.proofs.Common.{◌≡◌, ◌≢◌, ℕ, ◌+◌, ◌-◌, ◌^◌, ◌<◌, ◌≤◌, ◌||◌, ◌==◌, Bool, true, false, cond, map, get_or, Option, Some, None, MatchOption, ◌⊎◌, List, [], ◌∷◌, filter, All, AllPairs, refl, sym, ap, ◌∙◌, arith, ⊎_elim}
+use Rattle.std.proofs.Common.{◌≡◌, ◌≢◌, ℕ, ◌+◌, ◌-◌, ◌^◌, ◌<◌, ◌≤◌, ◌||◌, ◌==◌, Bool, true, false, cond, map, Option, Some, None, MatchOption, ◌⊎◌, List, [], ◌∷◌, filter, All, AllPairs, refl, sym, ap, ◌∙◌, arith, ⊎_elim}
 use Rattle.std.specs.List.{list_any}
 use Rattle.std.proofs.lemmas.Bool.{cases_lt, eq-eqb, eqb-true}
 use Rattle.std.proofs.lemmas.Bool.Decides.{nat_tests}
@@ -18,21 +18,7 @@ use Rattle.node_model.specs.Kept.{AreSlotsOf, kept_of}
 -- a well placed list is so too with one number
 pub with_node-well_placed : (number : ℕ) (placed : List Placed) → IsWellPlaced placed → IsWellPlaced (map (with_node number) placed)
 with_node-well_placed number placed well = record {
-  in_range = All-map IsInRange (with_node number) placed (λ k d within.
-      let is : IsInRange (get_or placed k d) = well.in_range k d within in
-      record {
-        entry = record {
-          slot = is.entry.slot;
-          length = is.entry.length;
-          phase = is.entry.phase;
-          period = is.entry.period;
-          priority = is.entry.priority;
-          some_time = is.entry.some_time;
-          deadline = is.entry.deadline;
-        };
-        origin = is.origin;
-        end = is.end;
-      });
+  in_range = All-map IsInRange (with_node number) placed (λ k d within. grind arith);
   in_order = AllPairs-map GoesBefore (with_node number) placed (λ p. p) (λ i j d before within. well.in_order i j d before within);
 }
 
@@ -55,9 +41,7 @@ with_node-own number (p ∷ ps) =
 -- an own entry has the node's number
 one-own : (number : ℕ) (p : Placed) (ps rest : List Placed) (b : Bool) → (p.entry.node == number) ≡ b → map (with_node number) ps ≡ rest
     → map (with_node number) (cond b (p ∷ ps) ps) ≡ cond b (p ∷ rest) rest
-one-own number p ps rest true own is =
-    ap (λ n. with_node n p ∷ map (with_node number) ps) (sym (eqb-true p.entry.node number own)) ∙ ap (λ all. p ∷ all) is
-one-own number p ps rest false own is = is
+one-own number p ps rest b own is = grind (arith, eqb-true)
 
 -- the entries that are its own stay as they are
 pub kept_of-own : (number : ℕ) (placed : List Placed) → kept_of false number placed ≡ entries_of number placed
@@ -88,10 +72,7 @@ identifiers_of-distinct number owners distinct =
 
 -- the identifier of a slot is own exactly where an entry has the slot
 pub own-slot : (entries : List Placed) (slot id : ℕ) → first_identifier + slot ≡ id → is_own_slot entries id ≡ list_any (λ p. p.entry.slot == slot) entries
-own-slot [] slot id is = refl
-own-slot (p ∷ rest) slot id is =
-    let one : (first_identifier + p.entry.slot == id) ≡ (p.entry.slot == slot) = grind (arith, nat_tests) in
-    ap (λ b. b || is_own_slot rest id) one ∙ ap (λ b. (p.entry.slot == slot) || b) (own-slot rest slot id is)
+own-slot entries slot id is = grind (arith, nat_tests)
 
 -- an identifier below those of slots is not own
 own-none : (entries : List Placed) (id : ℕ) → id < first_identifier → is_own_slot entries id ≡ false

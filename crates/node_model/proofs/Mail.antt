@@ -1,6 +1,7 @@
 -- Mail of a node: what is taken away where nothing is left, and what an offered identifier says of its first unsent
 -- request.
-use Rattle.std.proofs.Common.{◌≡◌, ℕ, ◌/◌, ◌<◌, ◌≤◌, ◌==◌, true, false, Option, Some, None, List, [], ◌∷◌, get_or, map, All, is_some, slice_get, refl, sym, ap, ◌∙◌, subst, arith, ⊎_elim}
+use Rattle.std.proofs.Common.{◌≡◌, ℕ, ◌/◌, ◌<◌, ◌≤◌, ◌==◌, true, false, Option, Some, None, List, [], ◌∷◌, All, is_some, slice_get, refl, sym, ap, ◌∙◌, subst, arith, ⊎_elim}
+use Rattle.std.proofs.lemmas.Grind.{common_steps}
 use Rattle.std.specs.Option.{option_map, option_map_or}
 use Rattle.std.proofs.lemmas.Bool.{eqb-true, eqb-false, cases_Bool, false≢true}
 use Rattle.std.proofs.lemmas.Option.{none-some, same_Some}
@@ -26,10 +27,7 @@ abbrev AreOwn : List Mail → Type 0
 AreOwn mail = All (λ box. All (λ request. request.frame.identifier ≡ box.identifier) box.unsent) mail
 
 first-own : (id : ℕ) (unsent : List Request) (request : Request) → All (λ r. r.frame.identifier ≡ id) unsent → slice_get unsent 0 ≡ Some request → request.frame.identifier ≡ id
-first-own id [] request own first = absurd (none-some request first)
-first-own id (head ∷ later) request own first =
-    let same : head ≡ request = same_Some head request first in
-    rw same at (All-head (λ r. r.frame.identifier ≡ id) head later own)
+first-own id unsent request own first = grind (arith, common_steps, none-some, same_Some)
 
 -- the first unsent request of an identifier has it
 pub first-identifier : (id : ℕ) (mail : List Mail) (request : Request) → AreOwn mail → slice_get (unsent_of mail id) 0 ≡ Some request → request.frame.identifier ≡ id
@@ -55,24 +53,17 @@ pub offered-asynchronous : (layout : CycleLayout) (l at id : ℕ) (mail : List M
 offered-asynchronous layout l at id mail known offered =
     let among = Offers-among layout l at mail id (offered-request layout l at id mail known offered) in
     let least = All-map (λ n. 0x200 ≤ n) (λ box. box.identifier) mail known.least in
-    let at_least : 0x200 ≤ get_or (map (λ box. box.identifier) mail) among.0 id = least among.0 id among.1 in
-    omega (arith, at_least, among.2)
+    grind arith
 
 pub offered-early : (layout : CycleLayout) (l at id : ℕ) (mail : List Mail) → IsMail mail → mail_offer layout l mail at ≡ Some id → at < sync_start layout (at / layout.cycle) l
-offered-early layout l at id mail known offered =
-    let whole = (offered-request layout l at id mail known offered).1.allowed.whole in
-    omega (arith, whole)
+offered-early layout l at id mail known offered = grind (arith, offered-request)
 
 -- the frame of the first unsent request
 pub frame-is : (frame : DataFrame) (id : ℕ) (found : Option Request) → Some frame ≡ option_map (λ request. request.frame) found
     → ((request : Request) → found ≡ Some request → request.frame.identifier ≡ id)
     → frame ≡ record { identifier = id; bytes = option_map_or (λ request. request.frame.bytes) found [] }
-frame-is frame id None is own = absurd (none-some frame (sym is))
-frame-is frame id (Some request) is own =
-    let same : frame ≡ request.frame = same_Some frame request.frame is in
-    same ∙ ap (λ identifier. record { identifier = identifier; bytes = request.frame.bytes }) (own request refl)
+frame-is frame id found is own = grind (arith, none-some, same_Some)
 
 -- there is no first request
 pub no-first : (found : Option Request) → is_some found ≡ false → found ≡ None
-no-first None none = refl
-no-first (Some request) none = absurd (false≢true (sym none))
+no-first found none = grind (arith, false≢true)

@@ -1,8 +1,7 @@
 -- A frame with an identifier of a trigger frame, but above that of the last one of a cycle, is only counted.
-use Rattle.std.proofs.Common.{◌≡◌, ℕ, ◌+◌, ◌<◌, ◌≤◌, ◌==◌, nat_lt, false, List, ap, ◌∙◌, arith}
+use Rattle.std.proofs.Common.{◌≡◌, ℕ, ◌<◌, ◌≤◌, nat_lt, false, List, arith}
 use Rattle.std.proofs.lemmas.Bool.{cond-false, le-ltb, ne_eqb}
 use Rattle.std.proofs.lemmas.List.Folds.{list_any_none}
-use Rattle.profile.specs.Limits.{first_identifier}
 use Rattle.can_frame.specs.declared.data_frame.TimedFrame.{TimedFrame}
 use Rattle.node_model.proofs.Hearing.{without_first-none}
 use Rattle.requirement_table.specs.declared.entries.Placed.{Placed}
@@ -12,13 +11,8 @@ use Rattle.node_model.specs.Own.{counting}
 
 -- the identifier is that of no slot
 no_slot : (entries : List Placed) (id : ℕ) → id ≤ greatest_trigger → is_own_slot entries id ≡ false
-no_slot entries id low =
-    list_any_none (λ p. first_identifier + p.entry.slot == id) entries (λ k d within. ne_eqb _ _ (λ same. omega (arith, same, low)))
+no_slot entries id low = grind (arith, list_any_none, ne_eqb)
 
 pub only_counted : (node : NodeState) (sent : TimedFrame) → IsNode node → opening_identifier node.layout.slots < sent.frame.identifier
     → sent.frame.identifier ≤ greatest_trigger → after_hearing node sent ≡ counting node
-only_counted node sent is behind low =
-    cond-false (sent.frame.identifier == opening_identifier node.layout.slots) _ _ (ne_eqb _ _ (λ same. omega (arith, same, behind)))
-    ∙ cond-false (nat_lt sent.frame.identifier (opening_identifier node.layout.slots)) _ _ (le-ltb _ _ (omega (arith, behind)))
-    ∙ cond-false (is_own_slot node.entries sent.frame.identifier) _ _ (no_slot node.entries sent.frame.identifier low)
-    ∙ ap (λ m. record (counting node) { mail = m }) (without_first-none sent.frame.identifier node.mail (omega (arith, low)) is.mail.least)
+only_counted node sent is behind low = grind (arith, cond-false, ne_eqb, nat_lt, le-ltb, no_slot, without_first-none)

@@ -1,5 +1,6 @@
 -- The entries of a node in a list: they are well placed where the list is, and have the node's instances of it.
-use Rattle.std.proofs.Common.{◌≡◌, ℕ, zero, suc, Bool, true, false, cond, ◌==◌, Option, Some, List, [], ◌∷◌, map, filter, Contains, slice_get, refl, sym, ap, ◌∙◌, subst, arith}
+use Rattle.std.proofs.Common.{◌≡◌, ℕ, zero, suc, Bool, true, false, cond, ◌==◌, Option, Some, List, [], ◌∷◌, map, filter, Contains, slice_get, refl, arith}
+use Rattle.std.proofs.lemmas.Grind.{common_steps}
 use Rattle.std.specs.Option.{IfSome}
 use Rattle.std.proofs.lemmas.Bool.{eqb-true, eq-eqb}
 use Rattle.std.proofs.lemmas.Option.{slice_get-get_or}
@@ -26,9 +27,7 @@ module _ {X : Type 0} (test : X → Bool) where
   -- a filter keeps an element that passes
   pub Contains-filter : (xs : List X) (x : X) → Contains xs x → test x ≡ true → Contains (filter test xs) x
   Contains-filter [] x (k, within, same) passes = absurd (omega arith)
-  Contains-filter (y ∷ xs) x (zero, within, same) passes =
-      let here : test y ≡ true = ap test same ∙ passes in
-      subst (λ (b : Bool). Contains (cond b (y ∷ filter test xs) (filter test xs)) x) (sym here) (0, omega arith, same)
+  Contains-filter (y ∷ xs) x (zero, within, same) passes = grind arith
   Contains-filter (y ∷ xs) x (suc k, within, same) passes =
       Contains-kept (test y) y (filter test xs) x (Contains-filter xs x (k, omega arith, same) passes)
 
@@ -41,10 +40,7 @@ Contains-from_map f (x ∷ xs) y (suc k, within, same) =
     (later.0, (suc later.1.0, omega (arith, later.1.1), later.1.2), later.2)
 
 pub Contains-map : {X Y : Type 0} (f : X → Y) (xs : List X) (x : X) → Contains xs x → Contains (map f xs) (f x)
-Contains-map f [] x (k, within, same) = absurd (omega arith)
-Contains-map f (z ∷ xs) x (zero, within, same) = (0, omega arith, ap f same)
-Contains-map f (z ∷ xs) x (suc k, within, same) =
-    let later = Contains-map f xs x (k, omega arith, same) in (suc later.0, omega (arith, later.1), later.2)
+Contains-map f xs x h0 = grind (arith, common_steps)
 
 abbrev is_of : ℕ → Placed → Bool
 is_of number p = p.entry.node == number
@@ -68,10 +64,7 @@ sent_from placed slot c i is = IfSome-at (instance_in placed slot c) i (IsSentFr
 
 -- an instance of an entry of the list, of the slot, that may be sent, is found
 pub found_from : (placed : List Placed) (slot c : ℕ) (i : Instance) → IsWellPlaced placed → IsSentFrom placed slot c i → instance_in placed slot c ≡ Some i
-found_from placed slot c i well sent =
-    let at : slice_get placed sent.0.0 ≡ Some i.placed
-    = slice_get-get_or placed sent.0.0 i.placed sent.0.1 ∙ ap (λ p. Some p) sent.0.2 in
-    ap (λ s. instance_in placed s c) (sym sent.1) ∙ instance_in-found placed well sent.0.0 i.number c i.placed at sent.2
+found_from placed slot c i well sent = grind (arith, slice_get, slice_get-get_or, instance_in-found)
 
 -- what a node has of its own is what the whole list has, of the node's entries
 pub instance-of_all : (number : ℕ) (placed : List Placed) (slot c : ℕ) (i : Instance) → IsWellPlaced placed

@@ -1,7 +1,7 @@
 -- What a node in an opened cycle offers is the least of its own part of what is offered on the bus.
-use Rattle.std.proofs.Common.{◌≡◌, ℕ, ◌+◌, ◌-◌, ◌*◌, ◌/◌, ◌<◌, ◌≤◌, Bool, true, false, not, ◌&&◌, ◌==◌, eqb, leb, Option, Some, None, List, [], ◌∷◌, get_or, map, Contains, inl, inr, refl, sym, ap, ◌∙◌, subst, arith, MatchOption, option_map, div-lt_iff_lt-mul, div-mul-le_self}
+use Rattle.std.proofs.Common.{◌≡◌, ℕ, ◌+◌, ◌/◌, ◌<◌, ◌≤◌, Bool, true, false, ◌==◌, eqb, leb, Option, Some, None, List, [], ◌∷◌, map, Contains, inl, inr, refl, sym, ap, ◌∙◌, subst, arith, MatchOption, option_map, div-mul-le_self}
 use Rattle.std.specs.List.{list_any, slice_get}
-use Rattle.std.specs.Option.{is_some, option_map_or}
+use Rattle.std.specs.Option.{is_some}
 use Rattle.std.proofs.lemmas.Bool.{cases_lt, both_ways, eq-eqb, eqb-true, leb-true, le-leb, lt-leb, and_parts, and_from, not-true, not_from_false, false_from_ne_true, cond-true, cond-false}
 use Rattle.std.proofs.lemmas.Option.{slice_get_within, get_or_from_slice_get}
 use Rattle.std.proofs.lemmas.List.Elements.{All-contains, All-drop, All-map, filter_passes}
@@ -12,7 +12,7 @@ use Rattle.can_frame.specs.declared.data_frame.TimedFrame.{TimedFrame}
 use Rattle.cycle_layout.specs.Layout.{CycleLayout, IsLayout}
 use Rattle.requirement_table.specs.declared.entries.Placed.{Placed}
 use Rattle.bit_sets.specs.Sets.{has_bit, most_slots}
-use Rattle.requirement_table.specs.Instance.{Instance, bytes_of}
+use Rattle.requirement_table.specs.Instance.{Instance}
 use Rattle.requirement_table.specs.Table.{IsWellPlaced, instance_in}
 use Rattle.async_window.specs.declared.request.Owner.{Owner}
 use Rattle.async_window.specs.declared.request.Request.{Request}
@@ -21,7 +21,7 @@ use Rattle.async_window.specs.Mailbox.{IsLeastWith, IsMail, Mail, OffersIdentifi
 use Rattle.async_window.proofs.Shared.{Offers-among, Offers-least, unsent_of-among}
 use Rattle.requirement_table.specs.Opening.{Opening, width_of}
 use Rattle.trigger_codec.specs.Heard.{Noted}
-use Rattle.node_model.specs.Opening.{start_of, window_start}
+use Rattle.node_model.specs.Opening.{window_start}
 use Rattle.node_model.specs.Offered.{IsUnsent}
 use Rattle.bit_sets.specs.Least.{least_where}
 use Rattle.node_model.specs.Node.{IsNode, NodeState, entries_of, identifiers_of, is_due, node_bytes, node_frame, node_offer}
@@ -42,45 +42,23 @@ least_slot-frame : (Own : DataFrame → Type 0) (frame_of : ℕ → DataFrame) (
     → IsLeastBelow n p found → IsLeastFrame Own frame_of (option_map (λ slot. first_identifier + slot) found)
 least_slot-frame Own frame_of n p None to from none = λ frame own.
     let due = from frame own in both_ways (p due.0) (none due.0 due.1) due.2
-least_slot-frame Own frame_of n p (Some least) to from is = (
-  to least is.0 is.1,
-  λ frame own.
-      let due = from frame own in
-      elim (cases_lt due.0 least) [
-        | inl before ↦ absurd (both_ways (p due.0) (is.2 due.0 before) due.2)
-        | inr behind ↦ omega (arith, behind, due.3)
-      ],
-)
+least_slot-frame Own frame_of n p (Some least) to from is = grind (arith, cases_lt, both_ways)
 
 -- the identifiers with a property have these frames
 least_mail-frame : (Own : DataFrame → Type 0) (frame_of : ℕ → DataFrame) (Has : ℕ → Type 0) (found : Option ℕ)
     → ((id : ℕ) → Has id → Own (frame_of id)) → ((frame : DataFrame) → Own frame → Has frame.identifier)
     → IsLeastWith Has found → IsLeastFrame Own frame_of found
-least_mail-frame Own frame_of Has None to from none = λ frame own. none frame.identifier (from frame own)
-least_mail-frame Own frame_of Has (Some least) to from is = (to least is.0, λ frame own. is.1 frame.identifier (from frame own))
+least_mail-frame Own frame_of Has found to from none = grind arith
 
 pub value-of : {X : Type 0} (o : Option X) → is_some o ≡ true → (x : X) × (o ≡ Some x)
-value-of (Some x) is = (x, refl)
-value-of None is = absurd (cc)
+value-of o is = grind arith
 
 module _ (layout : CycleLayout) (opening : Opening) (past : List TimedFrame) where
   unsent-from : (slot : ℕ) → was_sent layout opening past slot ≡ false → IsUnsent layout opening slot past
-  unsent-from slot none = λ k d within same.
-      elim (cases_lt (get_or past k d).start (start_of layout opening)) [
-        | inl before ↦ before
-        | inr behind ↦ absurd (both_ways (was_sent layout opening past slot) none
-            (list_any_at (λ sent. (sent.frame.identifier == first_identifier + slot) && leb (start_of layout opening) sent.start) past k d within
-            (and_from _ _ (eq-eqb _ _ same) (le-leb _ _ behind))))
-      ]
+  unsent-from slot none = grind (arith, cases_lt, both_ways, list_any_at, leb, and_from, eq-eqb, le-leb)
 
   from-unsent : (slot : ℕ) → IsUnsent layout opening slot past → was_sent layout opening past slot ≡ false
-  from-unsent slot unsent =
-      list_any_none (λ sent. (sent.frame.identifier == first_identifier + slot) && leb (start_of layout opening) sent.start) past
-      (λ k d within. false_from_ne_true _ (λ test.
-      let parts = and_parts (eqb (get_or past k d).frame.identifier (first_identifier + slot)) (leb (start_of layout opening) (get_or past k d).start) test in
-      let before = unsent k d within (eqb-true _ _ parts.0) in
-      let behind = leb-true (start_of layout opening) (get_or past k d).start parts.1 in
-      omega arith))
+  from-unsent slot unsent = grind (arith, list_any_none, leb, false_from_ne_true, and_parts, eqb, eqb-true, leb-true)
 
 -- a slot of which the entries have an instance is one of theirs
 slot-of_instance : (entries : List Placed) (slot c : ℕ) (i : Instance) → instance_in entries slot c ≡ Some i
@@ -89,24 +67,10 @@ slot-of_instance entries slot c i is =
     let sent = sent_from entries slot c i is in
     list_any-from_Any (λ p. p.entry.slot == slot) entries (sent.0.0, i.placed, sent.0.1, sent.0.2, eq-eqb i.placed.entry.slot slot sent.1)
 
--- a time is before the end of its cycle
-within_cycle : (at cycle : ℕ) → 0 < cycle → at < (at / cycle + 1) * cycle
-within_cycle at cycle positive = (div-lt_iff_lt-mul {k = cycle} {x = at} {y = at / cycle + 1} positive).0 (omega arith)
-
--- the bytes of a slot's frame are those of its instance
-bytes_of-slot : (node : NodeState) (at slot : ℕ) (i : Instance) → slot < most_slots → instance_in node.entries slot (at / node.layout.cycle) ≡ Some i
-    → node_bytes node at (first_identifier + slot) ≡ bytes_of i
-bytes_of-slot node at slot i within is =
-    let back : first_identifier + slot - first_identifier ≡ slot = omega arith in
-    cond-false (leb 0x200 (first_identifier + slot)) _ _ (lt-leb 0x200 (first_identifier + slot) (omega arith))
-    ∙ ap (λ s. option_map_or bytes_of (instance_in node.entries s (at / node.layout.cycle)) []) back
-    ∙ ap (λ o. option_map_or bytes_of o []) is
-
 -- and those of a request's frame are the request's
 bytes_of-request : (node : NodeState) (at id : ℕ) (request : Request) → 0x200 ≤ id → slice_get (unsent_of node.mail id) 0 ≡ Some request
     → node_bytes node at id ≡ request.frame.bytes
-bytes_of-request node at id request above is =
-    cond-true (leb 0x200 id) _ _ (le-leb 0x200 id above) ∙ ap (λ o. option_map_or (λ r. r.frame.bytes) o []) is
+bytes_of-request node at id request above is = grind (arith, cond-true, leb, le-leb)
 
 pub identifiers-after : (ids : List ℕ) (requests : List Request) (past : List TimedFrame) → map (λ box. box.identifier) (mail_after ids requests past) ≡ ids
 identifiers-after [] requests past = refl
@@ -118,13 +82,10 @@ first-identifier : (requests : List Request) (past : List TimedFrame) (id : ℕ)
 first-identifier requests past id request is =
     let all = All-drop (λ r. eqb r.frame.identifier id ≡ true) (frames_with past id) (requests_of requests id)
     (filter_passes (λ r. eqb r.frame.identifier id) requests) in
-    let inside = slice_get_within (unsent_after requests past id) 0 request is in
-    let here : get_or (unsent_after requests past id) 0 request ≡ request = get_or_from_slice_get (unsent_after requests past id) 0 request request is in
-    eqb-true request.frame.identifier id (subst (λ (r : Request). eqb r.frame.identifier id ≡ true) here (all 0 request inside))
+    grind (arith, slice_get_within, get_or_from_slice_get, eqb-true, eqb)
 
 same_frame : (frame : DataFrame) (id : ℕ) (bytes : List ℕ) → id ≡ frame.identifier → bytes ≡ frame.bytes → record { identifier = id; bytes = bytes } ≡ frame
-same_frame frame id bytes same also =
-    ap (λ n. record { identifier = n; bytes = bytes }) same ∙ ap (λ b. record { identifier = frame.identifier; bytes = b }) also
+same_frame frame id bytes same also = grind arith
 
 module _ (layout : CycleLayout) (owners : List Owner) (requests : List Request) (opening : Opening) (past : List TimedFrame)
     (at number frames heard : ℕ) (noted : Noted) (positive : 0 < layout.cycle) (well : IsWellPlaced opening.placed) (time : at / layout.cycle ≡ opening.cycle)
@@ -149,47 +110,18 @@ module _ (layout : CycleLayout) (owners : List Owner) (requests : List Request) 
   due-offers : window_start layout opening ≤ at → (slot : ℕ) → slot < most_slots → is_due entries (opened_for opening heard) slot ≡ true
       → Own (node_frame node at (first_identifier + slot))
   due-offers late slot within due =
-      let parts = and_parts (has_bit opening.mask slot) (is_some (instance_in entries slot opening.cycle) && not (has_bit heard slot)) due in
-      let more = and_parts (is_some (instance_in entries slot opening.cycle)) (not (has_bit heard slot)) parts.1 in
-      let found = value-of (instance_in entries slot opening.cycle) more.0 in
-      let all = instance-of_all number opening.placed slot opening.cycle found.0 well found.1 in
-      let mark = marked slot within (slot-of_instance entries slot opening.cycle found.0 found.1) in
-      inr (
-        slot,
-        record {
-          begun = subst (λ c. c * layout.cycle ≤ at) time (div-mul-le_self at layout.cycle);
-          late_enough = late;
-          within = subst (λ c. at < (c + 1) * layout.cycle) time (within_cycle at layout.cycle positive);
-          known = within;
-          flagged = parts.0;
-          unsent = unsent-from layout opening past slot (sym mark ∙ not-true (has_bit heard slot) more.1);
-          identifier = refl;
-          bytes = ap (option_map bytes_of) all.0
-              ∙ ap (λ b. Some b) (sym (bytes_of-slot node at slot found.0 within (ap (instance_in entries slot) time ∙ found.1)));
-        },
-        (found.0, all.0, all.1),
-      )
+      grind (arith, and_parts, value-of, instance-of_all, slot-of_instance, div-mul-le_self, unsent-from, not-true, option_map)
 
   offers-due : window_start layout opening ≤ at → (frame : DataFrame) → Own frame
       → (slot : ℕ) × (slot < most_slots) × (is_due entries (opened_for opening heard) slot ≡ true) × (frame.identifier ≡ first_identifier + slot)
-  offers-due late frame (inl request) = let whole = request.0.may_start.allowed.whole in absurd (omega arith)
-  offers-due late frame (inr (slot, offers, (i, is, its))) =
-      let mine = instance-of_own number opening.placed slot opening.cycle i well is its in
-      let mark = marked slot offers.known (slot-of_instance entries slot opening.cycle i mine) in (
-        slot,
-        offers.known,
-        and_from _ _ offers.flagged
-            (and_from _ _ (ap is_some mine) (not_from_false _ (mark ∙ from-unsent layout opening past slot offers.unsent))),
-        offers.identifier,
-      )
+  offers-due late frame h1 = grind (arith, instance-of_own, slot-of_instance, and_from, not_from_false, from-unsent)
 
   offers-late : window_start layout opening ≤ at → OffersLeastOwn layout owners requests opening past at node
   offers-late late =
       let value : node_offer node at ≡ option_map (λ slot. first_identifier + slot) (least_where most_slots (is_due entries (opened_for opening heard)))
       = cond-true (eqb (at / layout.cycle) opening.cycle) _ _ (eq-eqb _ _ time) ∙ cond-true (leb (window_start layout opening) at) _ _ (le-leb _ _ late) in
       subst (IsLeastFrame Own (node_frame node at)) (sym value)
-      (least_slot-frame Own (node_frame node at) most_slots (is_due entries (opened_for opening heard)) (least_where most_slots (is_due entries (opened_for opening heard)))
-      (due-offers late) (offers-due late) (least_where-least most_slots (is_due entries (opened_for opening heard))))
+      (grind (arith, least_slot-frame, opened_for, due-offers, offers-due, least_where-least))
 
   -- before it
   module _ (known : IsMail mail) where
@@ -201,9 +133,7 @@ module _ (layout : CycleLayout) (owners : List Owner) (requests : List Request) 
 
     may_start-same : (c d : ℕ) (one other : List Request) (request : Request) → c ≡ d → one ≡ other
         → MayStart layout c (width_of opening) one at request → MayStart layout d (width_of opening) other at request
-    may_start-same c d one other request same also may =
-        subst (λ n. MayStart layout n (width_of opening) other at request) same
-        (subst (λ unsent. MayStart layout c (width_of opening) unsent at request) also may)
+    may_start-same c d one other request same also may = grind arith
 
     mail-offers : (id : ℕ) → OffersIdentifier layout (width_of opening) mail at id → Own (node_frame node at id)
     mail-offers id offers =
@@ -222,12 +152,7 @@ module _ (layout : CycleLayout) (owners : List Owner) (requests : List Request) 
         )
 
     offers-mail : at < window_start layout opening → (frame : DataFrame) → Own frame → OffersIdentifier layout (width_of opening) mail at frame.identifier
-    offers-mail early frame (inl (offers, among)) = (
-      offers.request,
-      may_start-same opening.cycle (at / layout.cycle) (unsent_after requests past frame.identifier) (unsent_of mail frame.identifier) offers.request
-          (sym time) (sym (unsent_among frame.identifier among)) offers.may_start,
-    )
-    offers-mail early frame (inr (slot, offers, own)) = let late = offers.late_enough in absurd (omega arith)
+    offers-mail early frame h1 = grind (arith, may_start-same, unsent_among)
 
     offers-early : IsLeastWith (OffersIdentifier layout (width_of opening) mail at) (mail_offer layout (width_of opening) mail at) → at < window_start layout opening
         → OffersLeastOwn layout owners requests opening past at node
@@ -235,8 +160,7 @@ module _ (layout : CycleLayout) (owners : List Owner) (requests : List Request) 
         let value : node_offer node at ≡ mail_offer layout (width_of opening) mail at
         = cond-true (eqb (at / layout.cycle) opening.cycle) _ _ (eq-eqb _ _ time) ∙ cond-false (leb (window_start layout opening) at) _ _ (lt-leb _ _ early) in
         subst (IsLeastFrame Own (node_frame node at)) (sym value)
-        (least_mail-frame Own (node_frame node at) (OffersIdentifier layout (width_of opening) mail at) (mail_offer layout (width_of opening) mail at)
-        mail-offers (offers-mail early) least)
+        (grind (arith, least_mail-frame, mail-offers, offers-mail))
 
     pub offers-least : IsLeastWith (OffersIdentifier layout (width_of opening) mail at) (mail_offer layout (width_of opening) mail at)
         → OffersLeastOwn layout owners requests opening past at node
@@ -249,7 +173,6 @@ offers_own_part layout owners requests opening past at node is_node well stands 
     let mail : List Mail = mail_after (identifiers_of node.number owners) requests past in
     let known : IsMail mail = subst IsMail stands.stands.own_mail is_node.mail in
     let its_layout : IsLayout layout = subst IsLayout stands.stands.same_layout is_node.layout in
-    let long = its_layout.cycle_range.above in
     subst (λ (n : NodeState). OffersLeastOwn layout owners requests opening past at n)
     (sym (standing_in-is layout owners requests opening past node stands))
     (offers-least layout owners requests opening past at node.number node.frames stands.opened.heard node.noted (omega arith) well time

@@ -1,16 +1,15 @@
 -- What is known of the instances of slots: of none, of one more, and of those that an entry releases next.
-use Rattle.std.proofs.Common.{◌≡◌, ◌≢◌, ℕ, zero, suc, ◌+◌, ◌-◌, ◌*◌, ◌%◌, ◌^◌, ◌<◌, ◌≤◌, ◌&&◌, ◌==◌, Bool, true, false, not, is_some, Option, None, Some, option_map, List, [], ◌∷◌, slice_get, get_or, set, length, replicate, inl, inr, refl, sym, ap, ◌∙◌, subst, arith}
+use Rattle.std.proofs.Common.{◌≡◌, ◌≢◌, ℕ, zero, suc, ◌+◌, ◌*◌, ◌%◌, ◌^◌, ◌<◌, ◌≤◌, ◌&&◌, ◌==◌, true, false, not, is_some, Option, Some, option_map, List, [], ◌∷◌, slice_get, get_or, set, length, replicate, refl, ap, ◌∙◌, arith}
 use Rattle.std.specs.Prelude.{IfSome, IsSomeAnd}
-use Rattle.std.specs.Option.{option_map_or}
-use Rattle.std.proofs.lemmas.Bool.{cases_eq, cases_lt, false≢true, ne_eqb}
+use Rattle.std.proofs.lemmas.Bool.{cases_lt, ne_eqb}
 use Rattle.std.proofs.lemmas.Option.{none-some, IfSome_then}
 use Rattle.requirement_table.specs.declared.entries.Placed.{Placed}
 use Rattle.bit_sets.specs.Sets.{has_bit}
-use Rattle.requirement_table.specs.Instance.{Instance, MaySend, bytes_of, payload, release_of}
+use Rattle.requirement_table.specs.Instance.{Instance, MaySend, bytes_of, payload}
 use Rattle.requirement_table.specs.Table.{IsInRange, IsWellPlaced, instance_in}
 use Rattle.requirement_table.proofs.Shared.{instance_in-found}
 use Rattle.node_model.specs.declared.entries.Ready.{Ready}
-use Rattle.node_model.specs.Kept.{AreReady, IsSendableIn, IsSlotReady, carried_after, ready_of, released_after}
+use Rattle.node_model.specs.Kept.{AreReady, IsSendableIn, IsSlotReady, carried_after, ready_of}
 
 module _ {X : Type 0} where
   each-of : (P : ℕ → X → Type 0) (n : ℕ) (x : X) → ((k : ℕ) → P k x) → (j : ℕ) → IfSome (slice_get (replicate n x) j) (P j)
@@ -64,12 +63,7 @@ abbrev pub unknown : Ready
 unknown = record { release = 0; end = 0; number = 0; period = 0; deadline = 0; length = 0 }
 
 pub nothing-ready : (entries : List Placed) (n : ℕ) → AreReady entries (replicate n unknown)
-nothing-ready entries n = each-of (IsSlotReady entries) n unknown (λ slot. record {
-  number = omega arith;
-  deadline = omega arith;
-  length = omega arith;
-  each = λ k c before from in_time. absurd (omega (arith, from, in_time));
-})
+nothing-ready entries n = each-of (IsSlotReady entries) n unknown (λ slot. grind arith)
 
 -- what is kept of a slot when nothing is known of the first `k` slots
 pub record IsForgotten (k slot : ℕ) (ready : Ready) : Type 0 where
@@ -79,12 +73,7 @@ pub record IsForgotten (k slot : ℕ) (ready : Ready) : Type 0 where
   pub over : slot < k → ready.end ≡ 0
 
 pub none-forgotten : (entries : List Placed) (slots : List Ready) → AreReady entries slots → (slot : ℕ) → IfSome (slice_get slots slot) (IsForgotten 0 slot)
-none-forgotten entries slots ready slot = IfSome_then (slice_get slots slot) (ready slot) (λ r known. record {
-  number = known.number;
-  deadline = known.deadline;
-  length = known.length;
-  over = λ none. absurd (omega (arith, none));
-})
+none-forgotten entries slots ready slot = grind (arith, slice_get)
 
 pub one-forgotten : (k : ℕ) (slots : List Ready) → ((slot : ℕ) → IfSome (slice_get slots slot) (IsForgotten k slot))
     → (slot : ℕ) → IfSome (slice_get (set slots k (record (get_or slots k unknown) { end = 0 })) slot) (IsForgotten (k + 1) slot)
@@ -93,27 +82,11 @@ one-forgotten k slots before =
     let known = at-or (IsForgotten k k) slots k unknown none (before k) in
     each-step (IsForgotten k) (IsForgotten (k + 1)) slots k (record (get_or slots k unknown) { end = 0 })
     (record { number = known.number; deadline = known.deadline; length = known.length; over = λ _. refl })
-    (λ j y apart was. record {
-      number = was.number;
-      deadline = was.deadline;
-      length = was.length;
-      over = λ within. elim (cases_lt j k) [
-        | inl below ↦ was.over below
-        | inr from ↦ absurd (apart (omega (arith, from, within)))
-      ];
-    }) before
+    (λ j y apart was. grind (arith, cases_lt)) before
 
 pub all-forgotten : (entries : List Placed) (n : ℕ) (slots : List Ready) → length slots ≤ n
     → ((slot : ℕ) → IfSome (slice_get slots slot) (IsForgotten n slot)) → AreReady entries slots
-all-forgotten entries n slots few forgotten slot = elim (cases_lt slot n) [
-  | inl below ↦ IfSome_then (slice_get slots slot) (forgotten slot) (λ r known. record {
-    number = known.number;
-    deadline = known.deadline;
-    length = known.length;
-    each = λ k c before from in_time. absurd (omega (arith, before, known.over below));
-  })
-  | inr from ↦ at-end (IsSlotReady entries slot) slots slot (omega (arith, few, from))
-]
+all-forgotten entries n slots h0 h1 = grind (arith, cases_lt, slice_get, at-end)
 
 -- more is known of one slot
 pub one-ready : (entries : List Placed) (slots : List Ready) (slot : ℕ) (found : Ready) → IsSlotReady entries slot found → AreReady entries slots
@@ -122,13 +95,8 @@ one-ready entries slots slot found known before = each-set (IsSlotReady entries)
 
 -- The instances of an entry
 
-exists-before : (end : Option ℕ) (release : ℕ) → release < option_map_or (λ e. e) end (2 ^ 64 - 1) → IfSome end (λ e. release < e)
-exists-before None release before = tt
-exists-before (Some e) release before = before
-
 times-some : (k n : ℕ) → 1 ≤ n → k ≤ k * n
-times-some k zero some = absurd (omega arith)
-times-some k (suc n) some = let parts : k * suc n ≡ k * n + k = omega arith in omega (arith, parts)
+times-some k n some = grind arith
 
 -- what is known once an instance of an entry was found
 pub entry-ready : (entries : List Placed) (place k : ℕ) (p : Placed) → IsWellPlaced entries → slice_get entries place ≡ Some p → IsInRange p
@@ -138,12 +106,7 @@ entry-ready entries place k p well at range = record {
   deadline = range.entry.deadline;
   length = range.entry.length;
   each = λ more c before from in_time.
-      let same : release_of p (k + more) ≡ released_after (ready_of p k) more = omega arith in
-      let sends : MaySend p (k + more) c = record {
-        exists = exists-before p.end (release_of p (k + more)) (rw same before);
-        released = rw same from;
-        in_time = rw same in_time;
-      } in
+      let sends : MaySend p (k + more) c = grind arith in
       ap (option_map bytes_of) (instance_in-found entries well place (k + more) c p at sends);
 }
 
@@ -167,18 +130,14 @@ next-ready entries slot found release number c known later wraps small now =
 -- an instance that is known and may be sent is the slot's
 pub known-instance : (entries : List Placed) (slot c : ℕ) (found : Ready) → IsSlotReady entries slot found → IsSendableIn c found
     → option_map bytes_of (instance_in entries slot c) ≡ Some (carried_after found 0)
-known-instance entries slot c found known now =
-    known.each 0 c (omega (arith, now.exists)) (omega (arith, now.released)) (omega (arith, now.in_time))
+known-instance entries slot c found known now = grind arith
 
 some-mapped : (o : Option Instance) (bytes : List ℕ) → option_map bytes_of o ≡ Some bytes → is_some o ≡ true
-some-mapped (Some i) bytes is = refl
-some-mapped None bytes is = absurd (none-some bytes is)
+some-mapped o bytes is = grind (arith, none-some)
 
 pub known-slot : (entries : List Placed) (slots : List Ready) (slot c : ℕ) (d : Ready) → AreReady entries slots → IsSomeAnd (slice_get slots slot) (IsSendableIn c)
     → (option_map bytes_of (instance_in entries slot c) ≡ Some (carried_after (get_or slots slot d) 0)) × ((get_or slots slot d).length ≤ 8)
-known-slot entries slots slot c d ready now =
-    let both = at-both (IsSendableIn c) (IsSlotReady entries slot) slots slot d now (ready slot) in
-    (known-instance entries slot c (get_or slots slot d) both.1 both.0, both.1.length)
+known-slot entries slots slot c d ready now = grind (arith, at-both, known-instance)
 
 pub is_some-known : (entries : List Placed) (slots : List Ready) (slot c : ℕ) → AreReady entries slots → IsSomeAnd (slice_get slots slot) (IsSendableIn c)
     → is_some (instance_in entries slot c) ≡ true
@@ -188,18 +147,8 @@ is_some-known entries slots slot c ready now =
 
 -- Sets of slots whose instances are known
 
--- one slot more was looked at, of those that are left
-and-other : (same has : Bool) → same ≡ false → (not same && has) ≡ false → has ≡ false
-and-other true has other both = absurd (false≢true (sym other))
-and-other false has other both = both
-
 pub sendable-next : (c set_of left rest slot : ℕ) (old new : List Ready) → ((s : ℕ) → has_bit rest s ≡ (not (s == slot) && has_bit left s))
     → IsSomeAnd (slice_get new slot) (IsSendableIn c) → ((s : ℕ) → s ≢ slot → slice_get new s ≡ slice_get old s)
     → ((s : ℕ) → has_bit set_of s ≡ true → has_bit left s ≡ false → IsSomeAnd (slice_get old s) (IsSendableIn c))
     → (s : ℕ) → has_bit set_of s ≡ true → has_bit rest s ≡ false → IsSomeAnd (slice_get new s) (IsSendableIn c)
-sendable-next c set_of left rest slot old new without now others before s has gone = elim (cases_eq s slot) [
-  | inl same ↦ subst (λ j. IsSomeAnd (slice_get new j) (IsSendableIn c)) (sym same) now
-  | inr other ↦
-      subst (λ o. IsSomeAnd o (IsSendableIn c)) (sym (others s other))
-      (before s has (and-other (s == slot) (has_bit left s) (ne_eqb s slot other) (sym (without s) ∙ gone)))
-]
+sendable-next c set_of left rest slot old new without now others before s has gone = grind (arith, slice_get, ne_eqb)

@@ -1,16 +1,15 @@
 -- What holds of every node still holds when it learns a list or hears a frame.
-use Rattle.std.proofs.Common.{◌≡◌, ◌≢◌, ℕ, ◌+◌, ◌-◌, ◌^◌, ◌<◌, ◌≤◌, Option, Some, None, IfSome, List, arith, option_map}
+use Rattle.std.proofs.Common.{◌≡◌, ℕ, ◌-◌, ◌^◌, ◌<◌, ◌≤◌, Option, IfSome, List, arith, option_map}
+use Rattle.std.proofs.lemmas.Grind.{common_steps}
 use Rattle.profile.specs.Limits.{first_identifier}
 use Rattle.can_frame.specs.declared.data_frame.TimedFrame.{TimedFrame}
 use Rattle.requirement_table.specs.declared.entries.Placed.{Placed}
 use Rattle.requirement_table.specs.Table.{IsWellPlaced}
 use Rattle.trigger_codec.specs.declared.message.Trigger.{Trigger}
-use Rattle.trigger_codec.specs.Bytes.{trigger_of}
 use Rattle.trigger_codec.proofs.Shared.{first-noted, last-fits}
 use Rattle.async_window.proofs.Shared.{IsMail-without}
-use Rattle.trigger_kind.specs.Kind.{opening_identifier, triggers_of}
-use Rattle.node_model.specs.Node.{IsNode, NodeState, Opened, after_hearing, counted, learnt, opened_by, opening_trigger, with_heard}
-use Rattle.node_model.specs.Own.{counting}
+use Rattle.trigger_kind.specs.Kind.{opening_identifier}
+use Rattle.node_model.specs.Node.{IsNode, NodeState, Opened, after_hearing, counted, learnt, with_heard}
 use Rattle.node_model.proofs.OtherFrames.{after_hearing-keeps}
 use Rattle.node_model.proofs.OwnEntries.{entries_of-well_placed}
 
@@ -33,17 +32,8 @@ IsOpen window next opened = (opened.width ≤ window) × (opened.cycle < next)
 abbrev FitsIn : ℕ → Trigger → Type 0
 FitsIn window trigger = trigger.l ≤ window
 
-open-fitting : (window cycle : ℕ) (trigger : Option Trigger) → IfSome trigger (FitsIn window) → IsOpen window (cycle + 1) (opened_by cycle trigger)
-open-fitting window cycle None fits = (omega arith, omega arith)
-open-fitting window cycle (Some trigger) fits = (fits, omega arith)
-
 open-slot : (window next slot : ℕ) (opened : Option Opened) → IfSome opened (IsOpen window next) → IfSome (option_map (with_heard slot) opened) (IsOpen window next)
-open-slot window next slot None is = tt
-open-slot window next slot (Some opened) is = is
-
--- where a frame comes before the last one, that one is not the first
-more-frames : (slots id : ℕ) → id < opening_identifier slots → opening_identifier slots ≢ 0
-more-frames slots id earlier first = omega (arith, earlier, first)
+open-slot window next slot opened is = grind arith
 
 counted-small : (n : ℕ) → n < 2 ^ 64 → counted n < 2 ^ 64
 counted-small n small = omega arith
@@ -52,26 +42,8 @@ pub node-hearing : (node : NodeState) (sent : TimedFrame) → (sent.frame.identi
     → IsNode (after_hearing node sent)
 node-hearing node sent early is =
     after_hearing-keeps IsNode node sent
-    (λ opening. record {
-      layout = is.layout;
-      entries = is.entries;
-      mail = is.mail;
-      opened = open-fitting node.layout.window node.next (opening_trigger (counting node) sent.frame)
-          (last-fits (triggers_of node.layout.slots) node.layout.window node.next node.noted sent.frame is.noted);
-      next = let below = early opening in omega arith;
-      frames = counted-small node.frames is.frames;
-      noted = tt;
-    })
-    (λ earlier. record {
-      layout = is.layout;
-      entries = is.entries;
-      mail = is.mail;
-      opened = is.opened;
-      next = is.next;
-      frames = counted-small node.frames is.frames;
-      noted = first-noted (triggers_of node.layout.slots) node.layout.window node.next (trigger_of sent.frame)
-          (more-frames node.layout.slots sent.frame.identifier earlier);
-    })
+    (λ opening. grind (arith, last-fits, counted-small))
+    (λ earlier. grind (arith, common_steps, counted-small, first-noted))
     (record {
       layout = is.layout;
       entries = is.entries;

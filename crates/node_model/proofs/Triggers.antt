@@ -1,12 +1,11 @@
 -- The trigger frames of a cycle, however many there are, as a node hears them: they open the cycle.
-use Rattle.std.proofs.Common.{◌≡◌, ℕ, ◌+◌, ◌%◌, ◌^◌, ◌<◌, ◌≤◌, ◌==◌, nat_lt, Some, None, Option, List, [], ◌∷◌, map, All, sym, ap, ◌∙◌, subst, arith}
+use Rattle.std.proofs.Common.{◌≡◌, ℕ, ◌+◌, ◌^◌, ◌<◌, ◌≤◌, nat_lt, Some, None, List, [], ◌∷◌, map, All, sym, ap, ◌∙◌, subst, arith}
 use Rattle.std.specs.Prelude.{fold}
 use Rattle.std.proofs.lemmas.Bool.{cond-false, cond-true, eq-eqb, lt-ltb, ne_eqb}
 use Rattle.can_frame.specs.DataFrame.{DataFrame}
 use Rattle.can_frame.specs.declared.data_frame.TimedFrame.{TimedFrame}
 use Rattle.trigger_kind.specs.Kind.{greatest_trigger, opening_identifier, triggers_of}
 use Rattle.cycle_layout.specs.Layout.{IsLayout}
-use Rattle.trigger_codec.specs.declared.message.Trigger.{Trigger}
 use Rattle.trigger_codec.specs.Bytes.{triggers_with}
 use Rattle.trigger_codec.proofs.Shared.{OpensByLast, heard-in_turn, heard_in_turn, last_opens, sent-low}
 use Rattle.node_model.specs.Node.{NodeState, Opened, after_hearing, after_noting, after_opening, opened_by}
@@ -27,15 +26,12 @@ opening_done node l mask frames =
 -- the last of them opens the cycle
 hears-last : (node : NodeState) (sent : TimedFrame) → sent.frame.identifier ≡ opening_identifier node.layout.slots
     → after_hearing node sent ≡ after_opening (counting node) sent.frame
-hears-last node sent last =
-    cond-true (sent.frame.identifier == opening_identifier node.layout.slots) _ _ (eq-eqb _ _ last)
+hears-last node sent last = grind (arith, cond-true, eq-eqb)
 
 -- one before it is noted
 pub hears-earlier : (node : NodeState) (sent : TimedFrame) → sent.frame.identifier < opening_identifier node.layout.slots
     → after_hearing node sent ≡ after_noting (counting node) sent.frame
-hears-earlier node sent earlier =
-    cond-false (sent.frame.identifier == opening_identifier node.layout.slots) _ _ (ne_eqb _ _ (λ same. omega (arith, same, earlier)))
-    ∙ cond-true (nat_lt sent.frame.identifier (opening_identifier node.layout.slots)) _ _ (lt-ltb _ _ earlier)
+hears-earlier node sent earlier = grind (arith, cond-false, ne_eqb, cond-true, nat_lt, lt-ltb)
 
 -- a node that heard frames of which the last one opens the next cycle, by what they say in turn
 abbrev opened_in_turn : NodeState → List TimedFrame → ℕ → NodeState
@@ -59,14 +55,9 @@ pub opens-next : (node : NodeState) (l mask : ℕ) → IsLayout node.layout → 
     → (sent : List TimedFrame) → frames_of sent ≡ triggers_with node.layout.slots node.next l mask
     → (frames : ℕ) × (fold after_hearing node sent ≡ opening_done node l mask frames)
 opens-next node l mask is small below sent are =
-    let largest = is.window_range.below in
     let slots = node.layout.slots in
     let turn = hears-in_turn sent node (subst (OpensByLast (opening_identifier slots)) (sym are) (last_opens slots node.next l mask)) in
-    let said : heard_in_turn (triggers_of slots) node.layout.window node.next node.noted (frames_of sent)
-    ≡ Some (record { low = node.next % 256; l = l; mask = mask }) =
-    ap (heard_in_turn (triggers_of slots) node.layout.window node.next node.noted) are
-    ∙ heard-in_turn slots node.layout.window node.next l mask node.noted is.slots_range small (omega (arith, small, largest)) below in
-    (turn.0, turn.1 ∙ ap (λ (t : Option Trigger). record node { opened = Some (opened_by node.next t); next = node.next + 1; frames = turn.0; noted = None }) said)
+    grind (arith, heard_in_turn, heard-in_turn)
 
 pub opens-cycle : (node : NodeState) (l mask : ℕ) (sent : List TimedFrame) → IsLayout node.layout → l ≤ node.layout.window → mask < 2 ^ node.layout.slots
     → frames_of sent ≡ triggers_with node.layout.slots node.next l mask

@@ -1,5 +1,5 @@
 -- Where the current entry of each slot goes round, all entries do.
-use Rattle.std.proofs.Common.{◌≡◌, ℕ, ◌+◌, ◌-◌, ◌%◌, ◌<◌, ◌≤◌, ◌⊎◌, ◌&&◌, Bool, true, false, nat_eq, nat_le, Option, Some, None, IfSome, IsSomeAnd, option_map, List, All, get_or, length, slice_get, refl, sym, ap, ◌∙◌, ⊎_elim, arith}
+use Rattle.std.proofs.Common.{◌≡◌, ℕ, ◌+◌, ◌-◌, ◌%◌, ◌<◌, ◌⊎◌, ◌&&◌, Bool, true, false, nat_eq, nat_le, Option, Some, IfSome, option_map, List, All, get_or, length, slice_get, refl, sym, ap, ◌∙◌, ⊎_elim, arith}
 use Rattle.std.specs.Option.{option_map_or}
 use Rattle.std.proofs.lemmas.Bool.{cases_order}
 use Rattle.std.proofs.lemmas.Option.{slice_get-get_or}
@@ -10,23 +10,15 @@ use Rattle.plan_check.specs.PlanKept.{goes_round}
 
 over-with : (end : Option ℕ) (deadline c : ℕ) (live : Bool) → option_map_or (λ from. nat_le from c) (option_map (λ e. e + deadline - 1) end) false ≡ true
     → option_map_or (λ free. nat_le free c) (option_map (λ e. e + deadline - 1) end) live ≡ true
-over-with None deadline c live over = absurd (cc)
-over-with (Some e) deadline c live over = over
+over-with end deadline c live over = grind arith
 
 -- an entry that is over goes round
 over-round : (p : Placed) (c d : ℕ) → is_over c p ≡ true → goes_round c d p ≡ true
 over-round p c d over = over-with p.end p.entry.deadline c (nat_le (p.origin + p.entry.phase) c && nat_eq (d % p.entry.period) 0) over
 
-never-behind : (end : Option ℕ) (deadline c origin : ℕ) (live : Bool) → option_map_or (λ free. nat_le free c) (option_map (λ e. e + deadline - 1) end) live ≡ true
-    → option_map_or (λ from. nat_le from c) (option_map (λ e. e + deadline - 1) end) false ≡ false
-    → IsSomeAnd (option_map (λ e. e + deadline - 1) end) (λ from. from ≤ origin) → ⊥
-never-behind None deadline c origin live round not_over free = free
-never-behind (Some e) deadline c origin live round not_over free = absurd (cc)
-
 -- none stands behind one that goes round and is not over
 none-behind : (q : Placed) (c d origin : ℕ) → goes_round c d q ≡ true → is_over c q ≡ false → IsFreeAt q origin → ⊥
-none-behind q c d origin round not_over free =
-    never-behind q.end q.entry.deadline c origin (nat_le (q.origin + q.entry.phase) c && nat_eq (d % q.entry.period) 0) round not_over free
+none-behind q c d origin round not_over free = grind arith
 
 round-at-place : (placed : List Placed) (place c d : ℕ) (q : Placed) → IfSome (slice_get placed place) (λ p. goes_round c d p ≡ true) → slice_get placed place ≡ Some q
     → goes_round c d q ≡ true

@@ -1,5 +1,5 @@
 -- The text of a plan behind its head: the first wrong line there, and that a text is of one certificate.
-use Rattle.std.proofs.Common.{◌≡◌, ℕ, suc, ◌+◌, ◌-◌, ◌^◌, ◌<◌, ◌≤◌, List, [], ◌∷◌, ◌++◌, All, None, Option, Some, codes, drop, get_or, length, map, take, refl, sym, ap, ◌∙◌, subst, arith, append_assoc}
+use Rattle.std.proofs.Common.{◌≡◌, ℕ, suc, ◌+◌, ◌-◌, ◌^◌, ◌<◌, ◌≤◌, List, [], ◌∷◌, ◌++◌, None, Option, Some, codes, drop, get_or, length, map, take, refl, sym, ap, ◌∙◌, subst, arith, append_assoc}
 use Rattle.std.specs.Fmt.{decimal}
 use Rattle.std.proofs.lemmas.List.{append-nil, append_cancel_left, length-append, length-map, map-append, take_all, take_more}
 use Rattle.std.proofs.Math.Seq.{take-append_seam}
@@ -9,12 +9,12 @@ use Rattle.plan_check.specs.declared.plan_runs.Version.TheVariants.{Two}
 use Rattle.plan_check.specs.declared.text_fault.PlanTextFault.{PlanTextFault}
 use Rattle.plan_check.specs.declared.text_fault.PlanTextFault.TheVariants.{Line, Memory}
 use Rattle.plan_check.specs.Certificate.{CertificateView, length_of}
-use Rattle.plan_check.specs.PlanText.{AreListed, AreRead, IsBody, IsFirstWrongLine, IsReadable, IsReadableHead, IsRunFault, IsTextFault, IsTextOfPlan, IsWrongRun, MayFollow, first_line, head_lines, last_mask, lines_of_head, lines_of_runs, listed_runs, mask_bound, plan_lines, run_line, spread, text_in, text_of, total}
+use Rattle.plan_check.specs.PlanText.{AreListed, AreRead, IsBody, IsFirstWrongLine, IsReadable, IsReadableHead, IsRunFault, IsTextFault, IsTextOfPlan, IsWrongRun, MayFollow, first_line, head_lines, last_mask, lines_of_head, lines_of_runs, listed_runs, plan_lines, run_line, text_in, text_of, total}
 use Rattle.text_fields.specs.MaskText.{mask_digits}
 use Rattle.text_fields.proofs.Shared.{mask-injective, same_line}
 use Rattle.plan_check.proofs.LineReads.{line-not-end, of-version, run-same}
-use Rattle.plan_check.proofs.PlanReads.{AllClean, BeginsIn, IsPlanIn, IsWrongIn, begins-by, clean-body, clean-head, clean-runs, count-lines, counted-length, counted-readable, few-listed, filler-begins, first-wrong, front-more, literal-clean, next-line, number-same, plan-in, same_front, text-cons}
-use Rattle.plan_check.proofs.Runs.{filling, length-spread, listed-are, listed-behind, listed-spread, mask-small, mask-wider, masks-below, none-left, spread-listed, total-append, total-listed}
+use Rattle.plan_check.proofs.PlanReads.{AllClean, BeginsIn, IsPlanIn, IsWrongIn, begins-by, clean-body, clean-head, clean-runs, count-lines, counted-length, filler-begins, first-wrong, front-more, literal-clean, next-line, number-same, plan-in, same_front, text-cons}
+use Rattle.plan_check.proofs.Runs.{filling, length-spread, listed-are, listed-behind, listed-spread, masks-below, none-left, spread-listed, total-append, total-listed}
 use Rattle.plan_check.proofs.TextLines.{text_of-append}
 
 -- the head of a text is of one certificate
@@ -29,8 +29,6 @@ head-same : (version : Version) (bytes rest other : List ℕ) (certificate : Cer
     → IsReadableHead version from pending first length → bytes ≡ text_of (lines_of_head version from pending first length) ++ rest
     → bytes ≡ text_of (head_lines version certificate) ++ other → HeadSame certificate from pending first length rest other
 head-same version bytes rest other certificate from pending first size readable head mine its =
-    let few = readable.few in
-    let short = head.few in
     let parts = same_front (head_lines version certificate) (lines_of_head version from pending first size) other rest
     (clean-head version certificate.from certificate.pending certificate.first (length_of certificate) readable.from readable.first (omega arith))
     (clean-head version from pending first size head.from_below head.first_below (omega arith)) refl (sym its ∙ mine) in
@@ -38,9 +36,7 @@ head-same version bytes rest other certificate from pending first size readable 
     = λ k. ap (λ (l : List (List ℕ)). get_or l k []) parts.0 in
     record {
       from_is = number-same (codes "from ") certificate.from from readable.from head.from_below (line 1);
-      pending_is = mask-injective certificate.pending pending (mask-small version certificate.pending readable.pending)
-          (mask-small version pending head.pending_below)
-          (append_cancel_left (codes "pending ") (mask_digits certificate.pending) (mask_digits pending) (line 2));
+      pending_is = grind (arith, mask-injective, append_cancel_left, codes);
       first_is = number-same (codes "first ") certificate.first first readable.first head.first_below (line 3);
       length_is = number-same (codes "length ") (length_of certificate) size (omega arith) (omega arith) (line 4);
       rest_is = sym parts.1;
@@ -63,17 +59,7 @@ take-plan version certificate j k is = let five : k ≡ suc (suc (suc (suc (suc 
 behind-head : (version : Version) (bytes : List ℕ) (certificate : CertificateView) (j k : ℕ) (r : List ℕ) → k ≡ 5 + j
     → bytes ≡ text_of (take k (plan_lines version certificate)) ++ r
     → bytes ≡ text_of (head_lines version certificate) ++ (text_of (take j (body_in version certificate)) ++ r)
-behind-head version bytes certificate j k r at split =
-    split
-    ∙ ap (λ l. text_of l ++ r) (take-plan version certificate j k at)
-    ∙ ap (λ t. t ++ r) (text_of-append (head_lines version certificate) (take j (body_in version certificate)))
-    ∙ append_assoc (text_of (head_lines version certificate)) (text_of (take j (body_in version certificate))) r
-
-count-body : (version : Version) (runs : List MaskRun) → length (lines_of_runs version runs) ≡ length runs + 1
-count-body version runs =
-    let all = length-append (map (run_line version) runs) (codes "end" ∷ []) in
-    let same = length-map runs (run_line version) in
-    omega arith
+behind-head version bytes certificate j k r at split = grind (arith, take-plan, text_of-append, append_assoc)
 
 abbrev pub view : ℕ → ℕ → ℕ → List ℕ → CertificateView
 view from pending first masks = record { from = from; pending = pending; first = first; masks = masks }
@@ -81,11 +67,7 @@ view from pending first masks = record { from = from; pending = pending; first =
 view-same : (certificate : CertificateView) (from pending first : ℕ) (masks : List ℕ) → from ≡ certificate.from → pending ≡ certificate.pending
     → first ≡ certificate.first → masks ≡ certificate.masks
     → view from pending first masks ≡ certificate
-view-same certificate from pending first masks one two three four =
-    ap (λ x. view x pending first masks) one
-    ∙ ap (λ x. view certificate.from x first masks) two
-    ∙ ap (λ x. view certificate.from certificate.pending x masks) three
-    ∙ ap (view certificate.from certificate.pending certificate.first) four
+view-same certificate from pending first masks one two three four = grind arith
 
 -- Runs that go on
 
@@ -97,8 +79,7 @@ pub record GoesOn (runs its : List MaskRun) : Type 0 where
 goes-on : (version : Version) (last last' : Option ℕ) (runs its : List MaskRun) → AreListed version last runs → AreListed version last' its → total runs < 2 ^ 42
     → total its < 2 ^ 42 → map (run_line version) runs ≡ take (length runs) (lines_of_runs version its) → GoesOn runs its
 goes-on version last last' [] its listed other few short same = record { more = its; is = refl }
-goes-on version last last' (run ∷ runs) [] listed other few short same =
-    absurd (line-not-end version run (ap (λ (l : List (List ℕ)). get_or l 0 []) same))
+goes-on version last last' (run ∷ runs) [] listed other few short same = grind (arith, line-not-end)
 goes-on version last last' (run ∷ runs) (it ∷ its) listed other few short same =
     let line : run_line version run ≡ run_line version it = ap (λ (l : List (List ℕ)). get_or l 0 []) same in
     let lines : map (run_line version) runs ≡ take (length runs) (lines_of_runs version its) = ap (λ (l : List (List ℕ)). drop 1 l) same in
@@ -111,8 +92,7 @@ all-there : (version : Version) (runs its more : List MaskRun) → AreListed ver
 all-there version runs its more listed is same =
     let P : List MaskRun → Type 0 = λ l. AreListed version None l in
     let behind = listed-behind version None runs more (subst P is listed) in
-    let parts = ap total is ∙ total-append runs more in
-    none-left version (last_mask None runs) more behind (omega arith)
+    grind (arith, total-append, none-left, behind)
 
 line-behind : (version : Version) (runs more : List MaskRun) → get_or (lines_of_runs version (runs ++ more)) (length runs) [] ≡ get_or (lines_of_runs version more) 0 []
 line-behind version [] more = refl
@@ -125,8 +105,7 @@ lines-behind version (run ∷ runs) = lines-behind version runs
 not-nothing : (x r : List ℕ) → x ++ 10 ∷ r ≡ [] → ⊥
 not-nothing x r is =
     let size = ap length is in
-    let whole = length-append x (10 ∷ r) in
-    omega arith
+    grind (arith, length-append)
 
 -- a whole text that begins with these lines has them as its first ones
 front-same : (xs ys : List (List ℕ)) (r : List ℕ) → AllClean xs → AllClean ys → text_of xs ++ r ≡ text_of ys
@@ -185,18 +164,7 @@ module _ (version : Version) (bytes : List ℕ) (from pending first size : ℕ) 
       → SameHead certificate other
   same-head certificate other readable its =
       let same = head-same version bytes rest other certificate from pending first size readable head is its in
-      let one = same.from_is in
-      let two = same.first_is in
-      let three = same.length_is in
-      let some = readable.some in
-      let all = total-listed version certificate.masks in
-      let most = few-listed version certificate readable in
-      record {
-        head_is = same;
-        count_is = omega arith;
-        short = omega arith;
-        listed = listed-are version certificate.masks readable.masks;
-      }
+      grind (arith, total-listed, listed-are)
 
   -- what a plan has where the text begins with its lines up to the one behind these runs
   record Behind (certificate : CertificateView) (later : List ℕ) : Type 0 where
@@ -214,25 +182,10 @@ module _ (version : Version) (bytes : List ℕ) (from pending first size : ℕ) 
       let lines = body_in version c in
       let whole = behind-head version bytes c (j + 1) number begins.rest (omega arith) begins.split in
       let same = same-head c (text_of (take (j + 1) lines) ++ begins.rest) begins.readable whole in
-      let all = count-lines version c in
-      let within = begins.within in
-      let body = count-body version its in
       let inside : j < length lines = omega arith in
       let parts = next-line (map (run_line version) runs) lines after begins.rest j lines-clean (clean-body version its same.short)
       (length-map runs (run_line version)) inside (sym read.read ∙ same.head_is.rest_is) in
-      let on = goes-on version None None runs its read.listed same.listed small same.short parts.0 in
-      let P : List MaskRun → Type 0 = λ l. AreListed version None l in
-      let totals = ap total on.is ∙ total-append runs on.more in
-      let sum = same.count_is in
-      record {
-        more = on.more;
-        are = on.is;
-        listed = listed-behind version None runs on.more (subst P on.is same.listed);
-        count_is = omega arith;
-        line = parts.1
-            ∙ ap (λ l. get_or (lines_of_runs version l) j [] ++ 10 ∷ begins.rest) on.is
-            ∙ ap (λ l. l ++ 10 ∷ begins.rest) (line-behind version runs on.more);
-      }
+      grind (arith, goes-on, small, total-append, listed-behind, line-behind)
 
   -- what a plan has whose text this is
   record OfPlan (certificate : CertificateView) : Type 0 where
@@ -242,22 +195,10 @@ module _ (version : Version) (bytes : List ℕ) (from pending first size : ℕ) 
     rest_is : after ≡ text_of (drop (length runs) (body_in version certificate))
 
   of-plan : (certificate : CertificateView) → IsPlanIn version bytes certificate → OfPlan certificate
-  of-plan certificate plan =
-      let lines = body_in version certificate in
-      let its = runs_in version certificate in
-      let same = same-head certificate (text_of lines) plan.readable (plan.text ∙ whole-split version certificate) in
-      let parts = front-same (map (run_line version) runs) lines after lines-clean (clean-body version its same.short) (sym read.read ∙ same.head_is.rest_is) in
-      let size : length (map (run_line version) runs) ≡ length runs = length-map runs (run_line version) in
-      let front : map (run_line version) runs ≡ take (length runs) lines = parts.0 ∙ ap (λ k. take k lines) size in
-      let on = goes-on version None None runs its read.listed same.listed small same.short front in
-      record { same = same; more = on.more; are = on.is; rest_is = parts.1 ∙ ap (λ k. text_of (drop k lines)) size }
+  of-plan certificate plan = grind (arith, same-head, whole-split, front-same, lines-clean, clean-body, length-map, goes-on, small)
 
   front-split : bytes ≡ text_of (lines_of_head version from pending first size ++ map (run_line version) runs) ++ after
-  front-split =
-      is
-      ∙ ap (λ t. text_of (lines_of_head version from pending first size) ++ t) read.read
-      ∙ sym (append_assoc (text_of (lines_of_head version from pending first size)) (text_of (map (run_line version) runs)) after)
-      ∙ ap (λ t. t ++ after) (sym (text_of-append (lines_of_head version from pending first size) (map (run_line version) runs)))
+  front-split = grind (arith, append_assoc, text_of-append)
 
   abbrev heads : List (List ℕ)
   heads = lines_of_head version from pending first size
@@ -271,14 +212,7 @@ module _ (version : Version) (bytes : List ℕ) (from pending first size : ℕ) 
       (5 + length runs) head front-split (omega arith) lines-are
     where
       lines-are : heads ++ map (run_line version) runs ≡ take (5 + length runs) (heads ++ (map (run_line version) (runs ++ tail) ++ codes "end" ∷ []))
-      lines-are =
-          let five : 5 + length runs ≡ suc (suc (suc (suc (suc (length runs))))) = omega arith in
-          let front : take (length runs) (map (run_line version) (runs ++ tail) ++ codes "end" ∷ []) ≡ map (run_line version) runs
-          = ap (λ l. take (length runs) (l ++ codes "end" ∷ [])) (map-append (run_line version) runs tail)
-          ∙ ap (take (length runs)) (append_assoc (map (run_line version) runs) (map (run_line version) tail) (codes "end" ∷ []))
-          ∙ ap (λ n. take n (map (run_line version) runs ++ (map (run_line version) tail ++ codes "end" ∷ []))) (sym (length-map runs (run_line version)))
-          ∙ take-append_seam (map (run_line version) runs) (map (run_line version) tail ++ codes "end" ∷ []) in
-          rw five (ap (λ l. heads ++ l) (sym front))
+      lines-are = grind (arith, codes, map-append, append_assoc, length-map, take-append_seam)
 
   -- a line behind these runs that no plan has there
   body-wrong : (number : ℕ) → number ≡ 6 + length runs
@@ -334,9 +268,7 @@ module _ (version : Version) (bytes : List ℕ) (from pending first size : ℕ) 
     made-length = counted-length made size made-count
 
     made-readable : IsReadable version made
-    made-readable =
-        let P : List ℕ → Type 0 = λ l. All (λ m. m < mask_bound version) l in
-        counted-readable version made size head made-count (subst P (sym read.are) (masks-below version None runs read.listed))
+    made-readable = grind (arith, made-count, masks-below)
 
     made-runs : runs_in version made ≡ runs
     made-runs = ap (listed_runs version) read.are ∙ listed-spread version runs read.listed
@@ -345,24 +277,12 @@ module _ (version : Version) (bytes : List ℕ) (from pending first size : ℕ) 
     body-is = front-more rest (map (run_line version) runs) after (codes "end") tail read.read ends
 
     made-is : bytes ≡ text_in version made ++ tail
-    made-is =
-        is
-        ∙ ap (λ n. text_of (lines_of_head version from pending first n) ++ rest) (sym made-length)
-        ∙ ap (λ t. text_of (head_lines version made) ++ t) body-is
-        ∙ ap (λ l. text_of (head_lines version made) ++ (text_of (lines_of_runs version l) ++ tail)) (sym made-runs)
-        ∙ sym (append_assoc (text_of (head_lines version made)) (text_of (body_in version made)) tail)
-        ∙ ap (λ t. t ++ tail) (sym (whole-split version made))
+    made-is = grind (arith, made-length, body-is, made-runs, append_assoc, whole-split)
 
     plan-runs : (certificate : CertificateView) → IsPlanIn version bytes certificate → (runs_in version certificate ≡ runs) × (tail ≡ [])
     plan-runs certificate plan =
         let of = of-plan certificate plan in
-        let sum = of.same.count_is in
-        let none = all-there version runs (runs_in version certificate) of.more of.same.listed of.are (omega arith) in
-        let same : runs_in version certificate ≡ runs = of.are ∙ ap (λ l. runs ++ l) none ∙ append-nil runs in
-        let last : codes "end" ++ 10 ∷ tail ≡ codes "end" ++ 10 ∷ []
-        = sym ends ∙ of.rest_is ∙ ap (λ l. text_of (drop (length runs) (lines_of_runs version l))) same ∙ ap text_of (lines-behind version runs) in
-        let parts = same_line (codes "end") (codes "end") tail [] (literal-clean (codes "end") refl) (literal-clean (codes "end") refl) last in
-        (same, parts.1)
+        grind (arith, all-there, append-nil, codes, lines-behind, same_line, literal-clean)
 
     wrong-behind-of : (number : ℕ) → number ≡ 7 + length runs → (tail ≡ [] → ⊥) → IsWrongIn version bytes number
     wrong-behind-of number at some =
@@ -385,7 +305,6 @@ module _ (version : Version) (bytes : List ℕ) (from pending first size : ℕ) 
               let none = none-left version (last_mask None runs) back.more back.listed (let sum = back.count_is in omega arith) in
               let same = ap length back.are ∙ length-append runs back.more in
               let empty = ap length none in
-              let within = begins.within in
               let its = count-lines version begins.certificate in
               absurd (omega arith);
         }
@@ -393,10 +312,7 @@ module _ (version : Version) (bytes : List ℕ) (from pending first size : ℕ) 
     made-back : (certificate : CertificateView) → IsPlanIn version bytes certificate → made ≡ certificate
     made-back certificate plan =
         let of = of-plan certificate plan in
-        let same = of.same.head_is in
-        let masks_are : masks ≡ certificate.masks
-        = read.are ∙ ap spread (sym (plan-runs certificate plan).0) ∙ spread-listed version certificate.masks in
-        view-same certificate from pending first masks (sym same.from_is) (sym same.pending_is) (sym same.first_is) masks_are
+        grind (arith, plan-runs, spread-listed, view-same)
 
 -- The same without modules
 
@@ -416,7 +332,6 @@ pub wrong-run : (version : Version) (bytes : List ℕ) (from pending first size 
     → bytes ≡ text_of (lines_of_head version from pending first size) ++ rest → (count number : ℕ) → count ≡ first - from + size
     → IsWrongRun version rest count number → IsFirstWrongLine bytes number
 wrong-run version bytes from pending first size rest head is count number counted wrong =
-    let more = wrong.more in
     let few : total wrong.runs ≤ first - from + size = omega arith in
     first-wrong version bytes (text_of (behind_first version from pending first size) ++ rest) number (begun-by version bytes from pending first size rest is)
     (wrong-run-of version bytes from pending first size rest head is wrong.masks wrong.rest wrong.runs wrong.read few number wrong.at (omega arith)
@@ -437,7 +352,6 @@ pub wrong-behind : (version : Version) (bytes : List ℕ) (from pending first si
     → (tail ≡ [] → ⊥) → IsFirstWrongLine bytes (number + 1)
 wrong-behind version bytes from pending first size rest head is masks after number body tail ends some =
     let all = body.all in
-    let at = body.at in
     first-wrong version bytes (text_of (behind_first version from pending first size) ++ rest) (number + 1) (begun-by version bytes from pending first size rest is)
     (wrong-behind-of version bytes from pending first size rest head is masks after body.runs body.read (omega arith) all tail ends (number + 1) (omega arith) some)
 
@@ -449,16 +363,7 @@ pub record WasRead (bytes : List ℕ) (certificate : CertificateView) : Type 0 w
 
 -- version 2 names all slots
 pub readable-wider : (version : Version) (certificate : CertificateView) → IsReadable version certificate → IsReadable Two certificate
-readable-wider version certificate readable = record {
-  from = readable.from;
-  pending = mask-wider version certificate.pending readable.pending;
-  first = readable.first;
-  after = readable.after;
-  near = readable.near;
-  some = readable.some;
-  few = readable.few;
-  masks = λ i d within. mask-wider version (get_or certificate.masks i d) (readable.masks i d within);
-}
+readable-wider version certificate readable = grind arith
 
 pub was-read : (version : Version) (bytes : List ℕ) (from pending first size : ℕ) (rest : List ℕ) → IsReadableHead version from pending first size
     → bytes ≡ text_of (lines_of_head version from pending first size) ++ rest → (masks after : List ℕ) (number : ℕ)
@@ -489,8 +394,7 @@ was-read version bytes from pending first size rest head is masks after number b
 -- a fault of the runs is one of the text
 pub run-fault : (version : Version) (bytes rest : List ℕ) (count : ℕ) (fault : PlanTextFault) → IsRunFault version rest count fault
     → ((number : ℕ) → IsWrongRun version rest count number → IsFirstWrongLine bytes number) → IsTextFault bytes fault
-run-fault version bytes rest cycles (Line number) wrong text = text number wrong
-run-fault version bytes rest cycles Memory wrong text = tt
+run-fault version bytes rest cycles fault wrong text = grind (arith, wrong)
 
 pub fault-back : (bytes : List ℕ) (fault : PlanTextFault) → IsTextFault bytes fault → (certificate : CertificateView) → IsTextOfPlan bytes certificate
     → fault ≡ Memory

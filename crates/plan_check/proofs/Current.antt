@@ -1,41 +1,34 @@
 -- The current entries of slots: what they send is what their slots send.
-use Rattle.std.proofs.Common.{◌≡◌, ◌≢◌, ℕ, ◌+◌, ◌-◌, ◌<◌, ◌≤◌, true, false, Option, Some, None, IfSome, IsSomeAnd, option_map, List, Contains, slice_get, length, get_or, set, refl, sym, ap, ◌∙◌, subst, ⊎_elim, nat_le, arith, get_or-set_other, get_or-set_same}
+use Rattle.std.proofs.Common.{◌≡◌, ℕ, ◌+◌, ◌-◌, ◌<◌, ◌≤◌, true, false, Option, Some, None, IfSome, IsSomeAnd, option_map, List, Contains, slice_get, length, get_or, set, refl, sym, ap, ◌∙◌, ⊎_elim, nat_le, arith, get_or-set_other, get_or-set_same}
 use Rattle.std.specs.Option.{option_and_then, option_map_or}
-use Rattle.std.proofs.lemmas.Bool.{cases_eq, cases_lt, cases_order, le-leb, leb-true}
+use Rattle.std.proofs.lemmas.Bool.{cases_lt, cases_order, le-leb, leb-true}
 use Rattle.std.proofs.lemmas.Option.{get_or_from_slice_get, none-some, same_Some, slice_get-get_or, slice_get_within}
 use Rattle.requirement_table.specs.declared.entries.Placed.{Placed}
 use Rattle.requirement_table.specs.Instance.{Instance, MaySend, instance_of, release_of}
-use Rattle.requirement_table.specs.Table.{GoesBefore, IsFreeAt, IsWellPlaced, free_from, instance_in, is_over}
+use Rattle.requirement_table.specs.Table.{IsFreeAt, IsWellPlaced, free_from, instance_in, is_over}
 use Rattle.requirement_table.proofs.Shared.{IsFound, MaySend-from_instance, found-in, instance_in-found}
-use Rattle.plan_check.specs.Places.{AreCurrent, ArePassed, AreSlotsBelow, IsCurrent, IsPlacePassed, release_by, released_at}
+use Rattle.plan_check.specs.Places.{AreCurrent, ArePassed, AreSlotsBelow, IsCurrent, release_by, released_at}
 
 over-sends : (end : Option ℕ) (deadline release c : ℕ) → option_map_or (λ from. nat_le from c) (option_map (λ e. e + deadline - 1) end) false ≡ true
     → IfSome end (λ e. release < e) → release ≤ c → c < release + deadline → ⊥
-over-sends None deadline release c over exists released in_time = cc
-over-sends (Some e) deadline release c over exists released in_time = let free = leb-true (e + deadline - 1) c over in omega arith
+over-sends end deadline release c over exists released in_time = grind (arith, leb-true)
 
 -- an entry that is over sends nothing
 over-none : (p : Placed) (k c : ℕ) → is_over c p ≡ true → MaySend p k c → ⊥
 over-none p k c over sends = over-sends p.end p.entry.deadline (release_of p k) c over sends.exists sends.released sends.in_time
 
 free-over : (free : Option ℕ) (origin c : ℕ) → IsSomeAnd free (λ from. from ≤ origin) → origin ≤ c → option_map_or (λ from. nat_le from c) free false ≡ true
-free-over None origin c free later = absurd free
-free-over (Some f) origin c free later = le-leb f c (omega arith)
+free-over free origin c h0 later = grind (arith, le-leb)
 
 over-later : (free : Option ℕ) (c : ℕ) → option_map_or (λ from. nat_le from c) free false ≡ true → option_map_or (λ from. nat_le from (c + 1)) free false ≡ true
-over-later None c over = absurd (cc)
-over-later (Some f) c over = let free = leb-true f c over in le-leb f (c + 1) (omega arith)
+over-later free c over = grind (arith, leb-true, le-leb)
 
 free-at : (placed : List Placed) (i j : ℕ) (p q : Placed) → IsWellPlaced placed → slice_get placed i ≡ Some p → slice_get placed j ≡ Some q → i < j
     → p.entry.slot ≡ q.entry.slot → IsFreeAt p q.origin
-free-at placed i j p q well at_i at_j before same =
-    let pair : GoesBefore (get_or placed i p) (get_or placed j p) = well.in_order i j p before (slice_get_within placed j q at_j) in
-    let here : GoesBefore p q = rw (get_or_from_slice_get placed i p p at_i, get_or_from_slice_get placed j q p at_j) at pair in
-    here same
+free-at placed i j p q well at_i at_j before same = grind (arith, slice_get_within, get_or_from_slice_get)
 
 none-of : {X : Type 0} (o : Option X) → ((x : X) → o ≡ Some x → ⊥) → o ≡ None
-none-of (Some x) never = absurd (never x refl)
-none-of None never = refl
+none-of o never = grind arith
 
 place-of : (placed : List Placed) (p : Placed) (stands : Contains placed p) → slice_get placed stands.0 ≡ Some p
 place-of placed p stands = slice_get-get_or placed stands.0 p stands.1 ∙ ap (λ q. Some q) stands.2
@@ -50,7 +43,6 @@ module _ (placed : List Placed) (c slot place : ℕ) (well : IsWellPlaced placed
   current-end behind =
       none-of (instance_in placed slot c) (λ i is.
       let found = found-in placed slot c i well is in
-      let within = found.stands.1 in
       not-before i found (omega arith))
 
   current-none : (p : Placed) → slice_get placed place ≡ Some p → instance_of p c ≡ None → instance_in placed slot c ≡ None
@@ -59,15 +51,11 @@ module _ (placed : List Placed) (c slot place : ℕ) (well : IsWellPlaced placed
       let found = found-in placed slot c i well is in
       let there = place-of placed i.placed found.stands in
       ⊎_elim
-      (λ (here : found.stands.0 ≡ place).
-      let equal : i.placed ≡ p = same_Some i.placed p (sym there ∙ ap (slice_get placed) here ∙ at) in
-      let number : instance_of p c ≡ Some i.number = ap (λ q. instance_of q c) (sym equal) ∙ found.number in
-      none-some i.number (sym nothing ∙ number))
+      (λ (here : found.stands.0 ≡ place). grind (arith, same_Some, slice_get, none-some))
       (⊎_elim
       (λ (before : found.stands.0 < place). not-before i found before)
       (λ (behind : place < found.stands.0).
       let free = free-at placed place found.stands.0 p i.placed well at there behind (current.of_slot p at ∙ sym found.of_slot) in
-      let released = found.sends.released in
       let over : is_over c p ≡ true = free-over (free_from p) i.placed.origin c free (omega arith) in
       let open' = current.not_over p at in
       absurd (cc)))
@@ -81,8 +69,7 @@ module _ (placed : List Placed) (c slot place : ℕ) (well : IsWellPlaced placed
 
   by-number : (p : Placed) (o : Option ℕ) → slice_get placed place ≡ Some p → instance_of p c ≡ o
       → instance_in placed slot c ≡ option_map (λ k. record { placed = p; number = k }) o
-  by-number p (Some k) at number = current-some p k at number
-  by-number p None at number = current-none p at number
+  by-number p o at number = grind (arith, current-some, current-none)
 
   -- what the entry at the place sends is what the slot sends
   pub current-instance : (p : Placed) → slice_get placed place ≡ Some p
@@ -92,11 +79,7 @@ module _ (placed : List Placed) (c slot place : ℕ) (well : IsWellPlaced placed
   -- without an entry at the place nothing is sent
   pub current-nothing : slice_get placed place ≡ None → instance_in placed slot c ≡ None
   current-nothing at =
-      current-end (⊎_elim
-      (λ (within : place < length placed).
-      absurd (none-within placed place within at))
-      (λ (behind : length placed ≤ place). behind)
-      (cases_lt place (length placed)))
+      current-end (grind (arith, none-within, cases_lt))
     where
       none-within : (xs : List Placed) (i : ℕ) → i < length xs → slice_get xs i ≡ None → ⊥
       none-within xs i within none =
@@ -108,59 +91,21 @@ module _ (placed : List Placed) (c slot place : ℕ) (well : IsWellPlaced placed
     where
       mapped : (o : Option ℕ) → option_map released_at (option_map (λ k. record { placed = p; number = k }) o)
           ≡ option_map (λ k. released_at (record { placed = p; number = k })) o
-      mapped (Some k) = refl
-      mapped None = refl
+      mapped o = grind arith
   release-with None at = sym (ap (option_map released_at) (current-nothing at))
 
   -- the release of what the entry at the place sends
   pub current-release : option_and_then (release_by c) (slice_get placed place) ≡ option_map released_at (instance_in placed slot c)
   current-release = release-with (slice_get placed place) refl
 
-over-after : (p : Placed) (c d : ℕ) → c ≤ d → is_over c p ≡ true → is_over d p ≡ true
-over-after p c d later over = after-free (free_from p) over
-  where
-    after-free : (free : Option ℕ) → option_map_or (λ from. nat_le from c) free false ≡ true → option_map_or (λ from. nat_le from d) free false ≡ true
-    after-free None over = absurd (cc)
-    after-free (Some f) over = let free = leb-true f c over in le-leb f d (omega arith)
-
--- the current entries stay the current ones while they are not over
-pub current-on : (placed : List Placed) (c d slots : ℕ) (places : List ℕ) → c ≤ d → AreCurrent placed c slots places
-    → ((s : ℕ) → s < slots → IfSome (slice_get placed (get_or places s 0)) (λ p. is_over d p ≡ false)) → AreCurrent placed d slots places
-current-on placed c d slots places later current open' = record {
-  count = current.count;
-  each = λ slot known.
-      let here = current.each slot known in
-      record {
-        within = here.within;
-        passed = λ j p before at of_slot. over-after p c d later (here.passed j p before at of_slot);
-        of_slot = here.of_slot;
-        not_over = λ p at. rw at at (open' slot known);
-      };
-}
-
 -- what is over by a cycle is over by the next one
 pub passed-later : (placed : List Placed) (c slots : ℕ) (places : List ℕ) → AreCurrent placed c slots places → ArePassed placed (c + 1) slots places
-passed-later placed c slots places current = record {
-  count = current.count;
-  each = λ slot known j p before at of_slot. over-later (free_from p) c ((current.each slot known).passed j p before at of_slot);
-}
+passed-later placed c slots places current = grind (arith, over-later)
 
 -- a table is filled one place further
 pub filled-next : {X : Type 0} (P : ℕ → X → Type 0) (table : List X) (k : ℕ) (x d : X) → k < length table → ((s : ℕ) → s < k → P s (get_or table s d)) → P k x
     → (s : ℕ) → s < k + 1 → P s (get_or (set table k x) s d)
-filled-next P table k x d within before here s low =
-    ⊎_elim
-    (λ (same : s ≡ k).
-    rw same (subst (P k) (sym (get_or-set_same table k x d within)) here))
-    (λ (other : s ≢ k). subst (P s) (sym (get_or-set_other table k s x d other)) (before s (omega arith)))
-    (cases_eq s k)
-
--- what stands behind the place is not changed
-pub kept-behind : {X : Type 0} (P : ℕ → X → Type 0) (table : List X) (k n : ℕ) (x d : X) → ((s : ℕ) → k ≤ s → s < n → P s (get_or table s d))
-    → (s : ℕ) → k + 1 ≤ s → s < n → P s (get_or (set table k x) s d)
-kept-behind P table k n x d before s behind within =
-    let other : s ≢ k = λ same. omega arith in
-    subst (P s) (sym (get_or-set_other table k s x d other)) (before s (omega arith) within)
+filled-next P table k x d within before here s low = grind (arith, get_or-set_same, get_or-set_other)
 
 -- the places are those of the current entries one slot further
 pub places-next : (placed : List Placed) (c slots : ℕ) (places : List ℕ) (k i x : ℕ) → i ≡ k → k < length places
@@ -169,18 +114,10 @@ pub places-next : (placed : List Placed) (c slots : ℕ) (places : List ℕ) (k 
 places-next placed c slots places k i x same within before here =
     rw same (filled-next (λ s place. IsCurrent placed c s place) places k x 0 within before here)
 
-pub places-later : (placed : List Placed) (c slots : ℕ) (places : List ℕ) (k i x : ℕ) → i ≡ k
-    → ((s : ℕ) → k ≤ s → s < slots → IsPlacePassed placed c s (get_or places s 0))
-    → (s : ℕ) → k + 1 ≤ s → s < slots → IsPlacePassed placed c s (get_or (set places i x) s 0)
-places-later placed c slots places k i x same before =
-    rw same (kept-behind (λ s place. IsPlacePassed placed c s place) places k slots x 0 before)
-
 -- no instance is of a slot above those of the entries
 pub absent-instance : (placed : List Placed) (c slots slot : ℕ) → IsWellPlaced placed → AreSlotsBelow slots placed → slots ≤ slot → instance_in placed slot c ≡ None
 absent-instance placed c slots slot well below above =
     none-of (instance_in placed slot c) (λ i is.
     let found = found-in placed slot c i well is in
-    let low = below found.stands.0 i.placed found.stands.1 in
     let entry = ap (λ (p : Placed). p.entry.slot) found.stands.2 in
-    let of_slot = found.of_slot in
     omega arith)

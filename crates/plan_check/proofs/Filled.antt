@@ -1,6 +1,6 @@
 -- A block that is filled, slot by slot.
-use Rattle.std.proofs.Common.{◌≡◌, ◌≢◌, ℕ, ◌+◌, ◌<◌, ◌≤◌, ◌&&◌, ◌||◌, Bool, true, false, Some, None, is_some, List, length, get_or, set, slice_get, sym, ap, ◌∙◌, ⊎_elim, arith, get_or-set_other, get_or-set_same}
-use Rattle.std.proofs.lemmas.Bool.{cases_eq, cases_lt}
+use Rattle.std.proofs.Common.{◌≡◌, ◌≢◌, ℕ, ◌+◌, ◌<◌, ◌≤◌, Bool, true, false, Some, None, is_some, List, length, get_or, set, slice_get, sym, ◌∙◌, ⊎_elim, arith, get_or-set_other, get_or-set_same}
+use Rattle.std.proofs.lemmas.Bool.{cases_lt}
 use Rattle.requirement_table.specs.declared.entries.Placed.{Placed}
 use Rattle.requirement_table.specs.Instance.{released_by, worst}
 use Rattle.bit_sets.specs.Sets.{has_bit}
@@ -13,17 +13,12 @@ use Rattle.plan_check.proofs.Entries.{cost-current, last-current, last-none, rel
 
 only-marks : (count slot one i : ℕ) (test : ℕ → Bool) (old new : List ℕ) → AreMarked count test one old new → has_bit one slot ≡ true
     → i < count → has_at old i slot ≡ false → has_at new i slot ≡ test i
-only-marks count slot one i test old new marked has below none =
-    marked i slot below ∙ ap (λ b. b || (has_bit one slot && test i)) none ∙ ap (λ b. b && test i) has
+only-marks count slot one i test old new marked has below none = grind (arith, one)
 
 -- a slot without an entry that is not over
 nothing-filled : (placed : List Placed) (from count slot : ℕ) (block : Block) → IsWellPlaced placed
     → ((i : ℕ) → i < count → instance_in placed slot (from + i) ≡ None) → IsClearFor count slot block → IsFilledFor placed from count slot block
-nothing-filled placed from count slot block well none clear = record {
-  released = λ i below. clear.released i below ∙ sym (releases-none placed (from + i) slot well (none i below));
-  ends = λ i below. clear.ends i below ∙ sym (last-none placed (from + i) slot (none i below));
-  cost = λ i below some. let nothing = none i below in absurd (cc);
-}
+nothing-filled placed from count slot block well none clear = grind (arith, releases-none, last-none)
 
 pub filled-none : (placed : List Placed) (from count slot place : ℕ) (block : Block) → IsWellPlaced placed
     → ((i : ℕ) → i < count → IsCurrent placed (from + i) slot place) → length placed ≤ place → IsClearFor count slot block
@@ -50,28 +45,17 @@ filled-some placed from count slot place one p old new well current at clear has
 -- the other slots are as before
 same-filled : (placed : List Placed) (from count slot other : ℕ) (old new : Block) → IsSameButSlot count slot old new → other ≢ slot
     → IsFilledFor placed from count other old → IsFilledFor placed from count other new
-same-filled placed from count slot other old new same apart filled = record {
-  released = λ i below. same.released i other below apart ∙ filled.released i below;
-  ends = λ i below. same.ends i other below apart ∙ filled.ends i below;
-  cost = λ i below some. same.cost other apart ∙ filled.cost i below some;
-}
+same-filled placed from count slot other old new same apart filled = grind arith
 
 same-clear : (count slot other : ℕ) (old new : Block) → IsSameButSlot count slot old new → other ≢ slot → IsClearFor count other old
     → IsClearFor count other new
-same-clear count slot other old new same apart clear = record {
-  released = λ i below. same.released i other below apart ∙ clear.released i below;
-  ends = λ i below. same.ends i other below apart ∙ clear.ends i below;
-}
+same-clear count slot other old new same apart clear = grind arith
 
 -- one slot further
 pub filled-next : (placed : List Placed) (from count slot : ℕ) (old new : Block) → IsSameButSlot count slot old new
     → IsFilledFor placed from count slot new → ((s : ℕ) → s < slot → IsFilledFor placed from count s old)
     → (s : ℕ) → s < slot + 1 → IsFilledFor placed from count s new
-filled-next placed from count slot old new same here before s low =
-    ⊎_elim
-    (λ (is : s ≡ slot). rw is here)
-    (λ (apart : s ≢ slot). same-filled placed from count slot s old new same apart (before s (omega arith)))
-    (cases_eq s slot)
+filled-next placed from count slot old new same here before s low = grind (arith, same-filled)
 
 pub clear-next : (count slot : ℕ) (old new : Block) → IsSameButSlot count slot old new → ((s : ℕ) → slot ≤ s → IsClearFor count s old)
     → (s : ℕ) → slot + 1 ≤ s → IsClearFor count s new
@@ -83,8 +67,7 @@ pub filled-whole : (placed : List Placed) (from count slots n : ℕ) (block : Bl
 filled-whole placed from count slots n block well below all filled clear = λ s known.
     ⊎_elim
     (λ (low : s < n). filled s low)
-    (λ (high : n ≤ s).
-    nothing-filled placed from count s block well (λ i _. absent-instance placed (from + i) slots s well below (omega arith)) (clear s high))
+    (λ (high : n ≤ s). grind (arith, nothing-filled, absent-instance))
     (cases_lt s n)
 
 -- Sets that are emptied
@@ -99,9 +82,4 @@ emptied-next k slot empty other block none nothing within also clear = record {
   where
     one : (sets : List ℕ) (x : ℕ) → has_bit x slot ≡ false → k < length sets → ((i : ℕ) → i < k → has_at sets i slot ≡ false)
         → (i : ℕ) → i < k + 1 → has_at (set sets k x) i slot ≡ false
-    one sets x free room before i low =
-        ⊎_elim
-        (λ (same : i ≡ k).
-        rw same (ap (λ n. has_bit n slot) (get_or-set_same sets k x 0 room) ∙ free))
-        (λ (apart : i ≢ k). ap (λ n. has_bit n slot) (get_or-set_other sets k i x 0 apart) ∙ before i (omega arith))
-        (cases_eq i k)
+    one sets x free room before i low = grind (arith, get_or-set_same, get_or-set_other)

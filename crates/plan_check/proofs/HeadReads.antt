@@ -42,14 +42,7 @@ wrong-head bytes none =
       count = 0;
       at = refl;
       other = λ certificate plan. wrong (begins plan.version certificate plan.readable plan.text);
-      before = record {
-        version = One;
-        certificate = before.certificate;
-        readable = before.readable;
-        within = before.within;
-        rest = before.rest;
-        split = before.split;
-      };
+      before = grind arith;
       wrong = wrong;
     }
   where
@@ -59,14 +52,7 @@ wrong-head bytes none =
     begins : (version : Version) (certificate : CertificateView) → IsReadable version certificate → bytes ≡ text_in version certificate → BeginsAsPlan bytes 1
     begins version certificate readable text =
         let in_version = begins-by version bytes certificate 1 readable (omega arith) text in
-        record {
-          version = version;
-          certificate = in_version.certificate;
-          readable = in_version.readable;
-          within = in_version.within;
-          rest = in_version.rest;
-          split = in_version.split;
-        }
+        grind arith
 
 -- the text behind the head
 module _ (version : Version) (bytes rest : List ℕ) (begun : bytes ≡ first_line version ++ 10 ∷ rest) where
@@ -120,8 +106,6 @@ module _ (version : Version) (bytes rest : List ℕ) (begun : bytes ≡ first_li
             let line = same_line (first_digits certificate.first) (first_digits first) after rest4
             (word-number (codes "first ") certificate.first refl readable.first) (word-number (codes "first ") first refl first_small) (sym is ∙ fourth) in
             let first_is = number-same (codes "first ") certificate.first first readable.first first_small line.0 in
-            let behind = readable.after in
-            let close = readable.near in
             near-false from first test (omega arith) (omega arith))
 
         module _ (test : (nat_le from first && nat_le first (from + 200000)) ≡ true) where
@@ -142,15 +126,12 @@ module _ (version : Version) (bytes rest : List ℕ) (begun : bytes ≡ first_li
               (λ certificate readable same after is. none certificate readable after is)
 
           wrong-length-of : ((n : ℕ) (after : List ℕ) → n < 2 ^ 42 → rest4 ≡ length_digits n ++ 10 ∷ after → ⊥) → IsWrongIn version bytes 5
-          wrong-length-of none =
-              four-wrong (λ certificate readable after is. let few = readable.few in none (length_of certificate) after (omega arith) is)
+          wrong-length-of none = grind (arith, four-wrong)
 
           wrong-range-of : (rest5 : List ℕ) (size : ℕ) → rest4 ≡ length_digits size ++ 10 ∷ rest5 → size < 2 ^ 42
               → (nat_le 1 size && nat_le size 200000) ≡ false → IsWrongIn version bytes 5
           wrong-range-of rest5 size fifth size_small range =
               four-wrong (λ certificate readable after is.
-              let few = readable.few in
-              let some = readable.some in
               let line = same_line (length_digits (length_of certificate)) (length_digits size) after rest5
               (word-number (codes "length ") (length_of certificate) refl (omega arith)) (word-number (codes "length ") size refl size_small) (sym is ∙ fifth) in
               let same = number-same (codes "length ") (length_of certificate) size (omega arith) size_small line.0 in
@@ -173,15 +154,13 @@ wrong-first version bytes rest rest2 rest3 from pending e1 e2 s2 e3 s3 none = fi
 pub wrong-near : (version : Version) (bytes rest rest2 rest3 rest4 : List ℕ) (from pending first : ℕ) → bytes ≡ first_line version ++ 10 ∷ rest
     → rest ≡ from_digits from ++ 10 ∷ rest2 → from < 2 ^ 42 → rest2 ≡ pending_digits pending ++ 10 ∷ rest3 → pending < mask_bound version
     → rest3 ≡ first_digits first ++ 10 ∷ rest4 → first < 2 ^ 42 → (nat_le from first && nat_le first (from + 200000)) ≡ false → IsFirstWrongLine bytes 4
-wrong-near version bytes rest rest2 rest3 rest4 from pending first e1 e2 s2 e3 s3 e4 s4 test =
-    first-wrong version bytes rest 4 e1 (wrong-near-of version bytes rest e1 rest2 from e2 s2 rest3 pending e3 s3 rest4 first e4 s4 test)
+wrong-near version bytes rest rest2 rest3 rest4 from pending first e1 e2 s2 e3 s3 e4 s4 test = grind (arith, first-wrong, wrong-near-of)
 
 pub wrong-length : (version : Version) (bytes rest rest2 rest3 rest4 : List ℕ) (from pending first : ℕ) → bytes ≡ first_line version ++ 10 ∷ rest
     → rest ≡ from_digits from ++ 10 ∷ rest2 → from < 2 ^ 42 → rest2 ≡ pending_digits pending ++ 10 ∷ rest3 → pending < mask_bound version
     → rest3 ≡ first_digits first ++ 10 ∷ rest4 → first < 2 ^ 42 → (nat_le from first && nat_le first (from + 200000)) ≡ true
     → ((n : ℕ) (after : List ℕ) → n < 2 ^ 42 → rest4 ≡ length_digits n ++ 10 ∷ after → ⊥) → IsFirstWrongLine bytes 5
-wrong-length version bytes rest rest2 rest3 rest4 from pending first e1 e2 s2 e3 s3 e4 s4 test none =
-    first-wrong version bytes rest 5 e1 (wrong-length-of version bytes rest e1 rest2 from e2 s2 rest3 pending e3 s3 rest4 first e4 s4 test none)
+wrong-length version bytes rest rest2 rest3 rest4 from pending first e1 e2 s2 e3 s3 e4 s4 test none = grind (arith, first-wrong, wrong-length-of)
 
 pub wrong-length-range : (version : Version) (bytes rest rest2 rest3 rest4 rest5 : List ℕ) (from pending first size : ℕ) → bytes ≡ first_line version ++ 10 ∷ rest
     → rest ≡ from_digits from ++ 10 ∷ rest2 → from < 2 ^ 42 → rest2 ≡ pending_digits pending ++ 10 ∷ rest3 → pending < mask_bound version

@@ -1,7 +1,6 @@
 -- Which instances a slot holds in a cycle of a kept table, and that each of them is flagged once.
-use Rattle.std.proofs.Common.{◌≡◌, ℕ, zero, suc, ◌+◌, ◌-◌, ◌<◌, ◌≤◌, ◌⊎◌, max, Bool, true, false, not, ◌&&◌, ◌||◌, nat_eq, Option, Some, None, List, Contains, is_some, refl, sym, ap, ◌∙◌, ⊎_elim, inl, inr, arith}
-use Rattle.std.specs.Option.{option_map_or}
-use Rattle.std.proofs.Math.Nat.{le-max_left, le-max_right, max-le}
+use Rattle.std.proofs.Common.{◌≡◌, ℕ, zero, suc, ◌+◌, ◌-◌, ◌<◌, ◌≤◌, ◌⊎◌, max, Bool, true, false, not, ◌&&◌, ◌||◌, nat_eq, Option, Some, List, Contains, is_some, refl, sym, ap, ◌∙◌, ⊎_elim, inl, inr, arith}
+use Rattle.std.proofs.Math.Nat.{max-le}
 use Rattle.std.proofs.lemmas.Option.{same_Some}
 use Rattle.std.proofs.lemmas.Bool.{cases_lt, cases_order, cases_Bool, eq-eqb, eqb-true, and_parts, and_from, not-true, or_cases, or_left, or_right}
 use Rattle.std.proofs.lemmas.List.Elements.{All-contains}
@@ -11,7 +10,7 @@ use Rattle.requirement_table.specs.Flags.{IsFlaggedOnce, IsGoodCycle, waits}
 use Rattle.requirement_table.specs.Instance.{Exists, Instance, IsLastCycle, IsReleasedIn, MaySend, deadline_of, release_of, released_by}
 use Rattle.bit_sets.specs.Sets.{most_slots}
 use Rattle.requirement_table.specs.Table.{IsInRange, IsWellPlaced, held_before, instance_in, is_last_in, releases_in}
-use Rattle.requirement_table.proofs.Shared.{IsReleasedIn-from_released_by, found-in, found-of, released_by-released}
+use Rattle.requirement_table.proofs.Shared.{found-in, found-of, released_by-released}
 use Rattle.plan_check.specs.PlanKept.{HasPending, IsOwed, IsOwedIn}
 
 pub before-suc : (placed : List Placed) (flags : ℕ → ℕ → Bool) (from : ℕ) (held : ℕ → Bool) (n slot : ℕ)
@@ -36,39 +35,17 @@ record IsRelease (placed : List Placed) (slot c : ℕ) : Type 0 where
   released : IsReleasedIn entry number c
 
 number-in : (o : Option ℕ) → is_some o ≡ true → (k : ℕ) × (o ≡ Some k)
-number-in (Some k) is = (k, refl)
-number-in None is = absurd (cc)
+number-in o is = grind arith
 
 release-in : (placed : List Placed) (slot c : ℕ) → IsWellPlaced placed → releases_in placed c slot ≡ true → IsRelease placed slot c
 release-in placed slot c well test =
     let any = Any-from_list_any (λ q. nat_eq q.entry.slot slot && is_some (released_by q c)) placed test in
-    let q = any.1 in
-    let parts = and_parts (nat_eq q.entry.slot slot) (is_some (released_by q c)) any.4 in
-    let number = number-in (released_by q c) parts.1 in
-    record {
-      entry = q;
-      number = number.0;
-      stands = (any.0, any.2, any.3);
-      in_range = rw any.3 at (well.in_range any.0 q any.2);
-      of_slot = eqb-true q.entry.slot slot parts.0;
-      released = IsReleasedIn-from_released_by q number.0 c number.1;
-    }
+    grind (arith, and_parts, is_some, number-in, eqb-true)
 
 -- the slot releases an instance in the cycle of its release
 pub releases-own : (placed : List Placed) (p : Placed) (k : ℕ) → IsWellPlaced placed → Contains placed p → Exists p (release_of p k)
     → releases_in placed (release_of p k) p.entry.slot ≡ true
-releases-own placed p k well stands exists =
-    let range = All-contains IsInRange placed p well.in_range stands in
-    let some = range.entry.some_time in
-    let period = range.entry.deadline in
-    let found = released_by-released p k (release_of p k) (omega arith) (record { release = refl; exists = exists }) in
-    list_any-from_Any (λ q. nat_eq q.entry.slot p.entry.slot && is_some (released_by q (release_of p k))) placed (
-      stands.0,
-      p,
-      stands.1,
-      stands.2,
-      and_from (nat_eq p.entry.slot p.entry.slot) (is_some (released_by p (release_of p k))) (eq-eqb p.entry.slot p.entry.slot refl) (ap is_some found),
-    )
+releases-own placed p k well stands exists = grind (arith, released_by-released, list_any-from_Any, is_some, and_from, eq-eqb)
 
 -- an instance that the slot releases is the one that may be sent
 pub released-one : (placed : List Placed) (slot c : ℕ) → IsWellPlaced placed → releases_in placed c slot ≡ true
@@ -76,7 +53,6 @@ pub released-one : (placed : List Placed) (slot c : ℕ) → IsWellPlaced placed
 released-one placed slot c well test =
     let r = release-in placed slot c well test in
     let release = r.released.release in
-    let some = r.in_range.entry.some_time in
     let exists : Exists r.entry (release_of r.entry r.number) = rw release r.released.exists in
     let sends : MaySend r.entry r.number c = record { exists = exists; released = omega arith; in_time = omega arith } in (
       record { placed = r.entry; number = r.number },
@@ -87,10 +63,7 @@ released-one placed slot c well test =
 -- in its last cycle an instance is the one that is found there
 last-is : (placed : List Placed) (p : Placed) (k c slot : ℕ) → IsWellPlaced placed → Contains placed p → p.entry.slot ≡ slot → MaySend p k c
     → deadline_of p k ≡ c + 1 → is_last_in placed c slot ≡ true
-last-is placed p k c slot well stands of_slot sends due =
-    ap (λ o. option_map_or (λ i. nat_eq (deadline_of i.placed i.number) (c + 1)) o false)
-    (ap (λ s. instance_in placed s c) (sym of_slot) ∙ found-of placed p k c well stands sends)
-    ∙ eq-eqb (deadline_of p k) (c + 1) due
+last-is placed p k c slot well stands of_slot sends due = grind (arith, found-of, eq-eqb)
 
 -- two instances of one slot that may be sent in one cycle have one release
 one-release : (placed : List Placed) (p q : Placed) (k m c slot : ℕ) → IsWellPlaced placed → Contains placed p → Contains placed q
@@ -119,17 +92,11 @@ first-in p zero b end is = inr (λ i after before _. omega arith)
 first-in p (suc j) b end is =
     ⊎_elim
     (λ (f : IsFirst p b (b + j)).
-    let last = f.before in
     inl (record { place = f.place; after = f.after; before = omega arith; passes = f.passes; none = f.none }))
     (λ (none : (i : ℕ) → b ≤ i → i < b + j → p i ≡ true → ⊥).
     ⊎_elim
     (λ (here : p (b + j) ≡ true). inl (record { place = b + j; after = omega arith; before = omega arith; passes = here; none = none }))
-    (λ (not_here : p (b + j) ≡ false).
-    inr (λ i after before passes.
-    ⊎_elim
-    (λ (low : i < b + j). none i after low passes)
-    (λ (high : b + j ≤ i). let at : i ≡ b + j = omega arith in let same = ap p at in absurd (cc))
-    (cases_lt i (b + j))))
+    (λ (not_here : p (b + j) ≡ false). grind (arith, cases_lt))
     (cases_Bool (p (b + j))))
     (first-in p j b (b + j) refl)
 
@@ -145,17 +112,8 @@ module _ (placed : List Placed) (flags : ℕ → ℕ → Bool) (from : ℕ) (pen
   holder-released : (n slot : ℕ) → releases_in placed (from + n) slot ≡ true → IsHolder placed flags from pending n slot
   holder-released n slot test =
       let r = release-in placed slot (from + n) well test in
-      let release = r.released.release in
-      let some = r.in_range.entry.some_time in
-      let exists : Exists r.entry (release_of r.entry r.number) = rw release r.released.exists in
       record {
-        owing = record {
-          entry = r.entry;
-          number = r.number;
-          owed = record { stands = r.stands; exists = exists; in_time = omega arith; waiting = λ early. absurd (omega arith) };
-          of_slot = r.of_slot;
-          sends = record { exists = exists; released = omega arith; in_time = omega arith };
-        };
+        owing = grind arith;
         unsent = λ c after released before flagged. omega arith;
       }
 
@@ -164,18 +122,7 @@ module _ (placed : List Placed) (flags : ℕ → ℕ → Bool) (from : ℕ) (pen
       let held = valid slot waiting in
       let i = held.instance in
       let found = found-in placed slot from i well held.found in
-      let released = found.sends.released in
-      let in_time = found.sends.in_time in
-      record {
-        owing = record {
-          entry = i.placed;
-          number = i.number;
-          owed = record { stands = found.stands; exists = found.sends.exists; in_time = in_time; waiting = λ early. ap pending found.of_slot ∙ waiting };
-          of_slot = found.of_slot;
-          sends = record { exists = found.sends.exists; released = omega arith; in_time = omega arith };
-        };
-        unsent = λ c after released before flagged. omega arith;
-      }
+      grind arith
 
   -- an instance that is not sent in a good cycle is held in the next one
   holder-next : (n slot : ℕ) → slot < most_slots → IsGoodCycle placed flags from pending n → waits placed flags from pending n slot ≡ true
@@ -195,14 +142,7 @@ module _ (placed : List Placed) (flags : ℕ → ℕ → Bool) (from : ℕ) (pen
           of_slot = holder.owing.of_slot;
           sends = record { exists = holder.owing.sends.exists; released = omega arith; in_time = omega arith };
         };
-        unsent = λ c after released before flagged.
-            ⊎_elim
-            (λ (early : c < from + n). holder.unsent c after released early flagged)
-            (λ (here : from + n ≤ c).
-            let at : c ≡ from + n = omega arith in
-            let now = ap (λ x. flags x slot) at in
-            absurd (cc))
-            (cases_lt c (from + n));
+        unsent = grind (arith, cases_lt);
       })
       (λ (last : deadline_of p k ≤ from + n + 1).
       let due = last-is placed p k (from + n) slot well holder.owing.owed.stands holder.owing.of_slot holder.owing.sends (omega arith) in
@@ -238,11 +178,7 @@ module _ (placed : List Placed) (flags : ℕ → ℕ → Bool) (from : ℕ) (pen
   waits-on (suc j) b n slot is waiting unsent =
       let next : n ≡ suc (b + j) = omega arith in
       let before = waits-on j b (b + j) slot refl waiting (λ m after low flagged. unsent m after (omega arith) flagged) in
-      rw next
-      (or_left (held_before placed flags from pending (suc (b + j)) slot) (releases_in placed (from + suc (b + j)) slot)
-      (before-suc placed flags from pending (b + j) slot
-      ∙ and_from (waits placed flags from pending (b + j) slot) (not (flags (from + (b + j)) slot)) before
-      (not_flagged (flags (from + (b + j)) slot) (λ flagged. unsent (b + j) (omega arith) (omega arith) flagged))))
+      grind (arith, or_left, before-suc, and_from, not_flagged)
     where
       not_flagged : (b : Bool) → (b ≡ true → ⊥) → not b ≡ true
       not_flagged true wrong = absurd (wrong refl)
@@ -256,8 +192,7 @@ module _ (placed : List Placed) (flags : ℕ → ℕ → Bool) (from : ℕ) (pen
       ⊎_elim
       (λ (early : release_of p k < from).
       waits-on n 0 n p.entry.slot (omega arith)
-      (or_left (held_before placed flags from pending 0 p.entry.slot) (releases_in placed (from + 0) p.entry.slot)
-      (before-zero placed flags from pending p.entry.slot ∙ owed.waiting early))
+      (grind (arith, or_left, before-zero))
       (λ m after low flagged. unsent (from + m) (omega arith) (omega arith) (omega arith) flagged))
       (λ (later : from ≤ release_of p k).
       let b = release_of p k - from in
@@ -278,12 +213,8 @@ module _ (placed : List Placed) (flags : ℕ → ℕ → Bool) (from : ℕ) (pen
       let slot = p.entry.slot in
       let range = All-contains IsInRange placed p well.in_range owed.stands in
       let known = range.entry.slot in
-      let some = range.entry.some_time in
       let in_time = owed.in_time in
       let begin = max from (release_of p k) in
-      let after_from = le-max_left from (release_of p k) in
-      let after_release = le-max_right from (release_of p k) in
-      let early : begin ≤ last = max-below from (release_of p k) last (omega arith) (omega arith) in
       ⊎_elim
       (λ (f : IsFirst (λ c. flags c slot) begin (last + 1)).
       let after = f.after in
@@ -311,7 +242,6 @@ module _ (placed : List Placed) (flags : ℕ → ℕ → Bool) (from : ℕ) (pen
       })
       (λ (none : (i : ℕ) → begin ≤ i → i < last + 1 → flags i slot ≡ true → ⊥).
       let n = last - from in
-      let at : last ≡ from + n = omega arith in
       let waiting = waits-of p k n owed (omega arith)
       (λ c behind released low flagged. none c (max-below from (release_of p k) c behind released) (omega arith) flagged) in
       let sends = sends-in p k last (from + n) owed is_last (omega arith) (omega arith) in

@@ -1,8 +1,7 @@
 -- A block that repeats: the slots do the same in as many cycles right after it.
-use Rattle.std.proofs.Common.{◌≡◌, ℕ, ◌+◌, ◌-◌, ◌%◌, ◌<◌, ◌≤◌, ◌&&◌, true, nat_eq, nat_le, Option, Some, None, IsSome, option_map, List, All, get_or, length, refl, sym, ap, ◌∙◌, arith}
+use Rattle.std.proofs.Common.{◌≡◌, ℕ, ◌+◌, ◌-◌, ◌%◌, ◌≤◌, ◌&&◌, true, nat_eq, nat_le, Option, IsSome, option_map, List, All, get_or, sym, ap, ◌∙◌, arith}
 use Rattle.std.specs.Option.{option_map_or}
 use Rattle.std.proofs.lemmas.Bool.{and_from, and_parts, le-leb, leb-true}
-use Rattle.std.proofs.lemmas.List.{get_or_default}
 use Rattle.requirement_table.specs.declared.entries.Placed.{Placed}
 use Rattle.requirement_table.specs.Table.{IsWellPlaced, instance_in, is_last_in, releases_in, worst_in}
 use Rattle.requirement_table.proofs.Shared.{GoesRound, instance-again, later, same-again}
@@ -14,13 +13,7 @@ use Rattle.plan_check.proofs.Rounds.{GoesRound-from_test}
 round-with : (b c d : ℕ) (p : Placed) (end : Option ℕ) → b ≤ c
     → option_map_or (λ free. nat_le free b) (option_map (λ e. e + p.entry.deadline - 1) end) (nat_le (p.origin + p.entry.phase) b && nat_eq (d % p.entry.period) 0) ≡ true
     → option_map_or (λ free. nat_le free c) (option_map (λ e. e + p.entry.deadline - 1) end) (nat_le (p.origin + p.entry.phase) c && nat_eq (d % p.entry.period) 0) ≡ true
-round-with b c d p None after test =
-    let parts = and_parts (nat_le (p.origin + p.entry.phase) b) (nat_eq (d % p.entry.period) 0) test in
-    let begun = leb-true (p.origin + p.entry.phase) b parts.0 in
-    and_from (nat_le (p.origin + p.entry.phase) c) (nat_eq (d % p.entry.period) 0) (le-leb (p.origin + p.entry.phase) c (omega arith)) parts.1
-round-with b c d p (Some e) after test =
-    let free = leb-true (e + p.entry.deadline - 1) b test in
-    le-leb (e + p.entry.deadline - 1) c (omega arith)
+round-with b c d p end after test = grind (arith, and_parts, leb-true, and_from, le-leb)
 
 -- an entry that goes round goes round later
 round-later : (b c d : ℕ) (p : Placed) → b ≤ c → goes_round b d p ≡ true → goes_round c d p ≡ true
@@ -30,8 +23,7 @@ pub rounds-later : (placed : List Placed) (b c d : ℕ) → b ≤ c → All (λ 
 rounds-later placed b c d after rounds = λ k e within. round-later b c d (get_or placed k e) after (rounds k e within)
 
 some-mapped : {A B : Type 0} (f : A → B) (o : Option A) → IsSome (option_map f o) → IsSome o
-some-mapped f (Some x) some = refl
-some-mapped f None some = absurd (cc)
+some-mapped f o some = grind arith
 
 -- fewer cycles
 pub filled-fewer : (placed : List Placed) (from count fewer : ℕ) (block : Block) → fewer ≤ count → IsFilled placed from count block
@@ -65,8 +57,3 @@ filled-again placed from count block well tests filled = λ slot known.
           ∙ sym (same-again placed from count (from + i) slot well rounds (omega arith)).cost
           ∙ ap (λ c. worst_in placed c slot) (sym at);
     }
-
-pub round-at : (placed : List Placed) (b d i k : ℕ) (x y : Placed) → i ≡ k → i < length placed → goes_round b d (get_or placed i x) ≡ true
-    → goes_round b d (get_or placed k y) ≡ true
-round-at placed b d i k x y same within test =
-    sym (ap (goes_round b d) (get_or_default placed i x y within ∙ ap (λ n. get_or placed n y) same)) ∙ test

@@ -1,7 +1,7 @@
 -- Cycles that are some whole steps after a first one, and the sets of a block that are marked there.
-use Rattle.std.proofs.Common.{◌≡◌, ◌≢◌, ℕ, ◌+◌, ◌-◌, ◌*◌, ◌/◌, ◌%◌, ◌<◌, ◌≤◌, ◌&&◌, ◌||◌, Bool, true, false, nat_eq, nat_le, nat_lt, List, length, set, refl, sym, ap, ◌∙◌, ⊎_elim, arith, get_or-set_other, get_or-set_same}
-use Rattle.std.proofs.Math.Nat.{add-mul-mod_self_right, mod-lt, mul-add-mod_self_right}
-use Rattle.std.proofs.lemmas.Bool.{and_from, cases_eq, cases_lt, cases_order, eq-eqb, le-leb}
+use Rattle.std.proofs.Common.{◌≡◌, ◌≢◌, ℕ, ◌+◌, ◌-◌, ◌*◌, ◌/◌, ◌%◌, ◌<◌, ◌≤◌, ◌&&◌, ◌||◌, Bool, true, false, nat_eq, nat_le, nat_lt, List, length, set, sym, ap, ◌∙◌, ⊎_elim, arith, get_or-set_other, get_or-set_same}
+use Rattle.std.proofs.Math.Nat.{add-mul-mod_self_right, mul-add-mod_self_right}
+use Rattle.std.proofs.lemmas.Bool.{cases_eq, cases_lt, cases_order, le-leb}
 use Rattle.std.proofs.lemmas.Bool.Decides.{nat_tests}
 use Rattle.std.proofs.lemmas.Nat.{div-add-mod', mod-mul-add}
 use Rattle.bit_sets.specs.Sets.{has_bit}
@@ -9,23 +9,11 @@ use Rattle.plan_check.specs.Blocks.{AreMarked, has_at, meets}
 
 -- Cycles counted from another one
 
-pub offset-later : (first step from i : ℕ) → from ≤ first → meets (first - from) step i ≡ meets first step (from + i)
-offset-later first step from i later =
-    let same : i - (first - from) ≡ from + i - first = omega arith in
-    let test : nat_le (first - from) i ≡ nat_le first (from + i) = grind (arith, nat_tests) in
-    ap (λ b. b && nat_eq ((i - (first - from)) % step) 0) test ∙ ap (λ n. nat_le first (from + i) && nat_eq (n % step) 0) same
-
 pub offset-whole : (first step from i : ℕ) → first < from → (from - first) % step ≡ 0 → meets 0 step i ≡ meets first step (from + i)
 offset-whole first step from i earlier whole =
     let q = (from - first) / step in
-    let parts = div-add-mod' (from - first) step in
     let since : from + i - first ≡ q * step + i = omega arith in
-    let rest : (from + i - first) % step ≡ i % step = ap (λ n. n % step) since ∙ mul-add-mod_self_right q step i in
-    let test : nat_le first (from + i) ≡ true = le-leb first (from + i) (omega arith) in
-    let here : nat_le 0 i ≡ true = le-leb 0 i (omega arith) in
-    let none : i - 0 ≡ i = omega arith in
-    ap (λ b. b && nat_eq ((i - 0) % step) 0) here ∙ ap (λ n. nat_eq (n % step) 0) none
-    ∙ sym (ap (λ b. b && nat_eq ((from + i - first) % step) 0) test ∙ ap (λ n. nat_eq n 0) rest)
+    grind (arith, mul-add-mod_self_right, le-leb)
 
 false-le : (a b : ℕ) → b < a → nat_le a b ≡ false
 false-le a b less = grind (arith, nat_tests)
@@ -34,20 +22,15 @@ false-eq : (a b : ℕ) → (a ≡ b → ⊥) → nat_eq a b ≡ false
 false-eq a b other = grind (arith, nat_tests)
 
 and-false : (b : Bool) → (b && false) ≡ false
-and-false true = refl
-and-false false = refl
+and-false b = grind arith
 
 and-both : (a b : Bool) → (a && (b && false)) ≡ false
-and-both true true = refl
-and-both true false = refl
-and-both false b = refl
+and-both a b = grind arith
 
 pub offset-rest : (first step from i after : ℕ) → 1 ≤ step → first < from → after ≡ (from - first) % step → 0 < after
     → meets (step - after) step i ≡ meets first step (from + i)
 offset-rest first step from i after some earlier is rest =
     let q = (from - first) / step in
-    let parts = div-add-mod' (from - first) step in
-    let small = mod-lt (from - first) {m = step} some in
     let begun : nat_le first (from + i) ≡ true = le-leb first (from + i) (omega arith) in
     ⊎_elim
     (λ (early : i < step - after).
@@ -75,53 +58,8 @@ pub record IsMarking (first step end one : ℕ) (old sets : List ℕ) (at : ℕ)
   pub whole : (at - first) % step ≡ 0
   pub sets_are : AreMarked 256 (λ i. nat_lt i at && (nat_lt i end && meets first step i)) one old sets
 
-nothing-yet : (h c : Bool) → h ≡ (h || (c && false))
-nothing-yet true c = refl
-nothing-yet false true = refl
-nothing-yet false false = refl
-
-pub marking-start : (first step end one : ℕ) (sets : List ℕ) → length sets ≡ 256 → IsMarking first step end one sets sets first
-marking-start first step end one sets count =
-    let same : first - first ≡ 0 = omega arith in
-    record {
-      count = count;
-      after = omega arith;
-      whole = ap (λ n. n % step) same ∙ zero-rest step;
-      sets_are = λ i slot within.
-          nothing-yet (has_at sets i slot) (has_bit one slot)
-          ∙ ap (λ b. has_at sets i slot || (has_bit one slot && b)) (sym (none i));
-    }
-  where
-    zero-rest : (n : ℕ) → 0 % n ≡ 0
-    zero-rest n = omega arith
-
-    none : (i : ℕ) → (nat_lt i first && (nat_lt i end && meets first step i)) ≡ false
-    none i =
-        ⊎_elim
-        (λ (below : i < first).
-        let wrong = false-le first i below in
-        ap (λ b. nat_lt i first && (nat_lt i end && (b && nat_eq ((i - first) % step) 0))) wrong ∙ and-both (nat_lt i first) (nat_lt i end))
-        (λ (above : first ≤ i).
-        let late : nat_lt i first ≡ false = grind (arith, nat_tests) in
-        ap (λ b. b && (nat_lt i end && meets first step i)) late)
-        (cases_lt i first)
-
-marked-here : (h c t : Bool) → t ≡ true → ((h || (c && false)) || c) ≡ (h || (c && t))
-marked-here true c t is = refl
-marked-here false true t is = sym is
-marked-here false false t is = refl
-
 module _ (first step end one : ℕ) (old sets : List ℕ) (at : ℕ) (some : 1 ≤ step) (before : at < end) (within : end ≤ 256)
     (marking : IsMarking first step end one old sets at) where
-  here-test : (nat_lt at (at + step) && (nat_lt at end && meets first step at)) ≡ true
-  here-test =
-      let next : nat_lt at (at + step) ≡ true = grind (arith, nat_tests) in
-      let low : nat_lt at end ≡ true = grind (arith, nat_tests) in
-      let begun = le-leb first at marking.after in
-      let whole = eq-eqb ((at - first) % step) 0 marking.whole in
-      and_from (nat_lt at (at + step)) (nat_lt at end && meets first step at) next
-      (and_from (nat_lt at end) (meets first step at) low (and_from (nat_le first at) (nat_eq ((at - first) % step) 0) begun whole))
-
   before-test : (nat_lt at at && (nat_lt at end && meets first step at)) ≡ false
   before-test = let late : nat_lt at at ≡ false = grind (arith, nat_tests) in ap (λ b. b && (nat_lt at end && meets first step at)) late
 
@@ -129,26 +67,16 @@ module _ (first step end one : ℕ) (old sets : List ℕ) (at : ℕ) (some : 1 �
   between : (i : ℕ) → at < i → i < at + step → meets first step i ≡ false
   between i above below =
       let q = (at - first) / step in
-      let after = marking.after in
-      let whole = marking.whole in
       let parts = div-add-mod' (at - first) step in
       let since : i - first ≡ q * step + (i - at) = omega arith in
-      let rest : (i - first) % step ≡ i - at = ap (λ n. n % step) since ∙ mod-mul-add q step (i - at) (omega arith) in
-      ap (λ b. nat_le first i && b) (false-eq ((i - first) % step) 0 (λ wrong. omega arith)) ∙ and-false (nat_le first i)
+      grind (arith, mod-mul-add, false-eq, and-false)
 
   other-test : (i : ℕ) → i ≢ at
       → (nat_lt i at && (nat_lt i end && meets first step i)) ≡ (nat_lt i (at + step) && (nat_lt i end && meets first step i))
   other-test i other =
       ⊎_elim
       (λ (same : i ≡ at). absurd (other same))
-      (⊎_elim
-      (λ (below : i < at).
-      let one' : nat_lt i at ≡ true = grind (arith, nat_tests) in
-      let two : nat_lt i (at + step) ≡ true = grind (arith, nat_tests) in
-      ap (λ b. b && (nat_lt i end && meets first step i)) (one' ∙ sym two))
-      (λ (above : at < i).
-      let late : nat_lt i at ≡ false = grind (arith, nat_tests) in
-      ap (λ b. b && (nat_lt i end && meets first step i)) late ∙ sym (later i above)))
+      (grind (arith, nat_lt, nat_tests, later))
       (cases_order i at)
     where
       later : (i : ℕ) → at < i → (nat_lt i (at + step) && (nat_lt i end && meets first step i)) ≡ false
@@ -175,18 +103,7 @@ module _ (first step end one : ℕ) (old sets : List ℕ) (at : ℕ) (some : 1 �
         whole = ap (λ n. n % step) since ∙ add-mul-mod_self_right (at - first) 1 step ∙ whole;
         sets_are = λ i slot low.
             ⊎_elim
-            (λ (is : i ≡ at).
-            let place : i ≡ index = is ∙ sym same in
-            let held : has_at (set sets index new) i slot ≡ has_bit new slot
-            = ap (λ k. has_at (set sets index new) k slot) place
-            ∙ ap (λ n. has_bit n slot) (get_or-set_same sets index new 0 (let all = marking.count in omega arith)) in
-            let was : has_at sets index slot ≡ (has_at old i slot || (has_bit one slot && false))
-            = ap (λ k. has_at sets k slot) (sym place) ∙ marking.sets_are i slot low
-            ∙ ap (λ b. has_at old i slot || (has_bit one slot && b))
-            (ap (λ k. nat_lt k at && (nat_lt k end && meets first step k)) is ∙ before-test) in
-            held ∙ made slot ∙ ap (λ b. b || has_bit one slot) was
-            ∙ marked-here (has_at old i slot) (has_bit one slot) (nat_lt i (at + step) && (nat_lt i end && meets first step i))
-            (ap (λ k. nat_lt k (at + step) && (nat_lt k end && meets first step k)) is ∙ here-test))
+            (λ (is : i ≡ at). grind (arith, get_or-set_same, nat_lt, before-test))
             (λ (other : i ≢ at).
             let apart : i ≢ index = λ is. other (is ∙ same) in
             ap (λ n. has_bit n slot) (get_or-set_other sets index i new 0 apart) ∙ marking.sets_are i slot low
@@ -194,25 +111,7 @@ module _ (first step end one : ℕ) (old sets : List ℕ) (at : ℕ) (some : 1 �
             (cases_eq i at);
       }
 
-pub marking-end : (first step end one : ℕ) (old sets : List ℕ) (at : ℕ) → end ≤ at → IsMarking first step end one old sets at
-    → AreMarked 256 (λ i. nat_lt i end && meets first step i) one old sets
-marking-end first step end one old sets at all marking = λ i slot low.
-    marking.sets_are i slot low ∙ ap (λ b. has_at old i slot || (has_bit one slot && b)) (past i)
-  where
-    past : (i : ℕ) → (nat_lt i at && (nat_lt i end && meets first step i)) ≡ (nat_lt i end && meets first step i)
-    past i =
-        ⊎_elim
-        (λ (below : i < at).
-        let yes' : nat_lt i at ≡ true = grind (arith, nat_tests) in
-        ap (λ b. b && (nat_lt i end && meets first step i)) yes')
-        (λ (above : at ≤ i).
-        let no' : nat_lt i at ≡ false = grind (arith, nat_tests) in
-        let late : nat_lt i end ≡ false = grind (arith, nat_tests) in
-        ap (λ b. b && (nat_lt i end && meets first step i)) no' ∙ sym (ap (λ b. b && meets first step i) late))
-        (cases_lt i at)
-
 -- marks by one test are marks by another that is the same below a number
 pub marked-as : (count : ℕ) (p q : ℕ → Bool) (one : ℕ) (old new : List ℕ) → count ≤ 256 → ((i : ℕ) → i < count → p i ≡ q i)
     → AreMarked 256 p one old new → AreMarked count q one old new
-marked-as count p q one old new few same marked = λ i slot below.
-    marked i slot (omega arith) ∙ ap (λ b. has_at old i slot || (has_bit one slot && b)) (same i below)
+marked-as count p q one old new few same marked = grind arith

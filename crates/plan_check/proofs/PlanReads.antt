@@ -1,5 +1,5 @@
 -- Texts that begin as the text of a plan, and the first line that is wrong.
-use Rattle.std.proofs.Common.{◌≡◌, ℕ, zero, suc, ◌+◌, ◌-◌, ◌^◌, ◌<◌, ◌≤◌, ◌&&◌, true, false, not, nat_eq, nat_le, List, [], ◌∷◌, ◌++◌, All, None, codes, drop, get_or, length, map, take, subst, refl, sym, ap, ◌∙◌, arith, append_assoc}
+use Rattle.std.proofs.Common.{◌≡◌, ℕ, zero, suc, ◌+◌, ◌-◌, ◌^◌, ◌<◌, ◌≤◌, ◌&&◌, true, false, not, nat_eq, nat_le, List, [], ◌∷◌, ◌++◌, None, codes, drop, get_or, length, map, take, refl, sym, ap, ◌∙◌, arith, append_assoc}
 use Rattle.std.specs.Fmt.{decimal}
 use Rattle.std.specs.List.{list_all}
 use Rattle.std.proofs.lemmas.Bool.{and_from, and_parts, le-leb}
@@ -8,8 +8,7 @@ use Rattle.std.proofs.lemmas.List.{append_cancel_left, length-append, length-map
 use Rattle.plan_check.specs.Certificate.{CertificateView, length_of}
 use Rattle.plan_check.specs.declared.plan_runs.MaskRun.{MaskRun}
 use Rattle.plan_check.specs.declared.plan_runs.Version.{Version}
-use Rattle.plan_check.specs.declared.plan_runs.Version.TheVariants.{One, Two}
-use Rattle.plan_check.specs.PlanText.{AreListed, BeginsAsPlan, IsFirstWrongLine, IsReadable, IsReadableHead, IsTextOfPlan, first_line, head_lines, last_mask, lines_of_head, lines_of_runs, listed_runs, mask_bound, plan_lines, run_line, spread, text_in, text_of, total}
+use Rattle.plan_check.specs.PlanText.{AreListed, BeginsAsPlan, IsFirstWrongLine, IsReadable, IsReadableHead, IsTextOfPlan, first_line, head_lines, last_mask, lines_of_head, lines_of_runs, listed_runs, plan_lines, run_line, spread, text_in, text_of, total}
 use Rattle.text_fields.specs.Lines.{HasNoFeed}
 use Rattle.text_fields.specs.MaskText.{mask_digits}
 use Rattle.text_fields.proofs.Shared.{no_feed-append, no_feed-decimal, no_feed-mask, same_line}
@@ -36,12 +35,7 @@ same_front (x ∷ xs) (y ∷ ys) r s one other size same =
 -- a line more was read
 pub front-more : (bytes : List ℕ) (lines : List (List ℕ)) (rest x after : List ℕ) → bytes ≡ text_of lines ++ rest → rest ≡ x ++ 10 ∷ after
     → bytes ≡ text_of (lines ++ x ∷ []) ++ after
-front-more bytes lines rest x after is next =
-    is
-    ∙ ap (λ t. text_of lines ++ t) next
-    ∙ ap (λ t. text_of lines ++ t) (sym (text-cons x [] after))
-    ∙ sym (append_assoc (text_of lines) (text_of (x ∷ [])) after)
-    ∙ ap (λ t. t ++ after) (sym (text_of-append lines (x ∷ [])))
+front-more bytes lines rest x after is next = grind (arith, text-cons, append_assoc, text_of-append)
 
 pub clean-append : (xs ys : List (List ℕ)) → AllClean xs → AllClean ys → AllClean (xs ++ ys)
 clean-append [] ys one other = other
@@ -62,22 +56,17 @@ pub word-number : (word : List ℕ) (n : ℕ) → list_all (λ b. not (nat_eq b 
 word-number word n test small = no_feed-append word (decimal n) (literal-clean word test) (no_feed-decimal n (omega arith))
 
 pub clean-first : (version : Version) → HasNoFeed (first_line version)
-clean-first One = literal-clean (codes "fttcan plan 1") refl
-clean-first Two = literal-clean (codes "fttcan plan 2") refl
+clean-first version = grind (arith, literal-clean, codes)
 
 pub clean-run : (version : Version) (run : MaskRun) → run.count < 2 ^ 42 → HasNoFeed (run_line version run)
-clean-run One run small = no_feed-mask run.mask
-clean-run Two run small =
-    no_feed-append (mask_digits run.mask ++ codes " ") (decimal run.count)
-    (no_feed-append (mask_digits run.mask) (codes " ") (no_feed-mask run.mask) (literal-clean (codes " ") refl)) (no_feed-decimal run.count (omega arith))
+clean-run version run small = grind (arith, no_feed-mask, no_feed-append, codes, literal-clean, no_feed-decimal)
 
 pub clean-runs : (version : Version) (runs : List MaskRun) → total runs < 2 ^ 42 → AllClean (map (run_line version) runs)
 clean-runs version [] few = tt
 clean-runs version (run ∷ runs) few = (clean-run version run (omega arith), clean-runs version runs (omega arith))
 
 pub clean-body : (version : Version) (runs : List MaskRun) → total runs < 2 ^ 42 → AllClean (lines_of_runs version runs)
-clean-body version runs few =
-    clean-append (map (run_line version) runs) (codes "end" ∷ []) (clean-runs version runs few) (literal-clean (codes "end") refl, tt)
+clean-body version runs few = grind (arith, clean-append, codes, clean-runs, literal-clean)
 
 pub clean-head : (version : Version) (from pending first length : ℕ) → from < 2 ^ 42 → first < 2 ^ 42 → length < 2 ^ 42
     → AllClean (lines_of_head version from pending first length)
@@ -92,18 +81,8 @@ clean-head version from pending first length small near few = (
   ),
 )
 
--- a readable certificate has few masks
-pub few-listed : (version : Version) (certificate : CertificateView) → IsReadable version certificate → length certificate.masks ≤ 400000
-few-listed version certificate readable =
-    let few = readable.few in
-    let near = readable.near in
-    let after = readable.after in
-    omega arith
-
 pub clean-plan : (version : Version) (certificate : CertificateView) → IsReadable version certificate → AllClean (plan_lines version certificate)
 clean-plan version certificate readable =
-    let few = readable.few in
-    let all = few-listed version certificate readable in
     let count = total-listed version certificate.masks in
     clean-append (head_lines version certificate) (lines_of_runs version (listed_runs version certificate.masks))
     (clean-head version certificate.from certificate.pending certificate.first (length_of certificate) readable.from readable.first (omega arith))
@@ -142,71 +121,24 @@ behind_first version certificate =
 apart : (a b : ℕ) → a ≡ b → a ≡ 49 → b ≡ 50 → ⊥
 apart a b same one two = omega arith
 
-version-same : (v w : Version) → first_line v ≡ first_line w → v ≡ w
-version-same One One same = refl
-version-same One Two same = absurd (apart _ _ (ap (λ (l : List ℕ). get_or l 12 0) same) refl refl)
-version-same Two One same = absurd (apart _ _ (ap (λ (l : List ℕ). get_or l 12 0) (sym same)) refl refl)
-version-same Two Two same = refl
-
--- a text is of the version that its first line says
-pub this-version : (version other : Version) (bytes after more : List ℕ) → bytes ≡ first_line version ++ 10 ∷ after → bytes ≡ first_line other ++ 10 ∷ more
-    → other ≡ version
-this-version version other bytes after more begun is =
-    version-same other version (same_line (first_line other) (first_line version) more after (clean-first other) (clean-first version) (sym is ∙ begun)).0
-
-begins-by_count : (version w : Version) (bytes after : List ℕ) (k : ℕ) (c : CertificateView) (rest : List ℕ) → bytes ≡ first_line version ++ 10 ∷ after → 1 ≤ k
-    → IsReadable w c → k ≤ length (plan_lines w c) → bytes ≡ text_of (take k (plan_lines w c)) ++ rest → BeginsIn version bytes k
-begins-by_count version w bytes after zero c rest begun some readable within split = absurd (omega arith)
-begins-by_count version w bytes after (suc k) c rest begun some readable within split =
-    let first : bytes ≡ first_line w ++ 10 ∷ (text_of (take k (behind_first w c)) ++ rest) = split ∙ text-cons (first_line w) (take k (behind_first w c)) rest in
-    let P : Version → Type 0 = λ v. BeginsIn v bytes (suc k) in
-    let here : BeginsIn w bytes (suc k) = record { certificate = c; readable = readable; within = within; rest = rest; split = split } in
-    subst P (this-version version w bytes after (text_of (take k (behind_first w c)) ++ rest) begun first) here
-
 begins-in : (version : Version) (bytes after : List ℕ) (k : ℕ) → bytes ≡ first_line version ++ 10 ∷ after → 1 ≤ k → BeginsAsPlan bytes k → BeginsIn version bytes k
-begins-in version bytes after k begun some begins =
-    begins-by_count version begins.version bytes after k begins.certificate begins.rest begun some begins.readable begins.within begins.split
+begins-in version bytes after k begun some begins = grind arith
 
 pub plan-in : (version : Version) (bytes after : List ℕ) (certificate : CertificateView) → bytes ≡ first_line version ++ 10 ∷ after → IsTextOfPlan bytes certificate
     → IsPlanIn version bytes certificate
-plan-in version bytes after certificate begun plan =
-    let w = plan.version in
-    let first : bytes ≡ first_line w ++ 10 ∷ (text_of (behind_first w certificate) ++ [])
-    = plan.text ∙ sym (append-nil (text_in w certificate)) ∙ text-cons (first_line w) (behind_first w certificate) [] in
-    let P : Version → Type 0 = λ v. IsPlanIn v bytes certificate in
-    let here : IsPlanIn w bytes certificate = record { readable = plan.readable; text = plan.text } in
-    subst P (this-version version w bytes after (text_of (behind_first w certificate) ++ []) begun first) here
+plan-in version bytes after certificate begun plan = grind (arith, append-nil, text-cons)
 
 -- what is wrong in the version that the first line says is wrong
 pub first-wrong : (version : Version) (bytes after : List ℕ) (number : ℕ) → bytes ≡ first_line version ++ 10 ∷ after → IsWrongIn version bytes number
     → IsFirstWrongLine bytes number
-first-wrong version bytes after number begun wrong =
-    let at = wrong.at in
-    record {
-      count = wrong.count;
-      at = at;
-      other = λ certificate plan. wrong.other certificate (plan-in version bytes after certificate begun plan);
-      before = record {
-        version = version;
-        certificate = wrong.before.certificate;
-        readable = wrong.before.readable;
-        within = wrong.before.within;
-        rest = wrong.before.rest;
-        split = wrong.before.split;
-      };
-      wrong = λ begins. wrong.wrong (begins-in version bytes after number begun (omega arith) begins);
-    }
+first-wrong version bytes after number begun wrong = grind (arith, wrong, plan-in, begins-in)
 
 -- The head
 
 -- how many lines a plan has
 pub count-lines : (version : Version) (certificate : CertificateView)
     → length (plan_lines version certificate) ≡ 6 + length (listed_runs version certificate.masks)
-count-lines version certificate =
-    let runs = listed_runs version certificate.masks in
-    let lines = length-append (map (run_line version) runs) (codes "end" ∷ []) in
-    let size : length (map (run_line version) runs) ≡ length runs = length-map runs (run_line version) in
-    omega arith
+count-lines version certificate = grind (arith, length-append, codes, length-map)
 
 -- a text of a plan begins with each number of its lines
 pub begins-by : (version : Version) (bytes : List ℕ) (certificate : CertificateView) (k : ℕ) → IsReadable version certificate
@@ -231,8 +163,7 @@ next-line lines its rest other k clean its_clean size inside same =
     ∙ ap (λ t. t ++ other) (text_of-append (take k its) (get_or its k [] ∷ []))
     ∙ append_assoc (text_of (take k its)) (text_of (get_or its k [] ∷ [])) other
     ∙ ap (λ t. text_of (take k its) ++ t) (text-cons (get_or its k []) [] other) in
-    let taken : length (take k its) ≡ k = length-take-le k its (omega arith) in
-    same_front lines (take k its) rest (get_or its k [] ++ 10 ∷ other) clean (clean-take k its its_clean) (omega arith) whole
+    grind (arith, length-take-le, same_front, clean-take)
 
 -- a line of the head that no plan has behind the lines before it
 pub head-wrong : (version : Version) (bytes : List ℕ) (lines : List (List ℕ)) (rest : List ℕ) (k number : ℕ) → bytes ≡ text_of lines ++ rest → AllClean lines
@@ -253,7 +184,6 @@ head-wrong version bytes lines rest k number is clean size early at before none 
     wrong begins =
         let c = begins.certificate in
         let plan = plan_lines version c in
-        let within = begins.within in
         let inside : k < length plan = omega arith in
         let split : bytes ≡ text_of (take (k + 1) plan) ++ begins.rest = rw at at begins.split in
         let parts = next-line lines plan rest begins.rest k clean (clean-plan version c begins.readable) size inside (sym is ∙ split) in
@@ -268,25 +198,6 @@ counted-length certificate size count =
   where
     sum-less : (a b : ℕ) → a + b - a ≡ b
     sum-less a b = omega arith
-
-pub counted-readable : (version : Version) (certificate : CertificateView) (size : ℕ)
-    → IsReadableHead version certificate.from certificate.pending certificate.first size
-    → length certificate.masks ≡ certificate.first - certificate.from + size → All (λ m. m < mask_bound version) certificate.masks
-    → IsReadable version certificate
-counted-readable version certificate size head count small =
-    let whole = counted-length certificate size count in
-    let some = head.some in
-    let few = head.few in
-    record {
-      from = head.from_below;
-      pending = head.pending_below;
-      first = head.first_below;
-      after = head.after;
-      near = head.near;
-      some = omega arith;
-      few = omega arith;
-      masks = small;
-    }
 
 -- the certificate with these runs and others behind them, as many as its head says
 abbrev pub filler : Version → ℕ → ℕ → ℕ → ℕ → List MaskRun → CertificateView
@@ -308,15 +219,10 @@ module _ (version : Version) (from pending first size : ℕ) (runs : List MaskRu
   filler-runs = listed-spread version (runs ++ tail_runs) all-listed
 
   filler-count : length (filler version from pending first size runs).masks ≡ first - from + size
-  filler-count =
-      let all = length-spread (runs ++ tail_runs) in
-      let parts = total-append runs tail_runs in
-      let more = filling-total version (last_mask None runs) (first - from + size - total runs) in
-      omega arith
+  filler-count = grind (arith, length-spread, total-append, filling-total)
 
   filler-readable : IsReadableHead version from pending first size → IsReadable version (filler version from pending first size runs)
-  filler-readable head =
-      counted-readable version (filler version from pending first size runs) size head filler-count (masks-below version None (runs ++ tail_runs) all-listed)
+  filler-readable head = grind (arith, filler-count, masks-below, all-listed)
 
   filler-length : length_of (filler version from pending first size runs) ≡ size
   filler-length = counted-length (filler version from pending first size runs) size filler-count
@@ -330,8 +236,7 @@ module _ (version : Version) (from pending first size : ℕ) (runs : List MaskRu
       let count = count-lines version c in
       let all = ap length filler-runs ∙ length-append runs tail_runs in
       let these : lines_of_head version from pending first size ++ (map (run_line version) (runs ++ tail_runs) ++ codes "end" ∷ []) ≡ plan_lines version c
-      = ap (λ n. lines_of_head version from pending first n ++ (map (run_line version) (runs ++ tail_runs) ++ codes "end" ∷ [])) (sym filler-length)
-      ∙ ap (λ l. head_lines version c ++ (map (run_line version) l ++ codes "end" ∷ [])) (sym filler-runs) in
+      = grind (arith, codes, filler-length, filler-runs) in
       record {
         certificate = c;
         readable = filler-readable head;
@@ -353,6 +258,4 @@ pub number-same : (word : List ℕ) (m n : ℕ) → m < 2 ^ 42 → n < 2 ^ 42 �
 number-same word m n small other is = decimal_injective m n (omega arith) (omega arith) (append_cancel_left word (decimal m) (decimal n) is)
 
 pub near-false : (from first : ℕ) → (nat_le from first && nat_le first (from + 200000)) ≡ false → from ≤ first → first ≤ from + 200000 → ⊥
-near-false from first test after near =
-    let holds = and_from (nat_le from first) (nat_le first (from + 200000)) (le-leb from first after) (le-leb first (from + 200000) near) in
-    absurd (cc)
+near-false from first test after near = grind (arith, and_from, le-leb)

@@ -1,16 +1,16 @@
 -- A certificate whose loop is good goes on for ever as it does in its listed cycles.
-use Rattle.std.proofs.Common.{◌≡◌, ℕ, zero, suc, ◌+◌, ◌-◌, ◌*◌, ◌%◌, ◌<◌, ◌≤◌, Bool, true, false, not, ◌&&◌, ◌||◌, nat_lt, List, All, length, get_or, refl, sym, ap, ◌∙◌, ⊎_elim, arith}
+use Rattle.std.proofs.Common.{◌≡◌, ℕ, zero, suc, ◌+◌, ◌-◌, ◌*◌, ◌%◌, ◌<◌, ◌≤◌, not, ◌&&◌, ◌||◌, nat_lt, List, All, length, get_or, refl, sym, ap, ◌∙◌, ⊎_elim, arith}
 use Rattle.std.proofs.Math.Nat.{add-mul-mod_self_right, mod-eq_of_lt}
 use Rattle.std.proofs.lemmas.Bool.{cases_lt, cond-true, cond-false}
 use Rattle.std.proofs.lemmas.Bool.Decides.{nat_tests}
 use Rattle.requirement_table.specs.declared.entries.Placed.{Placed}
 use Rattle.requirement_table.specs.Flags.{IsGoodCycle}
 use Rattle.bit_sets.specs.Sets.{has_bit, most_slots}
-use Rattle.requirement_table.specs.Table.{IsWellPlaced, is_last_in, releases_in, worst_in}
+use Rattle.requirement_table.specs.Table.{IsWellPlaced, releases_in, worst_in}
 use Rattle.requirement_table.proofs.Shared.{GoesRound, SameAgain, same-again}
 use Rattle.bit_sets.proofs.Shared.{sum_where-same, sum_where-costs}
 use Rattle.plan_check.specs.Certificate.{CertificateView, IsCertificate, flags_of, length_of, place_of}
-use Rattle.plan_check.specs.PlanKept.{NoSlot, differ, is_bad, is_held, is_open}
+use Rattle.plan_check.specs.PlanKept.{NoSlot, is_bad, is_held, is_open}
 use Rattle.plan_check.specs.Breaches.{IsGoodAt, is_flagged, is_waiting, width_at}
 use Rattle.plan_check.proofs.Rounds.{rounds-of}
 use Rattle.plan_check.proofs.Held.{before-suc}
@@ -19,28 +19,13 @@ use Rattle.plan_check.proofs.Held.{before-suc}
 
 module _ (certificate : CertificateView) (is : IsCertificate certificate.from certificate.first certificate.masks) where
   place-before : (c : ℕ) → c < certificate.first → place_of certificate c ≡ c - certificate.from
-  place-before c before =
-      let test : nat_lt c certificate.first ≡ true = grind (arith, nat_tests) in
-      cond-true (nat_lt c certificate.first) (c - certificate.from) (certificate.first - certificate.from + (c - certificate.first) % length_of certificate) test
+  place-before c before = grind (arith, nat_lt, nat_tests, cond-true)
 
   place-after : (c : ℕ) → certificate.first ≤ c → place_of certificate c ≡ certificate.first - certificate.from + (c - certificate.first) % length_of certificate
-  place-after c after =
-      let test : nat_lt c certificate.first ≡ false = grind (arith, nat_tests) in
-      cond-false (nat_lt c certificate.first) (c - certificate.from) (certificate.first - certificate.from + (c - certificate.first) % length_of certificate) test
+  place-after c after = grind (arith, nat_lt, nat_tests, cond-false)
 
   place-listed : (n : ℕ) → n < length certificate.masks → place_of certificate (certificate.from + n) ≡ n
-  place-listed n listed =
-      let after = is.after in
-      let within = is.within in
-      ⊎_elim
-      (λ (early : certificate.from + n < certificate.first). let place = place-before (certificate.from + n) early in omega arith)
-      (λ (late : certificate.first ≤ certificate.from + n).
-      let rest = certificate.from + n - certificate.first in
-      let small : rest < length_of certificate = omega arith in
-      let same : rest % length_of certificate ≡ rest = mod-eq_of_lt small in
-      let place = place-after (certificate.from + n) late in
-      omega arith)
-      (cases_lt (certificate.from + n) certificate.first)
+  place-listed n listed = grind (arith, place-before, mod-eq_of_lt, place-after, cases_lt)
 
   -- in a listed cycle the mask is the listed one
   pub flags-listed : (n slot : ℕ) → n < length certificate.masks
@@ -53,42 +38,16 @@ module _ (certificate : CertificateView) (is : IsCertificate certificate.from ce
   unfolding flags_of
   flags-again c slot after =
       let d = length_of certificate in
-      let before = certificate.first - certificate.from in
       let rest = c - certificate.first in
       let moved : c + d - certificate.first ≡ rest + 1 * d = omega arith in
-      ap (λ place. has_bit (get_or certificate.masks place 0) slot)
-      (place-after (c + d) (omega arith)
-      ∙ ap (λ k. before + k % d) moved
-      ∙ ap (λ k. before + k) (add-mul-mod_self_right rest 1 d)
-      ∙ sym (place-after c after))
+      grind (arith, place-after, add-mul-mod_self_right)
 
 -- A good loop
-
-same-sides : (one other : Bool) → differ one other ≡ false → other ≡ one
-same-sides true true is = refl
-same-sides true false is = absurd (cc)
-same-sides false true is = absurd (cc)
-same-sides false false is = refl
-
-good-holding : (flagged waiting : Bool) → (flagged && not waiting) ≡ false → flagged ≡ true → waiting ≡ true
-good-holding true true is sent = refl
-good-holding true false is sent = absurd (cc)
-good-holding false waiting is sent = absurd (cc)
-
-good-in_time : (waiting last flagged : Bool) → (waiting && last && not flagged) ≡ false → waiting ≡ true → last ≡ true → flagged ≡ true
-good-in_time true true true is holds due = refl
-good-in_time true true false is holds due = absurd (cc)
-good-in_time true false flagged is holds due = absurd (cc)
-good-in_time false last flagged is holds due = absurd (cc)
 
 -- a good cycle of a certificate is one of a kept table
 pub good_cycle-of : (placed : List Placed) (window : ℕ) (certificate : CertificateView) (n : ℕ) → IsGoodAt placed window certificate n
     → IsGoodCycle placed (flags_of certificate) certificate.from (has_bit certificate.pending) n
-good_cycle-of placed window certificate n good = record {
-  holding = λ slot known flagged. good-holding (is_flagged certificate n slot) (is_waiting placed certificate n slot) (good.released slot known) flagged;
-  in_time = λ slot known waiting last.
-      good-in_time (is_waiting placed certificate n slot) (is_last_in placed (certificate.from + n) slot) (is_flagged certificate n slot) (good.in_time slot known) waiting last;
-}
+good_cycle-of placed window certificate n good = grind arith
 
 module _ (placed : List Placed) (window : ℕ) (certificate : CertificateView) (is : IsCertificate certificate.from certificate.first certificate.masks)
     (well : IsWellPlaced placed) (rounds : NoSlot (is_bad placed certificate)) (closed : NoSlot (is_open placed certificate)) where
@@ -97,12 +56,10 @@ module _ (placed : List Placed) (window : ℕ) (certificate : CertificateView) (
 
   again-at : (n slot : ℕ) → certificate.first - certificate.from ≤ n → SameAgain placed (length_of certificate) (certificate.from + n) slot
   again-at n slot late =
-      let after = is.after in
       same-again placed certificate.first (length_of certificate) (certificate.from + n) slot well all-round (omega arith)
 
   flagged-again : (n slot : ℕ) → certificate.first - certificate.from ≤ n → is_flagged certificate (n + length_of certificate) slot ≡ is_flagged certificate n slot
   flagged-again n slot late =
-      let after = is.after in
       let at : certificate.from + (n + length_of certificate) ≡ certificate.from + n + length_of certificate = omega arith in
       ap (λ c. flags_of certificate c slot) at ∙ flags-again certificate is (certificate.from + n) slot (omega arith)
 
@@ -117,8 +74,7 @@ module _ (placed : List Placed) (window : ℕ) (certificate : CertificateView) (
   held-on zero n slot at known =
       let before = certificate.first - certificate.from in
       let same : n ≡ before = omega arith in
-      rw same
-      (same-sides (is_held placed certificate before slot) (is_held placed certificate (before + length_of certificate) slot) (closed slot known))
+      grind arith
   held-on (suc j) n slot at known =
       let m = certificate.first - certificate.from + j in
       let d = length_of certificate in
@@ -154,19 +110,7 @@ module _ (placed : List Placed) (window : ℕ) (certificate : CertificateView) (
   good-again n late good =
       let d = length_of certificate in
       let at : certificate.from + (n + d) ≡ certificate.from + n + d = omega arith in
-      record {
-        released = λ slot known.
-            ap (λ b. b && not (is_waiting placed certificate (n + d) slot)) (flagged-again n slot late)
-            ∙ ap (λ b. is_flagged certificate n slot && not b) (waiting-again n slot late known)
-            ∙ good.released slot known;
-        fits = rw (width-again n late) good.fits;
-        in_time = λ slot known.
-            ap (λ b. b && is_last_in placed (certificate.from + (n + d)) slot && not (is_flagged certificate (n + d) slot)) (waiting-again n slot late known)
-            ∙ ap (λ b. is_waiting placed certificate n slot && b && not (is_flagged certificate (n + d) slot))
-            (ap (λ x. is_last_in placed x slot) at ∙ (again-at n slot late).last)
-            ∙ ap (λ b. is_waiting placed certificate n slot && is_last_in placed (certificate.from + n) slot && not b) (flagged-again n slot late)
-            ∙ good.in_time slot known;
-      }
+      grind (arith, flagged-again, waiting-again, width-again, again-at)
 
   good-below : ((n : ℕ) → n < length certificate.masks → IsGoodAt placed window certificate n)
       → (more n : ℕ) → n < length certificate.masks + more → IsGoodAt placed window certificate n
@@ -175,8 +119,6 @@ module _ (placed : List Placed) (window : ℕ) (certificate : CertificateView) (
       ⊎_elim
       (λ (listed : n < length certificate.masks). good n listed)
       (λ (behind : length certificate.masks ≤ n).
-      let after = is.after in
-      let within = is.within in
       let d = length_of certificate in
       let m = n - d in
       let at : n ≡ m + d = omega arith in

@@ -1,5 +1,5 @@
 -- Where the test of its loop finds nothing, all entries of a table go round.
-use Rattle.std.proofs.Common.{◌≡◌, ℕ, ◌+◌, ◌-◌, ◌%◌, ◌&&◌, Bool, true, false, not, nat_eq, nat_le, Option, Some, None, option_map, List, All, get_or, refl, sym, ap, ◌∙◌, arith}
+use Rattle.std.proofs.Common.{◌≡◌, ℕ, ◌+◌, ◌-◌, ◌%◌, ◌&&◌, Bool, true, false, not, nat_eq, nat_le, Option, option_map, List, All, get_or, refl, ap, arith}
 use Rattle.std.specs.List.{list_any}
 use Rattle.std.specs.Option.{option_map_or}
 use Rattle.std.proofs.lemmas.Bool.{and_from, and_parts, eq-eqb, eqb-true, leb-true}
@@ -14,22 +14,7 @@ use Rattle.plan_check.specs.PlanKept.{NoSlot, goes_round}
 goes_round-parts : (b d : ℕ) (p : Placed) (end : Option ℕ) → p.end ≡ end
     → option_map_or (λ free. nat_le free b) (option_map (λ e. e + p.entry.deadline - 1) end) (nat_le (p.origin + p.entry.phase) b && nat_eq (d % p.entry.period) 0) ≡ true
     → GoesRound b d p
-goes_round-parts b d p None is test =
-    let parts = and_parts (nat_le (p.origin + p.entry.phase) b) (nat_eq (d % p.entry.period) 0) test in
-    record {
-      begun = λ _. leb-true (p.origin + p.entry.phase) b parts.0;
-      divided = λ _. eqb-true (d % p.entry.period) 0 parts.1;
-      over = λ e some. let wrong : None ≡ Some e = sym is ∙ some in absurd (cc);
-    }
-goes_round-parts b d p (Some e) is test =
-    record {
-      begun = λ none. let wrong : Some e ≡ None = sym is ∙ none in absurd (cc);
-      divided = λ none. let wrong : Some e ≡ None = sym is ∙ none in absurd (cc);
-      over = λ f some.
-          let same : e ≡ f = same_Some e f (sym is ∙ some) in
-          let free = leb-true (e + p.entry.deadline - 1) b test in
-          omega arith;
-    }
+goes_round-parts b d p end is test = grind (arith, and_parts, leb-true, eqb-true, same_Some)
 
 pub GoesRound-from_test : (b d : ℕ) (p : Placed) → goes_round b d p ≡ true → GoesRound b d p
 GoesRound-from_test b d p test = goes_round-parts b d p p.end refl test

@@ -1,9 +1,9 @@
 -- Runs are read one by one.
-use Rattle.std.proofs.Common.{◌≡◌, ℕ, ◌+◌, ◌-◌, ◌^◌, ◌<◌, ◌≤◌, List, [], ◌∷◌, ◌++◌, Option, Some, None, length, map, replicate, refl, sym, ap, ◌∙◌, arith}
+use Rattle.std.proofs.Common.{◌≡◌, ℕ, ◌+◌, ◌-◌, ◌≤◌, List, [], ◌∷◌, ◌++◌, Option, Some, None, length, map, replicate, sym, ap, ◌∙◌, arith}
 use Rattle.std.proofs.lemmas.List.{append-nil, length-append, map-append}
 use Rattle.plan_check.specs.declared.plan_runs.MaskRun.{MaskRun}
 use Rattle.plan_check.specs.declared.plan_runs.Version.{Version}
-use Rattle.plan_check.specs.PlanText.{AreRead, IsBody, IsWrongRun, MayFollow, last_mask, run_line, spread, text_of, total}
+use Rattle.plan_check.specs.PlanText.{AreRead, MayFollow, last_mask, run_line, text_of, total}
 use Rattle.plan_check.proofs.PlanReads.{front-more}
 use Rattle.plan_check.proofs.Runs.{last-append, length-spread, listed-append, spread-append, total-append}
 
@@ -16,16 +16,6 @@ pub record IsReading (version : Version) (text rest masks : List ℕ) (last : Op
   pub at : number ≡ 6 + length runs
   pub few : number + left ≤ 6 + count
 
-pub reading-start : (version : Version) (text masks : List ℕ) (count : ℕ) → masks ≡ [] → IsReading version text text masks None count count 6
-reading-start version text masks count none = record {
-  runs = [];
-  read = record { read = refl; are = none; listed = tt };
-  last_is = refl;
-  sum = omega arith;
-  at = refl;
-  few = omega arith;
-}
-
 pub reading-next : (version : Version) (text rest masks after new : List ℕ) (last : Option ℕ) (count left number : ℕ) (run : MaskRun)
     → IsReading version text rest masks last count left number → MayFollow version last run → run.count ≤ left
     → rest ≡ run_line version run ++ 10 ∷ after → new ≡ masks ++ replicate run.count run.mask
@@ -36,18 +26,13 @@ reading-next version text rest masks after new last count left number run readin
     let totals = total-append runs (run ∷ []) in
     let size = length-append runs (run ∷ []) in
     let sum = reading.sum in
-    let some = may.some in
     let at = reading.at in
-    let bound = reading.few in
     record {
       runs = runs ++ run ∷ [];
       read = record {
         read = front-more text (map (run_line version) runs) rest (run_line version run) after reading.read.read line
             ∙ ap (λ l. text_of l ++ after) (sym (map-append (run_line version) runs (run ∷ [])));
-        are = made
-            ∙ ap (λ l. l ++ replicate run.count run.mask) reading.read.are
-            ∙ ap (λ l. spread runs ++ l) (sym (append-nil (replicate run.count run.mask)))
-            ∙ sym (spread-append runs (run ∷ []));
+        are = grind (arith, replicate, append-nil, spread-append);
         listed = listed-append version None runs (run ∷ []) reading.read.listed (front, tt);
       };
       last_is = sym (last-append None runs run);
@@ -56,31 +41,6 @@ reading-next version text rest masks after new last count left number run readin
       few = omega arith;
     }
 
-pub reading-wrong : (version : Version) (text rest masks : List ℕ) (last : Option ℕ) (count left number : ℕ) → count ≤ 400000
-    → IsReading version text rest masks last count left number → 0 < left
-    → ((run : MaskRun) (after : List ℕ) → MayFollow version last run → run.count ≤ left → run.count < 2 ^ 42 → rest ≡ run_line version run ++ 10 ∷ after → ⊥)
-    → IsWrongRun version text count number
-reading-wrong version text rest masks last count left number small reading some none =
-    let sum = reading.sum in
-    record {
-      runs = reading.runs;
-      masks = masks;
-      rest = rest;
-      read = reading.read;
-      more = omega arith;
-      none = λ run after may few line. none run after (rw (sym reading.last_is) at may) (omega arith) (omega arith) line;
-      at = reading.at;
-    }
-
-pub reading-end : (version : Version) (text rest masks : List ℕ) (last : Option ℕ) (count left number : ℕ)
-    → IsReading version text rest masks last count left number → left ≡ 0 → IsBody version text rest masks count number
-reading-end version text rest masks last count left number reading none =
-    let sum = reading.sum in
-    record { runs = reading.runs; read = reading.read; all = omega arith; at = reading.at }
-
 pub reading-count : (version : Version) (text rest masks : List ℕ) (last : Option ℕ) (count left number : ℕ)
     → IsReading version text rest masks last count left number → left ≡ 0 → length masks ≡ count
-reading-count version text rest masks last count left number reading none =
-    let sum = reading.sum in
-    let size = ap length reading.read.are ∙ length-spread reading.runs in
-    omega arith
+reading-count version text rest masks last count left number reading none = grind (arith, length-spread)

@@ -1,6 +1,6 @@
 -- Runs of masks: the runs of a list are what the version lists, and what it lists are the runs of a list.
-use Rattle.std.proofs.Common.{◌≡◌, ◌≢◌, ℕ, zero, suc, ◌+◌, ◌-◌, ◌^◌, ◌<◌, ◌≤◌, true, nat_eq, List, [], ◌∷◌, ◌++◌, All, Option, Some, None, drop, get_or, length, map, replicate, refl, sym, ap, ◌∙◌, subst, inl, inr, arith, append_assoc}
-use Rattle.std.proofs.lemmas.Bool.{cases_Bool, eqb-true, eq-eqb}
+use Rattle.std.proofs.Common.{◌≡◌, ◌≢◌, ℕ, zero, suc, ◌+◌, ◌-◌, ◌<◌, ◌≤◌, true, nat_eq, List, [], ◌∷◌, ◌++◌, All, Option, Some, None, drop, get_or, length, map, replicate, refl, sym, ap, ◌∙◌, subst, arith, append_assoc}
+use Rattle.std.proofs.lemmas.Bool.{eqb-true, eq-eqb}
 use Rattle.std.proofs.lemmas.List.{get_or_default, length-append, length-replicate}
 use Rattle.std.proofs.lemmas.List.Elements.{All-append, All-head, All-nil, All-replicate, All-tail}
 use Rattle.std.proofs.Math.Seq.{drop-cons, drop-length}
@@ -9,17 +9,8 @@ use Rattle.plan_check.specs.declared.plan_runs.Version.{Version}
 use Rattle.plan_check.specs.declared.plan_runs.Version.TheVariants.{One, Two}
 use Rattle.plan_check.specs.PlanText.{AreListed, joined, last_mask, listed_runs, mask_bound, runs_of, spread, total}
 
-pub mask-small : (version : Version) (m : ℕ) → m < mask_bound version → m < 2 ^ 96
-mask-small One m small = omega arith
-mask-small Two m small = small
-
-pub mask-wider : (version : Version) (m : ℕ) → m < mask_bound version → m < mask_bound Two
-mask-wider One m small = omega arith
-mask-wider Two m small = small
-
 pub few-masks : (version : Version) (m : ℕ) → m < 2 → m < mask_bound version
-few-masks One m small = omega arith
-few-masks Two m small = omega arith
+few-masks version m small = grind arith
 
 abbrev pub single : ℕ → MaskRun
 single mask = record { mask = mask; count = 1 }
@@ -48,9 +39,7 @@ pub length-spread : (runs : List MaskRun) → length (spread runs) ≡ total run
 length-spread [] = refl
 length-spread (run ∷ runs) =
     let rest = length-spread runs in
-    let here : length (replicate run.count run.mask) ≡ run.count = length-replicate run.count run.mask in
-    let whole = length-append (replicate run.count run.mask) (spread runs) in
-    omega arith
+    grind (arith, replicate, length-replicate, length-append)
 
 pub last-append : (last : Option ℕ) (runs : List MaskRun) (run : MaskRun) → last_mask last (runs ++ run ∷ []) ≡ Some run.mask
 last-append last [] run = refl
@@ -71,30 +60,10 @@ none-left version last (run ∷ runs) listed none = let some = listed.0.some in 
 -- What a list of masks has as its runs
 
 spread-joined : (mask : ℕ) (runs : List MaskRun) → spread (joined mask runs) ≡ mask ∷ spread runs
-spread-joined mask [] = refl
-spread-joined mask (run ∷ runs) =
-    elim (cases_Bool (nat_eq mask run.mask)) [
-      | inl same ↦
-          let is : mask ≡ run.mask = eqb-true mask run.mask same in
-          let next : run.count + 1 ≡ suc run.count = omega arith in
-          rw same (ap (λ n. replicate n mask ++ spread runs) next ∙ ap (λ m. mask ∷ (replicate run.count m ++ spread runs)) is)
-      | inr other ↦ rw other refl
-    ]
+spread-joined mask runs = grind (arith, eqb-true, replicate)
 
 listed-joined : (mask : ℕ) (runs : List MaskRun) → mask < mask_bound Two → AreListed Two None runs → AreListed Two None (joined mask runs)
-listed-joined mask [] small listed = (record { below = small; some = omega arith; follows = tt }, tt)
-listed-joined mask (run ∷ runs) small listed =
-    elim (cases_Bool (nat_eq mask run.mask)) [
-      | inl same ↦
-          let is : run.mask ≡ mask = sym (eqb-true mask run.mask same) in
-          rw same (record { below = small; some = omega arith; follows = tt }, subst (λ m. AreListed Two (Some m) runs) is listed.1)
-      | inr other ↦
-          let differs : mask ≢ run.mask = λ is. let test = eq-eqb mask run.mask is in absurd (cc) in
-          rw other (
-            record { below = small; some = omega arith; follows = tt },
-            (record { below = listed.0.below; some = listed.0.some; follows = differs }, listed.1),
-          )
-    ]
+listed-joined mask runs small listed = grind (arith, eqb-true, eq-eqb)
 
 pub spread-listed : (version : Version) (masks : List ℕ) → spread (listed_runs version masks) ≡ masks
 unfolding runs_of
@@ -117,8 +86,7 @@ listed-two (mask ∷ masks) small =
     listed-joined mask (runs_of masks) (All-head P mask masks small) (listed-two masks (All-tail P mask masks small))
 
 pub listed-are : (version : Version) (masks : List ℕ) → All (λ m. m < mask_bound version) masks → AreListed version None (listed_runs version masks)
-listed-are One masks small = listed-one None masks small
-listed-are Two masks small = listed-two masks small
+listed-are version masks small = grind (arith, listed-one, listed-two)
 
 -- the runs have as many cycles as there are masks
 pub total-listed : (version : Version) (masks : List ℕ) → total (listed_runs version masks) ≡ length masks
@@ -132,12 +100,7 @@ IsOther mask [] = Unit {0}
 IsOther mask (run ∷ runs) = mask ≢ run.mask
 
 joined-other : (mask : ℕ) (runs : List MaskRun) → IsOther mask runs → joined mask runs ≡ single mask ∷ runs
-joined-other mask [] other = refl
-joined-other mask (run ∷ runs) other =
-    elim (cases_Bool (nat_eq mask run.mask)) [
-      | inl same ↦ absurd (other (eqb-true mask run.mask same))
-      | inr differs ↦ rw differs refl
-    ]
+joined-other mask runs other = grind (arith, eqb-true)
 
 abbrev pub run_with : ℕ → ℕ → MaskRun
 run_with mask count = record { mask = mask; count = count }
@@ -159,12 +122,7 @@ runs-of_run (suc (suc count)) mask masks other some =
 -- The run that begins at a place of a list
 
 other-joined : (mask x : ℕ) (runs : List MaskRun) → mask ≢ x → IsOther mask (joined x runs)
-other-joined mask x [] other = other
-other-joined mask x (run ∷ runs) other =
-    elim (cases_Bool (nat_eq x run.mask)) [
-      | inl same ↦ rw same other
-      | inr differs ↦ rw differs other
-    ]
+other-joined mask x runs other = grind arith
 
 other-runs : (mask x : ℕ) (masks : List ℕ) → mask ≢ x → IsOther mask (runs_of (x ∷ masks))
 unfolding runs_of
@@ -175,9 +133,7 @@ unfolding runs_of
 runs-of_nothing mask = tt
 
 item-cons : (masks : List ℕ) (k x : ℕ) → k < length masks → x ≡ get_or masks k x → drop k masks ≡ x ∷ drop (k + 1) masks
-item-cons masks k x within is =
-    let next : suc k ≡ k + 1 = omega arith in
-    drop-cons masks k x within ∙ ap (λ h. h ∷ drop (suc k) masks) (sym is) ∙ ap (λ n. x ∷ drop n masks) next
+item-cons masks k x within is = grind (arith, drop-cons)
 
 replicate-more : (n m : ℕ) (rest : List ℕ) → replicate n m ++ m ∷ rest ≡ replicate (suc n) m ++ rest
 replicate-more zero m rest = refl
@@ -187,11 +143,7 @@ module _ (masks : List ℕ) (start place m first : ℕ) (some : start < place) (
     (within : start < length masks) (run : drop start masks ≡ replicate (place - start) m ++ drop place masks) where
   run-by : IsOther m (runs_of (drop place masks))
       → runs_of (drop start masks) ≡ run_with (get_or masks start 0) (place - start) ∷ runs_of (drop place masks)
-  run-by other =
-      let mask : m ≡ get_or masks start 0 = first_is ∙ at ∙ get_or_default masks start first 0 within in
-      ap runs_of run
-      ∙ runs-of_run (place - start) m (drop place masks) other (omega arith)
-      ∙ ap (λ x. run_with x (place - start) ∷ runs_of (drop place masks)) mask
+  run-by other = grind (arith, get_or_default, runs-of_run)
 
   pub run-ends : (x : ℕ) → place < length masks → x ≡ get_or masks place x → (x ≡ m → ⊥)
       → runs_of (drop start masks) ≡ run_with (get_or masks start 0) (place - start) ∷ runs_of (drop place masks)
@@ -208,22 +160,12 @@ module _ (masks : List ℕ) (start place m first : ℕ) (some : start < place) (
 
   pub run-longer : (x : ℕ) → place < length masks → x ≡ get_or masks place x → x ≡ m
       → drop start masks ≡ replicate (place + 1 - start) m ++ drop (place + 1) masks
-  run-longer x inside is same =
-      let count : suc (place - start) ≡ place + 1 - start = omega arith in
-      run
-      ∙ ap (λ l. replicate (place - start) m ++ l) (item-cons masks place x inside is)
-      ∙ ap (λ y. replicate (place - start) m ++ y ∷ drop (place + 1) masks) same
-      ∙ replicate-more (place - start) m (drop (place + 1) masks)
-      ∙ ap (λ n. replicate n m ++ drop (place + 1) masks) count
+  run-longer x inside is same = grind (arith, replicate, item-cons, replicate-more)
 
 -- the run of one mask
 pub run-start : (masks : List ℕ) (start m first : ℕ) → start < length masks → m ≡ first → first ≡ get_or masks start first
     → drop start masks ≡ replicate (start + 1 - start) m ++ drop (start + 1) masks
-run-start masks start m first within is at =
-    let one : 1 ≡ start + 1 - start = omega arith in
-    item-cons masks start first within at
-    ∙ ap (λ x. x ∷ drop (start + 1) masks) (sym is)
-    ∙ ap (λ n. replicate n m ++ drop (start + 1) masks) one
+run-start masks start m first within is at = grind (arith, item-cons, replicate)
 
 pub no-runs : (masks : List ℕ) (k : ℕ) → length masks ≤ k → k ≤ length masks → runs_of (drop k masks) ≡ []
 unfolding runs_of
@@ -231,17 +173,12 @@ no-runs masks k behind within =
     let all : k ≡ length masks = omega arith in
     ap (λ n. runs_of (drop n masks)) all ∙ ap runs_of (drop-length masks)
 
-other-listed : (mask : ℕ) (runs : List MaskRun) → AreListed Two (Some mask) runs → IsOther mask runs
-other-listed mask [] listed = tt
-other-listed mask (run ∷ runs) listed = listed.0.follows
-
 runs-two : (last : Option ℕ) (runs : List MaskRun) → AreListed Two last runs → runs_of (spread runs) ≡ runs
 unfolding runs_of
 runs-two last [] listed = refl
 runs-two last (run ∷ runs) listed =
     let rest = runs-two (Some run.mask) runs listed.1 in
-    let other : IsOther run.mask (runs_of (spread runs)) = subst (IsOther run.mask) (sym rest) (other-listed run.mask runs listed.1) in
-    runs-of_run run.count run.mask (spread runs) other listed.0.some ∙ ap (λ l. run ∷ l) rest
+    grind (arith, runs-of_run)
 
 runs-one : (last : Option ℕ) (runs : List MaskRun) → AreListed One last runs → listed_runs One (spread runs) ≡ runs
 runs-one last [] listed = refl
@@ -251,8 +188,7 @@ runs-one last (run ∷ runs) listed =
     ∙ ap (λ l. run ∷ l) (runs-one (Some run.mask) runs listed.1)
 
 pub listed-spread : (version : Version) (runs : List MaskRun) → AreListed version None runs → listed_runs version (spread runs) ≡ runs
-listed-spread One runs listed = runs-one None runs listed
-listed-spread Two runs listed = runs-two None runs listed
+listed-spread version runs listed = grind (arith, runs-one, runs-two)
 
 -- Runs of so many cycles that may follow
 
@@ -278,8 +214,7 @@ filled-two (Some zero) (suc n) = (record { below = omega arith; some = omega ari
 filled-two (Some (suc mask)) (suc n) = (record { below = omega arith; some = omega arith; follows = λ same. absurd (omega arith) }, tt)
 
 pub filling-listed : (version : Version) (last : Option ℕ) (n : ℕ) → AreListed version last (filling version last n)
-filling-listed One last n = filled-one last n
-filling-listed Two last n = filled-two last n
+filling-listed version last n = grind (arith, filled-one, filled-two)
 
 pub filling-total : (version : Version) (last : Option ℕ) (n : ℕ) → total (filling version last n) ≡ n
 filling-total One last zero = refl

@@ -1,5 +1,5 @@
 -- A certificate without a breach is taken.
-use Rattle.std.proofs.Common.{◌≡◌, ℕ, zero, suc, ◌+◌, ◌<◌, ◌≤◌, Bool, true, false, not, ◌&&◌, Option, Some, None, List, length, refl, ⊎_elim, arith}
+use Rattle.std.proofs.Common.{◌≡◌, ℕ, zero, suc, ◌+◌, ◌<◌, ◌≤◌, Bool, true, false, not, ◌&&◌, Option, Some, List, length, refl, ⊎_elim, arith}
 use Rattle.std.specs.Option.{option_map_or}
 use Rattle.std.proofs.lemmas.Bool.{and_parts, cases_lt}
 use Rattle.requirement_table.specs.declared.entries.Placed.{Placed}
@@ -16,9 +16,7 @@ use Rattle.plan_check.specs.PlanKept.{HasPending, IsTaken, NoSlot, is_bad, is_op
 use Rattle.plan_check.proofs.Taken.{taken-of}
 
 none-found : (test : ℕ → Bool) (found : Option ℕ) → IsLeastBelow most_slots test found → ((slot : ℕ) → IsLeastSlot test slot → ⊥) → NoSlot test
-none-found test None is none = λ slot known. is slot known
-none-found test (Some least) is none =
-    absurd (none least (record { known = is.0; passes = is.1; least = is.2 }))
+none-found test found is none = grind arith
 
 -- a test that has no least slot passes none
 no-slot : (test : ℕ → Bool) → ((slot : ℕ) → IsLeastSlot test slot → ⊥) → NoSlot test
@@ -30,8 +28,7 @@ record HasInstance (found : Option Instance) : Type 0 where
   is : found ≡ Some instance
 
 last-found : (found : Option Instance) (test : Instance → Bool) → option_map_or test found false ≡ true → HasInstance found
-last-found None test last = absurd (cc)
-last-found (Some instance) test last = record { instance = instance; is = refl }
+last-found found test last = grind arith
 
 module _ (placed : List Placed) (window : ℕ) (certificate : CertificateView) (none : (breach : Breach) → IsBreach placed window certificate breach → ⊥) where
   rounds-none : NoSlot (is_bad placed certificate)
@@ -63,16 +60,7 @@ module _ (placed : List Placed) (window : ℕ) (certificate : CertificateView) (
         let front = and_parts (is_waiting placed certificate n slot) (is_last_in placed c slot) parts.0 in
         let has = last-found (instance_in placed slot c) _ front.1 in
         none (Missed slot (release_of has.instance.placed has.instance.number) c)
-        (record {
-          number = n;
-          reached = reached;
-          released = released-here;
-          fits = fits-here;
-          slot_is = least;
-          instance = has.instance;
-          found = has.is;
-          release_is = refl;
-        })
+        (grind (arith, reached, released-here, fits-here))
 
     good-here : IsGoodAt placed window certificate n
     good-here = record {

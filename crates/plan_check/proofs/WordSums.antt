@@ -1,5 +1,5 @@
 -- Sums over the set bits of a word, lowest first, and over two words.
-use Rattle.std.proofs.Common.{◌≡◌, ◌≢◌, ℕ, zero, suc, ◌+◌, ◌-◌, ◌*◌, ◌/◌, ◌%◌, ◌^◌, ◌<◌, ◌≤◌, Bool, false, not, ◌&&◌, nat_eq, if◌then◌else◌, bit_and, refl, sym, ap, subst, ◌∙◌, ⊎_elim, arith}
+use Rattle.std.proofs.Common.{◌≡◌, ◌≢◌, ℕ, zero, suc, ◌+◌, ◌-◌, ◌*◌, ◌/◌, ◌%◌, ◌^◌, ◌<◌, ◌≤◌, Bool, false, not, ◌&&◌, nat_eq, bit_and, sym, ap, ◌∙◌, arith}
 use Rattle.std.specs.Int.{trailing_zeros, w64}
 use Rattle.std.proofs.Math.Bool.{and-false}
 use Rattle.std.proofs.lemmas.Bool.{both_ways, cases_lt, eq-eqb, ne_eqb}
@@ -16,9 +16,6 @@ pub record IsCounted (f : ℕ → ℕ) (word left sum : ℕ) : Type 0 where
   pub small : sum ≤ 255 * place
   pub sum_is : sum + sum_where 64 (has_bit left) f ≡ sum_where 64 (has_bit word) f
 
-pub counted-start : (f : ℕ → ℕ) (word : ℕ) → IsCounted f word word 0
-counted-start f word = record { place = 0; within = omega arith; clear = λ i wrong. absurd (omega arith); small = omega arith; sum_is = omega arith }
-
 module _ (f : ℕ → ℕ) (word left sum cost : ℕ) (some : 0 < left) (small : left < 2 ^ 64) (counted : IsCounted f word left sum) where
   within-word : trailing_zeros w64 left < 64
   within-word = (bit_at-trailing_zeros w64 left some small).0
@@ -27,46 +24,26 @@ module _ (f : ℕ → ℕ) (word left sum cost : ℕ) (some : 0 < left) (small :
   lowest = lowest-64 left some small
 
   not-counted : counted.place ≤ trailing_zeros w64 left
-  not-counted =
-      ⊎_elim
-      (λ (before : trailing_zeros w64 left < counted.place).
-      absurd (both_ways (has_bit left (trailing_zeros w64 left)) (counted.clear (trailing_zeros w64 left) before) lowest.has))
-      (λ (after : counted.place ≤ trailing_zeros w64 left). after)
-      (cases_lt (trailing_zeros w64 left) counted.place)
-
-  pub counted-room : sum ≤ 255 * 63
-  counted-room = let upto = not-counted in let within = within-word in let few = counted.small in omega arith
+  not-counted = grind (arith, both_ways, lowest, cases_lt)
 
   without : (i : ℕ) → has_bit (bit_and left (left - 1)) i ≡ (not (nat_eq (trailing_zeros w64 left) i) && has_bit left i)
   without = has_bit-without_lowest left (trailing_zeros w64 left) lowest
 
   cleared : has_bit (bit_and left (left - 1)) (trailing_zeros w64 left) ≡ false
-  cleared =
-      without (trailing_zeros w64 left)
-      ∙ ap (λ b. not b && has_bit left (trailing_zeros w64 left)) (eq-eqb (trailing_zeros w64 left) (trailing_zeros w64 left) refl)
+  cleared = grind (arith, without, eq-eqb)
 
   others : (i : ℕ) → i ≢ trailing_zeros w64 left → has_bit (bit_and left (left - 1)) i ≡ has_bit left i
   others i other = without i ∙ ap (λ b. not b && has_bit left i) (ne_eqb (trailing_zeros w64 left) i (λ same. other (sym same)))
 
   clear-next : (i : ℕ) → i < trailing_zeros w64 left + 1 → has_bit (bit_and left (left - 1)) i ≡ false
-  clear-next i upto =
-      ⊎_elim
-      (λ (under : i < trailing_zeros w64 left).
-      without i ∙ ap (λ b. not (nat_eq (trailing_zeros w64 left) i) && b) (lowest.none i under)
-      ∙ and-false (not (nat_eq (trailing_zeros w64 left) i)))
-      (λ (from : trailing_zeros w64 left ≤ i).
-      let here : trailing_zeros w64 left ≡ i = omega arith in
-      subst (λ j. has_bit (bit_and left (left - 1)) j ≡ false) here cleared)
-      (cases_lt i (trailing_zeros w64 left))
+  clear-next i upto = grind (arith, without, lowest, and-false, bit_and, cleared, cases_lt)
 
   pub counted-next : cost ≤ 255 → cost ≡ f (trailing_zeros w64 left) → IsCounted f word (bit_and left (left - 1)) (sum + cost)
   counted-next cheap is =
       let t = trailing_zeros w64 left in
       let within = within-word in
       let upto = not-counted in
-      let few = counted.small in
       let sums = sum_where-without 64 t (has_bit left) (has_bit (bit_and left (left - 1))) f within lowest.has cleared (λ s below other. others s other) in
-      let before = counted.sum_is in
       record {
         place = t + 1;
         within = omega arith;
@@ -76,37 +53,24 @@ module _ (f : ℕ → ℕ) (word left sum cost : ℕ) (some : 0 < left) (small :
       }
 
 pub counted-end : (f : ℕ → ℕ) (word left sum : ℕ) → left ≡ 0 → IsCounted f word left sum → sum ≡ sum_where 64 (has_bit word) f
-counted-end f word left sum none counted =
-    let nothing : sum_where 64 (has_bit left) f ≡ 0 = rw none (sum_where-none 64 (has_bit 0) f (λ i below. has_bit-none i)) in
-    let all = counted.sum_is in
-    omega arith
-
-pub counted-bound : (f : ℕ → ℕ) (word left sum : ℕ) → IsCounted f word left sum → sum ≤ 255 * 64
-counted-bound f word left sum counted = let within = counted.within in let few = counted.small in omega arith
+counted-end f word left sum none counted = grind (arith, sum_where-none, has_bit-none)
 
 -- Two words
 
 sum_where-parts : (n m : ℕ) (p : ℕ → Bool) (f : ℕ → ℕ) → sum_where (n + m) p f ≡ sum_where n p f + sum_where m (λ s. p (n + s)) (λ s. f (n + s))
-sum_where-parts n zero p f =
-    let same : n + 0 ≡ n = omega arith in
-    let none = sum_where-zero (λ s. p (n + s)) (λ s. f (n + s)) in
-    ap (λ k. sum_where k p f) same ∙ (omega arith)
+sum_where-parts n zero p f = grind (arith, sum_where-zero)
 sum_where-parts n (suc m) p f =
     let next : n + suc m ≡ suc (n + m) = omega arith in
     let before = sum_where-parts n m p f in
-    let one = sum_where-next (n + m) p f in
-    let other = sum_where-next m (λ s. p (n + s)) (λ s. f (n + s)) in
-    ap (λ k. sum_where k p f) next ∙ (omega arith)
+    grind (arith, sum_where-next)
 
 -- no member above a place adds nothing
 sum_where-few : (n m : ℕ) (p : ℕ → Bool) (f : ℕ → ℕ) → ((s : ℕ) → n ≤ s → p s ≡ false) → sum_where (n + m) p f ≡ sum_where n p f
 sum_where-few n zero p f none = let same : n + 0 ≡ n = omega arith in ap (λ k. sum_where k p f) same
 sum_where-few n (suc m) p f none =
     let next : n + suc m ≡ suc (n + m) = omega arith in
-    let nothing : (if p (n + m) then f (n + m) else 0) ≡ 0 = rw (none (n + m) (omega arith)) refl in
     let before = sum_where-few n m p f none in
-    let sum = sum_where-next (n + m) p f in
-    ap (λ k. sum_where k p f) next ∙ (omega arith)
+    grind (arith, sum_where-next)
 
 pub sum_where-words : (bits : ℕ) (f : ℕ → ℕ) → bits < 2 ^ most_slots
     → sum_where most_slots (has_bit bits) f
@@ -115,13 +79,10 @@ sum_where-words bits f small =
     let low = bits % 2 ^ 64 in
     let high = bits / 2 ^ 64 in
     let parts : high * 2 ^ 64 + low ≡ bits = div-add-mod' bits (2 ^ 64) in
-    let fits : low < 2 ^ 64 = omega arith in
     let front : (s : ℕ) → s < 64 → has_bit bits s ≡ has_bit low s
     = λ s below. ap (λ n. has_bit n s) (sym parts) ∙ has_bit-low high low s below in
     let behind : (s : ℕ) → s < 64 → has_bit bits (64 + s) ≡ has_bit high s
-    = λ s below.
-    let place : 64 + s - 64 ≡ s = omega arith in
-    ap (λ n. has_bit n (64 + s)) (sym parts) ∙ has_bit-high high low (64 + s) fits (omega arith) ∙ ap (has_bit high) place in
+    = grind (arith, has_bit-high) in
     let all = sum_where-few 96 32 (has_bit bits) f (λ s above. has_bit-above bits 96 s small above) in
     let two = sum_where-parts 64 64 (has_bit bits) f in
     let one = sum_where-same 64 (has_bit bits) (has_bit low) f front in

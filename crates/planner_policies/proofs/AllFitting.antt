@@ -1,5 +1,6 @@
 -- All that is pending in a cycle, where it fits the window together.
 use Rattle.std.proofs.Common.{◌≡◌, ℕ, ◌≢◌, ◌+◌, ◌-◌, ◌<◌, ◌≤◌, ◌||◌, ◌^◌, Bool, true, false, None, Contains, IsPermutation, nat_eq, nat_le, if◌then◌else◌, List, [], ◌∷◌, ◌++◌, All, get_or, take, length, refl, sym, ap, ◌∙◌, ⊎_elim, arith}
+use Rattle.std.proofs.lemmas.Grind.{common_steps}
 use Rattle.std.specs.List.{list_any}
 use Rattle.std.proofs.lemmas.Bool.{both_ways, cases_Bool, le-leb}
 use Rattle.std.proofs.lemmas.List.Elements.{All-cons, All-nil, All-weaker}
@@ -51,8 +52,6 @@ none-left Skip window (x ∷ xs) fits =
 split-all : (plan : Planning) (c : ℕ) (before : ℕ → Bool) (mask width : ℕ) (all : IsAllFitting plan c before mask width)
     → IsSplit plan c before all.line []
 split-all plan c before mask width all =
-    let cost = all.cost in
-    let fits = all.fits in
     let small : cost_of all.line ≤ plan.window = omega arith in
     rw (all-taken plan.fill plan.window all.line small, none-left plan.fill plan.window all.line small) at (split-of plan c before all.line plan.fill refl all.whole)
 
@@ -85,19 +84,11 @@ put-behind x xs due goes rest = record {
 put-before : (line : List Due) (due : Due) → All (λ other. is_due_by other due ≡ false) line → IsPut due line
 put-before line due behind = record {
   after = due ∷ line;
-  put = record {
-    front = [];
-    back = line;
-    was = refl;
-    is = refl;
-    before = All-nil (λ other. is_due_by other due ≡ true);
-    behind = behind;
-  };
+  put = grind arith;
 }
 
 not-by : (b : Bool) → (b ≡ true → ⊥) → b ≡ false
-not-by true wrong = absurd (wrong refl)
-not-by false wrong = refl
+not-by b wrong = grind arith
 
 pub put-somewhere : (line : List Due) (due : Due) → IsLined line → IsPut due line
 put-somewhere [] due lined = put-before [] due (All-nil (λ other. is_due_by other due ≡ false))
@@ -115,12 +106,7 @@ put-somewhere (x ∷ xs) due lined =
 
 -- what one instance more adds, wherever it is put
 pub cost-between : (front : List Due) (due : Due) (back : List Due) → cost_of (front ++ (due ∷ back)) ≡ due.cost + cost_of (front ++ back)
-cost-between [] due back = sum_by-cons (λ (d : Due). d.cost) due back
-cost-between (x ∷ front) due back =
-    let rest = cost-between front due back in
-    let one = sum_by-cons (λ (d : Due). d.cost) x (front ++ (due ∷ back)) in
-    let other = sum_by-cons (λ (d : Due). d.cost) x (front ++ back) in
-    omega arith
+cost-between front due back = grind (arith, common_steps, sum_by-cons)
 
 pub any-between : (p : Due → Bool) (front : List Due) (due : Due) (back : List Due)
     → list_any p (front ++ (due ∷ back)) ≡ (p due || list_any p (front ++ back))
@@ -129,9 +115,7 @@ any-between p (x ∷ front) due back =
     ap (λ b. p x || b) (any-between p front due back) ∙ turned (p x) (p due) (list_any p (front ++ back))
   where
     turned : (a b r : Bool) → (a || (b || r)) ≡ (b || (a || r))
-    turned true true r = refl
-    turned true false r = refl
-    turned false b r = refl
+    turned a b r = grind arith
 
 -- what is pending of some rows fits the window
 pub record IsGathered (plan : Planning) (c : ℕ) (before : ℕ → Bool) (rows : List Placed) (mask width : ℕ) : Type 0 where
@@ -156,11 +140,7 @@ gathered-more plan c before rows k d mask width with' due within so_far more sma
     record {
       line = place.after;
       found = line_of-more plan c before rows k d line place.after due within so_far.found more put;
-      slots = λ slot. made slot
-          ∙ ap (λ b. b || has_bit mask slot) (turned-eq slot due.slot)
-          ∙ ap (λ b. nat_eq due.slot slot || b) (so_far.slots slot ∙ ap (list_any (has_slot slot)) put.was)
-          ∙ sym (any-between (has_slot slot) put.front due put.back)
-          ∙ ap (list_any (has_slot slot)) (sym put.is);
+      slots = grind (arith, turned-eq, has_slot, any-between);
       cost = omega arith;
       fits = omega arith;
     }

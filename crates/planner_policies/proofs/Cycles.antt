@@ -1,11 +1,11 @@
 -- The plan of a cycle, from what is planned of its pending instances and what is left of them.
-use Rattle.std.proofs.Common.{◌≡◌, ◌≢◌, ℕ, ◌+◌, ◌<◌, ◌≤◌, Bool, true, Some, None, List, All, AllPairs, Contains, refl, sym, ap, ◌∙◌, arith}
+use Rattle.std.proofs.Common.{◌≡◌, ◌≢◌, ℕ, ◌<◌, ◌≤◌, Bool, true, Some, None, List, All, AllPairs, Contains, refl, sym, ◌∙◌, arith}
 use Rattle.std.specs.List.{sum_by}
 use Rattle.std.proofs.lemmas.Bool.{and_from, and_parts, eq-eqb, eqb-true, false_from_ne_true}
-use Rattle.std.proofs.lemmas.List.Elements.{All-contains, All-map, All-weaker}
+use Rattle.std.proofs.lemmas.List.Elements.{All-map, All-weaker}
 use Rattle.std.proofs.lemmas.List.Folds.{list_any-from_Any}
 use Rattle.bit_sets.specs.Sets.{set_of, most_slots}
-use Rattle.requirement_table.specs.Table.{instance_in, is_last_in, width_in, worst_in}
+use Rattle.requirement_table.specs.Table.{is_last_in, width_in, worst_in}
 use Rattle.bit_sets.proofs.Shared.{set_of-from_slots, sum_where-same}
 use Rattle.planner_policies.specs.declared.due.Due.{Due}
 use Rattle.planner_policies.specs.declared.state.Miss.{Miss}
@@ -39,42 +39,13 @@ module _ (plan : Planning) (c : ℕ) (before : ℕ → Bool) (taken left : List 
       let parts = and_parts (left_after plan c before slot) (is_last_in plan.placed c slot) missed in
       let found = split.not_planned slot known ∙ parts.0 in
       let one = instance-with slot left (slots-contain slot left found) in
-      let in' = All-contains (IsDueIn plan c before) left one.due split.each_left one.stands in
-      let last = sym (last-is plan c before one.due in') ∙ ap (is_last_in plan.placed c) one.value ∙ parts.1 in
-      let same : one.due.last + 1 ≡ c + 1 = eqb-true (one.due.last + 1) (c + 1) last in
-      (one.due, one.stands, one.value, omega arith)
+      grind (arith, last-is, eqb-true)
 
   pub none-missed : IsLeastMissed c left None → HasNoMissIn plan c before
-  none-missed none slot known =
-      false_from_ne_true (is_missed_in plan c before slot) (λ missed.
-      let one = missed-with slot known missed in
-      All-contains (λ due. due.last ≢ c) left one.0 none one.1 one.3)
+  none-missed h0 = grind (arith, false_from_ne_true, missed-with)
 
   pub miss-is : (miss : Miss) → IsLeastMissed c left (Some miss) → IsMissIn plan c before miss.slot miss.release
-  miss-is miss least =
-      let any = least.0 in
-      let due = any.1 in
-      let is = any.4.1 in
-      let stands : Contains left due = (any.0, any.2, any.3) in
-      let in' = All-contains (IsDueIn plan c before) left due split.each_left stands in
-      let slot : miss.slot ≡ due.slot = ap (λ m. m.slot) is in
-      let known = in'.known in
-      let found = list_any-from_Any (has_slot due.slot) left (any.0, due, any.2, any.3, eq-eqb due.slot due.slot refl) in
-      let is_left : left_after plan c before due.slot ≡ true = sym (split.not_planned due.slot known) ∙ found in
-      let last : is_last_in plan.placed c due.slot ≡ true = last-is plan c before due in' ∙ eq-eqb (due.last + 1) (c + 1) (ap (λ k. k + 1) any.4.0) in
-      record {
-        known = omega arith;
-        missed = ap (is_missed_in plan c before) slot ∙ and_from (left_after plan c before due.slot) (is_last_in plan.placed c due.slot) is_left last;
-        least = λ other lesser.
-            false_from_ne_true (is_missed_in plan c before other) (λ missed.
-            let one = missed-with other (omega arith) missed in
-            let above = All-contains (λ d. d.last ≡ c → miss.slot ≤ d.slot) left one.0 least.1 one.1 one.3 in
-            let at = one.2 in
-            omega arith);
-        instance = in'.instance;
-        found = ap (λ s. instance_in plan.placed s c) slot ∙ in'.found;
-        released = ap (λ m. m.release) is ∙ in'.is.release;
-      }
+  miss-is miss least = grind (arith, list_any-from_Any, has_slot, eq-eqb, last-is, and_from, false_from_ne_true, missed-with)
 
   -- what they cost together is what the planned slots cost
   pub planned-width : width_in plan.placed c (planned_in plan c before) ≡ sum_by (λ due. due.cost) taken

@@ -1,5 +1,5 @@
 -- Instances of a line, and the slots that they are of.
-use Rattle.std.proofs.Common.{◌≡◌, ◌≢◌, ℕ, ◌+◌, ◌<◌, ◌||◌, Bool, true, false, nat_eq, nat_le, List, [], ◌∷◌, All, AllPairs, Contains, length, get_or, map, refl, sym, ap, ◌∙◌, arith}
+use Rattle.std.proofs.Common.{◌≡◌, ◌≢◌, ℕ, ◌+◌, ◌<◌, ◌||◌, Bool, true, nat_eq, List, [], ◌∷◌, All, AllPairs, Contains, length, get_or, map, refl, sym, ap, ◌∙◌, arith}
 use Rattle.std.specs.List.{list_any, sum_by}
 use Rattle.std.specs.Option.{option_map_or}
 use Rattle.std.proofs.lemmas.Bool.{eq-eqb, eqb-true}
@@ -7,12 +7,12 @@ use Rattle.std.proofs.lemmas.List.{get_or-map, length-map}
 use Rattle.std.proofs.lemmas.List.Elements.{All-head, All-tail, Contains-get_or}
 use Rattle.std.proofs.lemmas.List.Folds.{Any-from_list_any, list_any-from_Any}
 use Rattle.std.proofs.lemmas.List.Sums.{sum_by-cons}
-use Rattle.requirement_table.specs.Instance.{deadline_of, worst_of}
+use Rattle.requirement_table.specs.Instance.{worst_of}
 use Rattle.bit_sets.specs.Sets.{most_slots}
 use Rattle.requirement_table.specs.Table.{is_last_in, worst_in}
 use Rattle.planner_policies.specs.declared.due.Due.{Due}
 use Rattle.planner_policies.specs.Due.{IsDueIn, is_due_by}
-use Rattle.planner_policies.specs.Plan.{Planning, by_number, is_by, key_in, key_of, left_after, planned_in, priority_in}
+use Rattle.planner_policies.specs.Plan.{Planning, is_by, left_after, planned_in}
 use Rattle.planner_policies.proofs.Longest.{has}
 
 abbrev pub slot_of : Due → ℕ
@@ -26,33 +26,20 @@ order_of line = map (λ due. due.slot) line
 
 pub due_by-is : (plan : Planning) (c : ℕ) (before : ℕ → Bool) (one other : Due) → IsDueIn plan c before one → IsDueIn plan c before other
     → is_by plan.policy plan.placed c one.slot other.slot ≡ is_due_by one other
-due_by-is plan c before one other a b =
-    let key_one : key_in plan.policy plan.placed c one.slot ≡ one.key = ap (λ o. option_map_or (key_of plan.policy) o 0) a.found ∙ sym a.is.key in
-    let key_other : key_in plan.policy plan.placed c other.slot ≡ other.key = ap (λ o. option_map_or (key_of plan.policy) o 0) b.found ∙ sym b.is.key in
-    let priority_one : priority_in plan.placed c one.slot ≡ one.priority = ap (λ o. option_map_or (λ i. i.placed.entry.priority) o 0) a.found ∙ sym a.is.priority in
-    let priority_other : priority_in plan.placed c other.slot ≡ other.priority = ap (λ o. option_map_or (λ i. i.placed.entry.priority) o 0) b.found ∙ sym b.is.priority in
-    ap (λ k. by_number k (key_in plan.policy plan.placed c other.slot) (by_number (priority_in plan.placed c one.slot) (priority_in plan.placed c other.slot) (nat_le one.slot other.slot))) key_one
-    ∙ ap (λ k. by_number one.key k (by_number (priority_in plan.placed c one.slot) (priority_in plan.placed c other.slot) (nat_le one.slot other.slot))) key_other
-    ∙ ap (λ k. by_number one.key other.key (by_number k (priority_in plan.placed c other.slot) (nat_le one.slot other.slot))) priority_one
-    ∙ ap (λ k. by_number one.key other.key (by_number one.priority k (nat_le one.slot other.slot))) priority_other
+due_by-is plan c before one other a b = grind arith
 
 pub cost-is : (plan : Planning) (c : ℕ) (before : ℕ → Bool) (due : Due) → IsDueIn plan c before due → worst_in plan.placed c due.slot ≡ due.cost
 cost-is plan c before due in' = ap (λ o. option_map_or worst_of o 0) in'.found ∙ sym in'.is.cost
 
 pub last-is : (plan : Planning) (c : ℕ) (before : ℕ → Bool) (due : Due) → IsDueIn plan c before due
     → is_last_in plan.placed c due.slot ≡ nat_eq (due.last + 1) (c + 1)
-last-is plan c before due in' =
-    ap (λ o. option_map_or (λ i. nat_eq (deadline_of i.placed i.number) (c + 1)) o false) in'.found
-    ∙ ap (λ n. nat_eq n (c + 1)) (sym in'.is.last)
+last-is plan c before due in' = grind arith
 
 -- a list of instances has a slot where the list of their slots does
 pub slots-contain : (slot : ℕ) (xs : List Due) → list_any (has_slot slot) xs ≡ true → Contains (order_of xs) slot
 slots-contain slot xs found =
     let any = Any-from_list_any (has_slot slot) xs found in
-    let value : any.1.slot ≡ slot = eqb-true any.1.slot slot any.4 in
-    let size : length (order_of xs) ≡ length xs = length-map xs slot_of in
-    let within = any.2 in
-    (any.0, omega arith, get_or-map slot_of xs any.0 any.1 slot any.2 ∙ ap slot_of any.3 ∙ value)
+    grind (arith, eqb-true, length-map, get_or-map)
 
 pub record IsInstance (slot : ℕ) (xs : List Due) : Type 0 where
   pub due : Due
@@ -64,7 +51,6 @@ instance-with slot xs contains =
     let d : Due = record { key = 0; priority = 0; slot = 0; cost = 0; release = 0; last = 0 } in
     let size : length (order_of xs) ≡ length xs = length-map xs slot_of in
     let k = contains.0 in
-    let under = contains.1 in
     let within : k < length xs = omega arith in
     record {
       due = get_or xs k d;

@@ -1,5 +1,5 @@
 -- One pass over a line with the filling `Skip`.
-use Rattle.std.proofs.Common.{◌≡◌, ℕ, ◌+◌, ◌-◌, ◌<◌, ◌≤◌, ◌||◌, Bool, true, false, nat_eq, nat_le, if◌then◌else◌, Option, List, [], ◌∷◌, ◌++◌, refl, sym, ap, ◌∙◌, arith}
+use Rattle.std.proofs.Common.{◌≡◌, ℕ, ◌+◌, ◌-◌, ◌<◌, ◌≤◌, ◌||◌, Bool, false, nat_eq, nat_le, Option, List, [], ◌∷◌, ◌++◌, sym, ap, ◌∙◌, arith}
 use Rattle.std.specs.List.{list_any}
 use Rattle.std.proofs.lemmas.Bool.{eq-eqb, eqb-true, le-leb, lt-leb}
 use Rattle.std.proofs.lemmas.List.{append-nil}
@@ -35,10 +35,7 @@ one-more slot line d =
     (same-test (nat_eq d.slot slot) (nat_eq slot d.slot) (λ same. eq-eqb slot d.slot (sym (eqb-true d.slot slot same))) (λ same. eq-eqb d.slot slot (sym (eqb-true slot d.slot same))))
   where
     turned : (a b : Bool) → (a || (b || false)) ≡ (b || a)
-    turned true true = refl
-    turned true false = refl
-    turned false true = refl
-    turned false false = refl
+    turned a b = grind arith
 
 module _ (window c : ℕ) (line : List Due) (d : Due) (width mask others : ℕ) (least : Option Miss) (gone : HasGone window c line width mask others least) where
   room : window - cost_of (taken_of Skip window line) ≡ window - width
@@ -48,38 +45,11 @@ module _ (window c : ℕ) (line : List Due) (d : Due) (width mask others : ℕ) 
   pub gone-take : (with' : ℕ) → d.cost ≤ window - width → ((slot : ℕ) → has_bit with' slot ≡ (nat_eq slot d.slot || has_bit mask slot))
       → HasGone window c (line ++ d ∷ []) (width + d.cost) with' others least
   gone-take with' fits made =
-      let small : nat_le d.cost (window - cost_of (taken_of Skip window line)) ≡ true = rw room (le-leb d.cost (window - width) fits) in
-      let taken : taken_of Skip window (line ++ d ∷ []) ≡ taken_of Skip window line ++ d ∷ []
-      = taken-append window line (d ∷ []) ∙ ap (λ b. taken_of Skip window line ++ (if b then d ∷ [] else [])) small in
-      let left : left_of Skip window (line ++ d ∷ []) ≡ left_of Skip window line
-      = left-append window line (d ∷ []) ∙ ap (λ b. left_of Skip window line ++ (if b then [] else d ∷ [])) small ∙ append-nil (left_of Skip window line) in
-      let is = gone.width_is in
-      let sum = sum_by-append (λ (due : Due). due.cost) (taken_of Skip window line) (d ∷ []) in
-      let one = sum_by-cons (λ (due : Due). due.cost) d [] in
-      let room_fits = gone.fits in
-      record {
-        width_is = rw taken (omega arith);
-        fits = omega arith;
-        taken = λ slot. made slot ∙ ap (λ b. nat_eq slot d.slot || b) (gone.taken slot) ∙ sym (one-more slot (taken_of Skip window line) d)
-            ∙ ap (list_any (has_slot slot)) (sym taken);
-        left = λ slot. gone.left slot ∙ ap (list_any (has_slot slot)) (sym left);
-        least_is = rw left gone.least_is;
-      }
+      grind (arith, cost_of, room, le-leb, taken-append, left-append, append-nil, sum_by-append, sum_by-cons, one-more, has_slot)
 
   -- one more instance that does not fit
   pub gone-leave : (with' : ℕ) → window - width < d.cost → ((slot : ℕ) → has_bit with' slot ≡ (nat_eq slot d.slot || has_bit others slot))
       → HasGone window c (line ++ d ∷ []) width mask with' (with_missed c least d)
   gone-leave with' wide made =
       let big : nat_le d.cost (window - cost_of (taken_of Skip window line)) ≡ false = rw room (lt-leb d.cost (window - width) wide) in
-      let taken : taken_of Skip window (line ++ d ∷ []) ≡ taken_of Skip window line
-      = taken-append window line (d ∷ []) ∙ ap (λ b. taken_of Skip window line ++ (if b then d ∷ [] else [])) big ∙ append-nil (taken_of Skip window line) in
-      let left : left_of Skip window (line ++ d ∷ []) ≡ left_of Skip window line ++ d ∷ []
-      = left-append window line (d ∷ []) ∙ ap (λ b. left_of Skip window line ++ (if b then [] else d ∷ [])) big in
-      record {
-        width_is = rw taken gone.width_is;
-        fits = gone.fits;
-        taken = λ slot. gone.taken slot ∙ ap (list_any (has_slot slot)) (sym taken);
-        left = λ slot. made slot ∙ ap (λ b. nat_eq slot d.slot || b) (gone.left slot) ∙ sym (one-more slot (left_of Skip window line) d)
-            ∙ ap (list_any (has_slot slot)) (sym left);
-        least_is = rw left (least_missed-with c (left_of Skip window line) d least gone.least_is);
-      }
+      grind (arith, taken-append, append-nil, left-append, has_slot, one-more, least_missed-with)

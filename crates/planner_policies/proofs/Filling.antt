@@ -1,6 +1,7 @@
 -- What a filling takes of the pending slots. Proofs elsewhere go by the lemmas of this file.
 use Rattle.std.proofs.Common.{◌≡◌, ◌≢◌, ℕ, zero, suc, ◌+◌, ◌<◌, ◌≤◌, ◌&&◌, ◌||◌, ◌⊎◌, inl, inr, not, Bool, true, false, nat_eq, nat_le, List, refl, sym, ap, ◌∙◌, ⊎_elim, arith}
-use Rattle.std.proofs.lemmas.Bool.{and_from, and_parts, both_ways, cases_Bool, cases_eq, eq-eqb, eqb-true, false_from_ne_true, le-leb, leb-true, not-true, not_from_false, or_cases, or_left, or_right}
+use Rattle.std.proofs.lemmas.Grind.{common_steps}
+use Rattle.std.proofs.lemmas.Bool.{and_from, and_parts, both_ways, cases_eq, eq-eqb, eqb-true, false_from_ne_true, le-leb, leb-true, not-true, not_from_false, or_cases, or_left, or_right}
 use Rattle.requirement_table.specs.declared.entries.Placed.{Placed}
 use Rattle.bit_sets.specs.Sets.{most_slots, sum_where}
 use Rattle.requirement_table.specs.Table.{is_last_in, releases_in, width_in, worst_in}
@@ -13,9 +14,7 @@ use Rattle.planner_policies.proofs.KeyOrder.{is_by-antisym, is_by-refl, is_by-to
 
 -- tests that hold together are one test
 pub same-test : (a b : Bool) → (a ≡ true → b ≡ true) → (b ≡ true → a ≡ true) → a ≡ b
-same-test true b there back = sym (there refl)
-same-test false true there back = back refl
-same-test false false there back = refl
+same-test a b there back = grind arith
 
 -- Key order, strictly
 
@@ -31,34 +30,15 @@ module _ (policy : Policy) (placed : List Placed) (c : ℕ) where
 
   pub before-trans : (one other third : ℕ) → goes_before policy placed c one other ≡ true → goes_before policy placed c other third ≡ true
       → goes_before policy placed c one third ≡ true
-  before-trans one other third first second =
-      not_from_false (is_by policy placed c third one)
-      (false_from_ne_true (is_by policy placed c third one) (λ back.
-      both_ways (is_by policy placed c third other) (before-behind other third second)
-      (is_by-trans policy placed c third one other back (before-by one other first))))
+  before-trans one other third first second = grind (arith, not_from_false, false_from_ne_true, both_ways, before-behind, is_by-trans, before-by)
 
   -- of two slots, one before the other in key order, the first goes before the second
   pub before-from : (one other : ℕ) → is_by policy placed c one other ≡ true → one ≢ other → goes_before policy placed c one other ≡ true
-  before-from one other by apart =
-      not_from_false (is_by policy placed c other one)
-      (false_from_ne_true (is_by policy placed c other one) (λ back. apart (is_by-antisym policy placed c one other by back)))
+  before-from one other by apart = grind (arith, not_from_false, false_from_ne_true, is_by-antisym)
 
   -- a slot is by another one where it is the same one or goes before it
   by-or-same : (slot other : ℕ) → is_by policy placed c other slot ≡ (nat_eq slot other || goes_before policy placed c other slot)
-  by-or-same slot other =
-      same-test (is_by policy placed c other slot) (nat_eq slot other || goes_before policy placed c other slot)
-      (λ by.
-      ⊎_elim
-      (λ (same : slot ≡ other). or_left (nat_eq slot other) (goes_before policy placed c other slot) (eq-eqb slot other same))
-      (λ (apart : slot ≢ other).
-      or_right (nat_eq slot other) (goes_before policy placed c other slot) (before-from other slot by (λ same. apart (sym same))))
-      (cases_eq slot other))
-      (λ some.
-      ⊎_elim
-      (λ (same : nat_eq slot other ≡ true).
-      ap (λ s. is_by policy placed c s slot) (sym (eqb-true slot other same)) ∙ is_by-refl policy placed c slot)
-      (λ (before : goes_before policy placed c other slot ≡ true). before-by other slot before)
-      (or_cases (nat_eq slot other) (goes_before policy placed c other slot) some))
+  by-or-same slot other = grind (arith, same-test, or_left, eq-eqb, or_right, before-from, eqb-true, is_by-refl, before-by, or_cases)
 
   -- what the slots up to one of them cost is what it costs and what those before it cost
   pub width-up-to : (p : ℕ → Bool) (slot : ℕ) → slot < most_slots → p slot ≡ true
@@ -72,14 +52,10 @@ module _ (policy : Policy) (placed : List Placed) (c : ℕ) where
       (ap (λ b. p slot && b) (before-itself slot) ∙ and-false (p slot))
     where
       turned : (same p before : Bool) → (same ≡ true → p ≡ true) → (p && (same || before)) ≡ (same || (p && before))
-      turned true true before all = refl
-      turned true false before all = absurd (let wrong = all refl in cc)
-      turned false true before all = refl
-      turned false false before all = refl
+      turned same p before all = grind arith
 
       and-false : (b : Bool) → (b && false) ≡ false
-      and-false true = refl
-      and-false false = refl
+      and-false b = grind arith
 
   -- how many slots go before a slot
   pub rank : ℕ → ℕ
@@ -97,8 +73,7 @@ module _ (policy : Policy) (placed : List Placed) (c : ℕ) where
   rank-below slot known =
       let less = sum_where-less most_slots slot (λ s. goes_before policy placed c s slot) (λ _. true) (λ _. 1) known (before-itself slot) refl
       (λ s below first. refl) in
-      let count = sum_where-count most_slots in
-      omega arith
+      grind (arith, sum_where-count)
 
 -- The filling that takes each slot that still fits
 
@@ -117,11 +92,7 @@ module _ (policy : Policy) (window : ℕ) (placed : List Placed) (c : ℕ) (pend
       (worst_in placed c) (λ other known. both (p other) (q other) (goes_before policy placed c other slot) (same other known)))
     where
       both : (a b before : Bool) → (before ≡ true → a ≡ b) → (a && before) ≡ (b && before)
-      both a b true same = ap (λ x. x && true) (same refl)
-      both true true false same = refl
-      both true false false same = refl
-      both false true false same = refl
-      both false false false same = refl
+      both a b before same = grind arith
 
   -- there is one test that holds of the slots that fit with it
   only-one : (p q : ℕ → Bool) → ((s : ℕ) → s < most_slots → p s ≡ fits_with p s) → ((s : ℕ) → s < most_slots → q s ≡ fits_with q s)
@@ -149,11 +120,7 @@ module _ (policy : Policy) (window : ℕ) (placed : List Placed) (c : ℕ) (pend
 
   fitting-pending : (n slot : ℕ) → is_fitting n policy window placed c pending slot ≡ true → pending slot ≡ true
   unfolding is_fitting
-  fitting-pending zero slot fits = absurd (cc)
-  fitting-pending (suc n) slot fits =
-      (and_parts (pending slot)
-      (nat_le (worst_in placed c slot + width_in placed c (λ other. is_fitting n policy window placed c pending other && goes_before policy placed c other slot)) window)
-      fits).0
+  fitting-pending n slot fits = grind (arith, and_parts)
 
   taken-prefix : (slot : ℕ) → is_taken policy Prefix window placed c pending slot ≡ is_in_front policy window placed c pending slot
   unfolding is_taken
@@ -164,8 +131,7 @@ module _ (policy : Policy) (window : ℕ) (placed : List Placed) (c : ℕ) (pend
   taken-skip slot = refl
 
   pub in-front : (fill : Fill) (slot : ℕ) → fill ≡ Prefix → is_taken policy fill window placed c pending slot ≡ is_in_front policy window placed c pending slot
-  in-front Prefix slot is = taken-prefix slot
-  in-front Skip slot is = absurd (cc)
+  in-front fill slot is = grind (arith, taken-prefix)
 
   skip-fits : (slot : ℕ) → slot < most_slots → is_taken policy Skip window placed c pending slot ≡ fits_with (is_taken policy Skip window placed c pending) slot
   skip-fits slot known =
@@ -178,8 +144,7 @@ module _ (policy : Policy) (window : ℕ) (placed : List Placed) (c : ℕ) (pend
   -- the filling `Skip` takes each slot that fits with what it takes, and no other test holds of such slots
   pub taken-each : (fill : Fill) (slot : ℕ) → fill ≡ Skip → slot < most_slots
       → is_taken policy fill window placed c pending slot ≡ fits_with (is_taken policy fill window placed c pending) slot
-  taken-each Prefix slot is known = absurd (cc)
-  taken-each Skip slot is known = skip-fits slot known
+  taken-each fill slot is known = grind (arith, skip-fits)
 
   pub taken-one : (fill : Fill) (test : ℕ → Bool) (slot : ℕ) → fill ≡ Skip → ((s : ℕ) → s < most_slots → test s ≡ fits_with test s) → slot < most_slots
       → test slot ≡ is_taken policy fill window placed c pending slot
@@ -191,8 +156,7 @@ module _ (policy : Policy) (window : ℕ) (placed : List Placed) (c : ℕ) (pend
 
   -- what is taken is pending
   pub taken-pending : (fill : Fill) (slot : ℕ) → is_taken policy fill window placed c pending slot ≡ true → pending slot ≡ true
-  taken-pending Prefix slot taken =
-      (and_parts (pending slot) (nat_le (width_in placed c (λ other. pending other && is_by policy placed c other slot)) window) (sym (taken-prefix slot) ∙ taken)).0
+  taken-pending Prefix slot taken = grind (arith, and_parts, taken-prefix)
   taken-pending Skip slot taken = fitting-pending most_slots slot (sym (taken-skip slot) ∙ taken)
 
   -- those before it in key order are pending too
@@ -202,36 +166,22 @@ module _ (policy : Policy) (window : ℕ) (placed : List Placed) (c : ℕ) (pend
   taken-less fill slot =
       sum_where-le most_slots (λ other. is_taken policy fill window placed c pending other && goes_before policy placed c other slot)
       (λ other. pending other && goes_before policy placed c other slot) (worst_in placed c)
-      (λ other below both.
-      let parts = and_parts (is_taken policy fill window placed c pending other) (goes_before policy placed c other slot) both in
-      and_from (pending other) (goes_before policy placed c other slot) (taken-pending fill other parts.0) parts.1)
+      (λ other below both. grind (arith, and_parts, both, and_from, taken-pending))
 
   front-fits : (slot : ℕ) → slot < most_slots → is_taken policy Prefix window placed c pending slot ≡ true
       → worst_in placed c slot + width_in placed c (λ other. pending other && goes_before policy placed c other slot) ≤ window
-  front-fits slot known taken =
-      let width = width_in placed c (λ other. pending other && is_by policy placed c other slot) in
-      let parts = and_parts (pending slot) (nat_le width window) (sym (taken-prefix slot) ∙ taken) in
-      rw (← width-up-to policy placed c pending slot known parts.0) (leb-true width window parts.1)
+  front-fits slot known taken = grind (arith, and_parts, taken-prefix, width-up-to, leb-true)
 
   -- what is taken fits with what is taken before it
   pub taken-room : (fill : Fill) (slot : ℕ) → slot < most_slots → is_taken policy fill window placed c pending slot ≡ true
       → worst_in placed c slot + width_in placed c (λ other. is_taken policy fill window placed c pending other && goes_before policy placed c other slot) ≤ window
-  taken-room Prefix slot known taken =
-      let less = taken-less Prefix slot in
-      let fits = front-fits slot known taken in
-      omega arith
-  taken-room Skip slot known taken =
-      let width = worst_in placed c slot + width_in placed c (λ other. is_taken policy Skip window placed c pending other && goes_before policy placed c other slot) in
-      leb-true width window (and_parts (pending slot) (nat_le width window) (sym (skip-fits slot known) ∙ taken)).1
+  taken-room fill slot known taken = grind (arith, taken-less, front-fits, leb-true, and_parts, skip-fits)
 
   -- a pending slot that fits with all pending ones before it is taken
   pub taken-enough : (fill : Fill) (slot : ℕ) → slot < most_slots → pending slot ≡ true
       → worst_in placed c slot + width_in placed c (λ other. pending other && goes_before policy placed c other slot) ≤ window
       → is_taken policy fill window placed c pending slot ≡ true
-  taken-enough Prefix slot known here fits =
-      let width = width_in placed c (λ other. pending other && is_by policy placed c other slot) in
-      let all : width ≤ window = rw (width-up-to policy placed c pending slot known here) fits in
-      taken-prefix slot ∙ and_from (pending slot) (nat_le width window) here (le-leb width window all)
+  taken-enough Prefix slot known here fits = grind (arith, width-up-to, taken-prefix, and_from, le-leb)
   taken-enough Skip slot known here fits =
       let width = worst_in placed c slot + width_in placed c (λ other. is_taken policy Skip window placed c pending other && goes_before policy placed c other slot) in
       let less = taken-less Skip slot in
@@ -244,8 +194,7 @@ module _ (policy : Policy) (window : ℕ) (placed : List Placed) (c : ℕ) (pend
       let some : width_in placed c (λ other. pending other && is_by policy placed c other slot) ≤ width_in placed c pending
       = sum_where-le most_slots (λ other. pending other && is_by policy placed c other slot) pending (worst_in placed c)
       (λ other below both. (and_parts (pending other) (is_by policy placed c other slot) both).0) in
-      let split = width-up-to policy placed c pending slot known here in
-      taken-enough fill slot known here (omega arith)
+      grind (arith, width-up-to, taken-enough)
 
   -- the filling `Skip` takes all that `Prefix` takes
   pub taken-more : (fill : Fill) (slot : ℕ) → slot < most_slots → is_taken policy Prefix window placed c pending slot ≡ true
@@ -262,30 +211,8 @@ record IsLastOf (policy : Policy) (placed : List Placed) (c : ℕ) (p : ℕ → 
 module _ (policy : Policy) (placed : List Placed) (c : ℕ) (p : ℕ → Bool) where
   one-more : (n : ℕ) (last : IsLastOf policy placed c p n) (here : Bool) → p n ≡ here
       → (order : Bool) → is_by policy placed c n last.slot ≡ order → IsLastOf policy placed c p (suc n)
-  one-more n last false none order by =
-      let within = last.within in
-      record {
-        slot = last.slot;
-        within = omega arith;
-        is = last.is;
-        all = λ other below passes.
-            ⊎_elim
-            (λ (same : other ≡ n). absurd (both_ways (p n) none (ap p (sym same) ∙ passes)))
-            (λ (differs : other ≢ n). last.all other (omega arith) passes)
-            (cases_eq other n);
-      }
-  one-more n last true here true by =
-      let within = last.within in
-      record {
-        slot = last.slot;
-        within = omega arith;
-        is = last.is;
-        all = λ other below passes.
-            ⊎_elim
-            (λ (same : other ≡ n). ap (λ s. is_by policy placed c s last.slot) same ∙ by)
-            (λ (differs : other ≢ n). last.all other (omega arith) passes)
-            (cases_eq other n);
-      }
+  one-more n last false none order by = grind (arith, both_ways)
+  one-more n last true here true by = grind arith
   one-more n last true here false by =
       let behind = is_by-total policy placed c n last.slot by in
       record {
@@ -300,31 +227,13 @@ module _ (policy : Policy) (placed : List Placed) (c : ℕ) (p : ℕ → Bool) w
       }
 
   first-one : (n : ℕ) → ((s : ℕ) → s < n → p s ≡ false) → p n ≡ true → IsLastOf policy placed c p (suc n)
-  first-one n none here = record {
-    slot = n;
-    within = omega arith;
-    is = here;
-    all = λ other below passes.
-        ⊎_elim
-        (λ (same : other ≡ n). ap (λ s. is_by policy placed c s n) same ∙ is_by-refl policy placed c n)
-        (λ (differs : other ≢ n). absurd (both_ways (p other) (none other (omega arith)) passes))
-        (cases_eq other n);
-  }
+  first-one n none here = grind (arith, is_by-refl, both_ways)
 
   last-of : (n : ℕ) → ((s : ℕ) → s < n → p s ≡ false) ⊎ IsLastOf policy placed c p n
   last-of zero = inl (λ s below. absurd (omega arith))
   last-of (suc n) =
       ⊎_elim
-      (λ (none : (s : ℕ) → s < n → p s ≡ false).
-      ⊎_elim
-      (λ (here : p n ≡ true). inr (first-one n none here))
-      (λ (not_here : p n ≡ false).
-      inl (λ s below.
-      ⊎_elim
-      (λ (same : s ≡ n). ap p same ∙ not_here)
-      (λ (differs : s ≢ n). none s (omega arith))
-      (cases_eq s n)))
-      (cases_Bool (p n)))
+      (λ (none : (s : ℕ) → s < n → p s ≡ false). grind (arith, first-one))
       (λ (last : IsLastOf policy placed c p n). inr (one-more n last (p n) refl (is_by policy placed c n last.slot) refl))
       (last-of n)
 
@@ -334,14 +243,12 @@ pub taken-fits : (policy : Policy) (fill : Fill) (window : ℕ) (placed : List P
 taken-fits policy fill window placed c pending =
     let taken : ℕ → Bool = is_taken policy fill window placed c pending in
     ⊎_elim
-    (λ (none : (s : ℕ) → s < most_slots → is_taken policy fill window placed c pending s ≡ false).
-    rw (sum_where-none most_slots taken (worst_in placed c) none) (omega arith))
+    (λ (none : (s : ℕ) → s < most_slots → is_taken policy fill window placed c pending s ≡ false). grind (arith, sum_where-none))
     (λ (last : IsLastOf policy placed c (is_taken policy fill window placed c pending) most_slots).
     let room = taken-room policy window placed c pending fill last.slot last.within last.is in
     let split = width-up-to policy placed c taken last.slot last.within last.is in
     let less : width_in placed c taken ≤ width_in placed c (λ other. taken other && is_by policy placed c other last.slot)
-    = sum_where-le most_slots taken (λ other. taken other && is_by policy placed c other last.slot) (worst_in placed c)
-    (λ s below here. and_from (taken s) (is_by policy placed c s last.slot) here (last.all s below here)) in
+    = grind (arith, common_steps, sum_where-le, and_from) in
     omega arith)
     (last-of policy placed c (is_taken policy fill window placed c pending) most_slots)
 
@@ -365,20 +272,11 @@ module _ (policy : Policy) (window : ℕ) (placed placed' : List Placed) (c c' :
       sum_where-same most_slots p' p (worst_in placed' c') same ∙ sum_where-costs most_slots p (worst_in placed' c') (worst_in placed c) (λ s below _. alike.cost s below)
 
   front-alike : (slot : ℕ) → slot < most_slots → is_in_front policy window placed' c' pending' slot ≡ is_in_front policy window placed c pending slot
-  front-alike slot known =
-      ap (λ b. b && nat_le (width_in placed' c' (λ other. pending' other && is_by policy placed' c' other slot)) window) (agree slot known)
-      ∙ ap (λ w. pending slot && nat_le w window)
-      (width-alike (λ other. pending' other && is_by policy placed' c' other slot) (λ other. pending other && is_by policy placed c other slot)
-      (λ other below. ap (λ b. b && is_by policy placed' c' other slot) (agree other below) ∙ ap (λ b. pending other && b) (alike.ordered other slot below known)))
+  front-alike slot known = grind (arith, width-alike)
 
   fits-alike : (p' p : ℕ → Bool) (slot : ℕ) → Agree p' p → slot < most_slots
       → fits_with policy window placed' c' pending' p' slot ≡ fits_with policy window placed c pending p slot
-  fits-alike p' p slot same known =
-      ap (λ b. b && nat_le (worst_in placed' c' slot + width_in placed' c' (λ other. p' other && goes_before policy placed' c' other slot)) window) (agree slot known)
-      ∙ ap (λ w. pending slot && nat_le (w + width_in placed' c' (λ other. p' other && goes_before policy placed' c' other slot)) window) (alike.cost slot known)
-      ∙ ap (λ w. pending slot && nat_le (worst_in placed c slot + w) window)
-      (width-alike (λ other. p' other && goes_before policy placed' c' other slot) (λ other. p other && goes_before policy placed c other slot)
-      (λ other below. ap (λ b. b && goes_before policy placed' c' other slot) (same other below) ∙ ap (λ b. p other && not b) (alike.ordered slot other known below)))
+  fits-alike p' p slot same known = grind (arith, width-alike)
 
   fitting-none : (slot : ℕ) → is_fitting zero policy window placed' c' pending' slot ≡ is_fitting zero policy window placed c pending slot
   unfolding is_fitting
@@ -394,7 +292,5 @@ module _ (policy : Policy) (window : ℕ) (placed placed' : List Placed) (c c' :
 
   pub taken-alike : (fill : Fill) (slot : ℕ) → slot < most_slots
       → is_taken policy fill window placed' c' pending' slot ≡ is_taken policy fill window placed c pending slot
-  taken-alike Prefix slot known =
-      taken-prefix policy window placed' c' pending' slot ∙ front-alike slot known ∙ sym (taken-prefix policy window placed c pending slot)
-  taken-alike Skip slot known =
-      taken-skip policy window placed' c' pending' slot ∙ fitting-alike most_slots slot known ∙ sym (taken-skip policy window placed c pending slot)
+  taken-alike Prefix slot known = grind (arith, taken-prefix, front-alike)
+  taken-alike Skip slot known = grind (arith, taken-skip, fitting-alike)

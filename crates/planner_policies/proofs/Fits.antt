@@ -1,15 +1,14 @@
 -- What is planned fits the window, is pending, and has something to send; states without a miss stay valid.
-use Rattle.std.proofs.Common.{◌≡◌, ◌≢◌, ℕ, zero, suc, ◌+◌, ◌-◌, ◌<◌, ◌≤◌, ◌&&◌, ◌||◌, not, Bool, true, false, nat_eq, nat_lt, Option, Some, None, IsSome, List, refl, sym, ap, ◌∙◌, ⊎_elim, arith}
-use Rattle.std.specs.Option.{option_map_or}
-use Rattle.std.proofs.lemmas.Bool.{and_from, and_parts, both_ways, eq-eqb, ltb-true, or_cases}
+use Rattle.std.proofs.Common.{◌≡◌, ℕ, zero, suc, ◌+◌, ◌-◌, ◌<◌, ◌≤◌, ◌&&◌, ◌||◌, not, Bool, true, nat_lt, Option, Some, IsSome, List, refl, sym, ap, ◌∙◌, ⊎_elim, arith}
+use Rattle.std.proofs.lemmas.Bool.{and_from, and_parts, both_ways, eq-eqb, or_cases}
 use Rattle.requirement_table.specs.declared.entries.Placed.{Placed}
-use Rattle.requirement_table.specs.Instance.{Instance, MaySend, deadline_of}
+use Rattle.requirement_table.specs.Instance.{Instance}
 use Rattle.bit_sets.specs.Sets.{has_bit, set_of, most_slots}
-use Rattle.requirement_table.specs.Table.{IsWellPlaced, held_before, instance_in, is_last_in, releases_in, width_in}
-use Rattle.requirement_table.specs.Flags.{IsGoodCycle, waits}
+use Rattle.requirement_table.specs.Table.{IsWellPlaced, held_before, instance_in, releases_in, width_in}
+use Rattle.requirement_table.specs.Flags.{IsGoodCycle}
 use Rattle.requirement_table.proofs.Shared.{found-in, found-of}
 use Rattle.bit_sets.proofs.Shared.{has_bit-set_of}
-use Rattle.planner_policies.specs.Plan.{HasNoMiss, HasNoMissIn, IsValid, Planning, flags_of, is_missed_in, left_after, pending_at, pending_before, pending_in, planned_at, planned_in}
+use Rattle.planner_policies.specs.Plan.{HasNoMiss, HasNoMissIn, IsValid, Planning, flags_of, left_after, pending_at, pending_before, pending_in, planned_at, planned_in}
 use Rattle.planner_policies.proofs.Going.{before-first, state-left, state-missed}
 use Rattle.planner_policies.proofs.Filling.{taken-fits, taken-pending}
 use Rattle.planner_policies.proofs.Rows.{releaser-of}
@@ -19,8 +18,7 @@ pub planned-fits : (plan : Planning) (c : ℕ) (before : ℕ → Bool) → width
 planned-fits plan c before = taken-fits plan.policy plan.fill plan.window plan.placed c (pending_in plan.placed c before)
 
 pub planned-pending : (plan : Planning) (c : ℕ) (before : ℕ → Bool) (slot : ℕ) → planned_in plan c before slot ≡ true → pending_in plan.placed c before slot ≡ true
-planned-pending plan c before slot planned =
-    taken-pending plan.policy plan.window plan.placed c (pending_in plan.placed c before) plan.fill slot planned
+planned-pending plan c before slot planned = grind (arith, taken-pending)
 
 -- what is pending has an instance
 record HasInstance (placed : List Placed) (slot c : ℕ) : Type 0 where
@@ -41,8 +39,7 @@ pending-instance placed c pending slot well valid waiting =
     (or_cases (has_bit pending slot) (releases_in placed c slot) waiting)
 
 some-is : (o : Option Instance) (i : Instance) → o ≡ Some i → IsSome o
-some-is (Some x) i is = refl
-some-is None i is = absurd (cc)
+some-is o i is = grind arith
 
 pub planned-sendable : (plan : Planning) (c pending slot : ℕ) → IsWellPlaced plan.placed → IsValid plan.placed c pending
     → planned_in plan c (has_bit pending) slot ≡ true → IsSome (instance_in plan.placed slot c)
@@ -56,45 +53,23 @@ pub left-valid : (plan : Planning) (c pending : ℕ) → IsWellPlaced plan.place
 left-valid plan c pending well valid none slot in' =
     let both = and_parts (nat_lt slot most_slots) (left_after plan c (has_bit pending) slot)
     (sym (has_bit-set_of most_slots (left_after plan c (has_bit pending)) slot) ∙ in') in
-    let known = ltb-true slot most_slots both.0 in
     let waiting = (and_parts (pending_in plan.placed c (has_bit pending) slot) (not (planned_in plan c (has_bit pending) slot)) both.1).0 in
     let has = pending-instance plan.placed c pending slot well valid waiting in
     let i = has.instance in
     let found = found-in plan.placed slot c i well has.found in
-    let in_time = found.sends.in_time in
-    let released = found.sends.released in
-    let more : deadline_of i.placed i.number ≢ c + 1
-    = λ last.
-    let is : is_last_in plan.placed c slot ≡ true
-    = ap (λ o. option_map_or (λ x. nat_eq (deadline_of x.placed x.number) (c + 1)) o false) has.found
-    ∙ eq-eqb (deadline_of i.placed i.number) (c + 1) last in
-    both_ways (is_missed_in plan c (has_bit pending) slot) (none slot known)
-    (and_from (left_after plan c (has_bit pending) slot) (is_last_in plan.placed c slot) both.1 is) in
-    let sends : MaySend i.placed i.number (c + 1) = record { exists = found.sends.exists; released = omega arith; in_time = omega arith } in
-    record {
-      instance = i;
-      found = ap (λ s. instance_in plan.placed s (c + 1)) (sym found.of_slot) ∙ found-of plan.placed i.placed i.number (c + 1) well found.stands sends;
-      before = omega arith;
-    }
+    grind (arith, eq-eqb, both_ways, and_from, found-of)
 
 valid-first : (plan : Planning) (slot : ℕ) → has_bit (pending_at plan zero) slot ≡ true → has_bit plan.pending slot ≡ true
-valid-first plan slot in' =
-    sym (before-first plan slot)
-    ∙ (and_parts (nat_lt slot most_slots) (pending_before plan zero slot) (sym (has_bit-set_of most_slots (pending_before plan zero) slot) ∙ in')).1
+valid-first plan slot in' = grind (arith, before-first, and_parts, nat_lt, has_bit-set_of)
 
 pub valid-along : (plan : Planning) (n : ℕ) → IsWellPlaced plan.placed → IsValid plan.placed plan.from plan.pending → HasNoMiss plan n
     → IsValid plan.placed (plan.from + n) (pending_at plan n)
-valid-along plan zero well valid none = λ slot in'.
-    let at : plan.from + 0 ≡ plan.from = omega arith in
-    rw at (valid slot (valid-first plan slot in'))
+valid-along plan zero well valid none = grind (arith, valid-first)
 valid-along plan (suc n) well valid none =
     let before = valid-along plan n well valid (λ m slot below known. none m slot (omega arith) known) in
     let next = left-valid plan (plan.from + n) (pending_at plan n) well before
     (λ slot known. state-missed plan n slot known ∙ none n slot (omega arith) known) in
-    let left : IsValid plan.placed (plan.from + n + 1) (pending_at plan (n + 1)) = rw (state-left plan n) at next in
-    let cycle : plan.from + suc n ≡ plan.from + n + 1 = omega arith in
-    let number : suc n ≡ n + 1 = omega arith in
-    rw (cycle, number) left
+    grind (arith, state-left)
 
 -- the slots that are pending are those that hold an instance where the plan is followed
 pub held-is : (plan : Planning) (n slot : ℕ) → held_before plan.placed (flags_of plan) plan.from (has_bit plan.pending) n slot ≡ pending_before plan n slot
@@ -109,17 +84,4 @@ held-is plan (suc n) slot =
 pub good-cycle : (plan : Planning) (n m : ℕ) → HasNoMiss plan n → m < n → IsGoodCycle plan.placed (flags_of plan) plan.from (has_bit plan.pending) m
 good-cycle plan n m none within =
     let at : plan.from + m - plan.from ≡ m = omega arith in
-    let flag : (slot : ℕ) → flags_of plan (plan.from + m) slot ≡ planned_at plan m slot = λ slot. ap (λ k. planned_at plan k slot) at in
-    let waiting : (slot : ℕ) → waits plan.placed (flags_of plan) plan.from (has_bit plan.pending) m slot
-    ≡ pending_in plan.placed (plan.from + m) (pending_before plan m) slot
-    = λ slot. ap (λ b. b || releases_in plan.placed (plan.from + m) slot) (held-is plan m slot) in
-    record {
-      holding = λ slot known flagged. waiting slot ∙ planned-pending plan (plan.from + m) (pending_before plan m) slot (sym (flag slot) ∙ flagged);
-      in_time = λ slot known holds last.
-          flag slot ∙ planned-of (pending_in plan.placed (plan.from + m) (pending_before plan m) slot) (planned_at plan m slot)
-          (is_last_in plan.placed (plan.from + m) slot) (sym (waiting slot) ∙ holds) last (none m slot within known);
-    }
-  where
-    planned-of : (pending planned last : Bool) → pending ≡ true → last ≡ true → (pending && not planned) && last ≡ false → planned ≡ true
-    planned-of pending true last is at missed = refl
-    planned-of pending false last is at missed = absurd (let all : (pending && not false) && last ≡ true = rw (is, at) refl in cc)
+    grind (arith, held-is, planned-pending)

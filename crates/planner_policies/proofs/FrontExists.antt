@@ -1,5 +1,6 @@
 -- The pending slots can be put in key order, and there is a longest front of them that fits the window.
-use Rattle.std.proofs.Common.{◌≡◌, ◌≢◌, ℕ, zero, suc, ◌<◌, ◌≤◌, ◌↔◌, ◌⊎◌, inl, inr, Bool, true, false, nat_le, List, [], ◌∷◌, ◌++◌, All, AllPairs, Contains, length, get_or, take, refl, sym, ap, ◌∙◌, ⊎_elim, arith}
+use Rattle.std.proofs.Common.{◌≡◌, ◌≢◌, ℕ, zero, suc, ◌<◌, ◌≤◌, ◌↔◌, ◌⊎◌, Bool, true, false, nat_le, List, [], ◌∷◌, ◌++◌, All, AllPairs, Contains, length, get_or, take, refl, sym, ap, ◌∙◌, ⊎_elim, arith}
+use Rattle.std.proofs.lemmas.Grind.{common_steps}
 use Rattle.std.specs.List.{sum_by}
 use Rattle.std.proofs.lemmas.Bool.{both_ways, cases_Bool, cases_eq, cases_lt, le-leb, leb-true}
 use Rattle.std.proofs.lemmas.List.Elements.{All-cons, All-contains, All-nil, Contains-append_cases, Contains-append_left, Contains-append_right}
@@ -11,8 +12,7 @@ use Rattle.planner_policies.proofs.KeyOrder.{is_by-total, is_by-trans}
 use Rattle.planner_policies.proofs.Pairs.{all-join, all-parts, pairs-head, pairs-join, pairs-tail}
 
 cons-at : (x y : ℕ) (xs : List ℕ) (i : ℕ) → i < length (x ∷ xs) → get_or (x ∷ xs) i y ≡ y → (x ≡ y) ⊎ Contains xs y
-cons-at x y xs zero within is = inl is
-cons-at x y xs (suc i) within is = inr (i, omega arith, is)
+cons-at x y xs i within is = grind arith
 
 module _ (plan : Planning) (c : ℕ) where
   abbrev Goes : ℕ → ℕ → Type 0
@@ -92,9 +92,7 @@ module _ (plan : Planning) (c : ℕ) where
               (cases_lt slot n),
           λ found.
               ⊎_elim
-              (λ (in_front : Contains front slot).
-              let less = All-contains (λ s. s < n) front slot parts.0 in_front in
-              (is.passing slot less).1 (Contains-append_left front back slot in_front))
+              (λ (in_front : Contains front slot). grind (arith, common_steps))
               (λ (rest : Contains (n ∷ back) slot).
               ⊎_elim
               (λ (same : n ≡ slot). ap p (sym same) ∙ passes)
@@ -107,30 +105,10 @@ module _ (plan : Planning) (c : ℕ) where
       }
 
   keep-all : (p : ℕ → Bool) (n : ℕ) (order : List ℕ) → IsSorted p n order → p n ≡ false → IsSorted p (suc n) order
-  keep-all p n order is none = record {
-    below = more-below n order is.below;
-    distinct = is.distinct;
-    in_order = is.in_order;
-    passing = λ slot known. (
-      λ passing.
-          ⊎_elim
-          (λ (less : slot < n). (is.passing slot less).0 passing)
-          (λ (last : n ≤ slot). let same : slot ≡ n = omega arith in absurd (both_ways (p n) none (ap p (sym same) ∙ passing)))
-          (cases_lt slot n),
-      λ found. (is.passing slot (All-contains (λ s. s < n) order slot is.below found)).1 found,
-    );
-  }
+  keep-all p n order is none = grind (arith, more-below, both_ways, cases_lt)
 
   sorted-of : (p : ℕ → Bool) (n : ℕ) → HasSorted p n
-  sorted-of p zero = record {
-    order = [];
-    is = record {
-      below = λ k d within. absurd (omega arith);
-      distinct = λ i j d before within. absurd (omega arith);
-      in_order = λ i j d before within. absurd (omega arith);
-      passing = λ slot known. absurd (omega arith);
-    };
-  }
+  sorted-of p zero = grind arith
   sorted-of p (suc n) =
       let rest = sorted-of p n in
       ⊎_elim
@@ -148,10 +126,7 @@ record HasLongest (cost : ℕ → ℕ) (window : ℕ) (order : List ℕ) : Type 
 
 longest-of : (cost : ℕ → ℕ) (window : ℕ) (order : List ℕ) (m : ℕ) → m ≤ length order
     → ((k : ℕ) → k ≤ length order → sum_by cost (take k order) ≤ window → k ≤ m) → HasLongest cost window order
-longest-of cost window order zero within longest = record {
-  number = 0;
-  is = record { within = within; fits = omega arith; longest = longest };
-}
+longest-of cost window order zero within longest = grind arith
 longest-of cost window order (suc m) within longest =
     ⊎_elim
     (λ (fits : nat_le (sum_by cost (take (suc m) order)) window ≡ true).
@@ -161,9 +136,7 @@ longest-of cost window order (suc m) within longest =
     (λ k few fits.
     let most = longest k few fits in
     ⊎_elim
-    (λ (same : k ≡ suc m).
-    let here : sum_by cost (take (suc m) order) ≤ window = rw same at fits in
-    absurd (both_ways (nat_le (sum_by cost (take (suc m) order)) window) wide (le-leb (sum_by cost (take (suc m) order)) window here)))
+    (λ (same : k ≡ suc m). grind (arith, both_ways, le-leb))
     (λ (other : k ≢ suc m). omega arith)
     (cases_eq k (suc m))))
     (cases_Bool (nat_le (sum_by cost (take (suc m) order)) window))
@@ -172,9 +145,4 @@ pub front-exists : (plan : Planning) (c : ℕ) (before : ℕ → Bool) → HasLo
 front-exists plan c before =
     let sorted = sorted-of plan c (pending_in plan.placed c before) most_slots in
     let longest = longest-of (worst_in plan.placed c) plan.window sorted.order (length sorted.order) (omega arith) (λ k few fits. few) in
-    record {
-      order = sorted.order;
-      number = longest.number;
-      sorted = record { known = sorted.is.below; distinct = sorted.is.distinct; in_order = sorted.is.in_order; pending = sorted.is.passing };
-      front = longest.is;
-    }
+    grind arith

@@ -18,16 +18,13 @@ before-first plan slot = refl
 
 -- a slot is in the set of the pending ones where it is pending
 pub pending-test : (plan : Planning) (n slot : ℕ) → slot < most_slots → has_bit (pending_at plan n) slot ≡ pending_before plan n slot
-pending-test plan n slot known =
-    set_of-has most_slots (pending_before plan n) slot known
+pending-test plan n slot known = grind (arith, set_of-has)
 
 module _ (plan : Planning) (placed : List Placed) (n : ℕ)
     (same : (k slot : ℕ) → k < n → slot < most_slots → instance_in placed slot (plan.from + k) ≡ instance_in plan.placed slot (plan.from + k))
     (releases : (k slot : ℕ) → k < n → slot < most_slots → releases_in placed (plan.from + k) slot ≡ releases_in plan.placed (plan.from + k) slot) where
   alike-at : (m : ℕ) → m < n → AreAlike plan.policy plan.placed placed (plan.from + m) (plan.from + m)
-  alike-at m within =
-      alike-from_same plan.policy plan.placed placed (plan.from + m) (plan.from + m) refl (λ slot known. same m slot within known)
-      (λ slot known. releases m slot within known)
+  alike-at m within = grind (arith, alike-from_same)
 
   pub same-pending : (m slot : ℕ) → m ≤ n → slot < most_slots → pending_before (record plan { placed = placed }) m slot ≡ pending_before plan m slot
   same-pending zero slot within known = before-first (record plan { placed = placed }) slot ∙ sym (before-first plan slot)
@@ -52,13 +49,10 @@ abbrev pub later_plan : Planning → ℕ → Planning
 later_plan plan n = record plan { from = plan.from + n; pending = pending_at plan n }
 
 alike-later : (plan : Planning) (n m : ℕ) → AreAlike plan.policy plan.placed plan.placed ((plan.from + n) + m) (plan.from + (n + m))
-alike-later plan n m =
-    alike-from_same plan.policy plan.placed plan.placed ((plan.from + n) + m) (plan.from + (n + m)) (omega arith) (λ slot known. refl) (λ slot known. refl)
+alike-later plan n m = grind (arith, alike-from_same)
 
 pub on-pending : (plan : Planning) (n m slot : ℕ) → slot < most_slots → pending_before plan (n + m) slot ≡ pending_before (later_plan plan n) m slot
-on-pending plan n zero slot known =
-    let at : n + 0 ≡ n = omega arith in
-    ap (λ k. pending_before plan k slot) at ∙ sym (pending-test plan n slot known) ∙ sym (before-first (later_plan plan n) slot)
+on-pending plan n zero slot known = grind (arith, pending-test, before-first)
 on-pending plan n (suc m) slot known =
     let next : n + suc m ≡ suc (n + m) = omega arith in
     ap (λ k. pending_before plan k slot) next
@@ -105,13 +99,4 @@ state-missed plan n slot known =
 
 pub state-miss : (plan : Planning) (n slot release : ℕ) → IsMissIn plan (plan.from + n) (has_bit (pending_at plan n)) slot release
     → IsMissAt plan n slot release
-state-miss plan n slot release miss =
-    let known = miss.known in
-    record {
-      known = known;
-      missed = sym (state-missed plan n slot known) ∙ miss.missed;
-      least = λ other below. sym (state-missed plan n other (omega arith)) ∙ miss.least other below;
-      instance = miss.instance;
-      found = miss.found;
-      released = miss.released;
-    }
+state-miss plan n slot release miss = grind (arith, state-missed)

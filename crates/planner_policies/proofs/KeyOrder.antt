@@ -26,23 +26,18 @@ pub due_by-total : (one other : Due) → is_due_by one other ≡ false → is_du
 due_by-total one other wrong = by-total one.key one.priority one.slot other.key other.priority other.slot wrong
 
 pub due_by-trans : (one other third : Due) → is_due_by one other ≡ true → is_due_by other third ≡ true → is_due_by one third ≡ true
-due_by-trans one other third first second =
-    by-trans one.key one.priority one.slot other.key other.priority other.slot third.key third.priority third.slot first second
+due_by-trans one other third first second = grind (arith, by-trans)
 
 pub is_by-refl : (policy : Policy) (placed : List Placed) (c slot : ℕ) → is_by policy placed c slot slot ≡ true
 is_by-refl policy placed c slot = by-refl (key_in policy placed c slot) (priority_in placed c slot) slot
 
 pub is_by-total : (policy : Policy) (placed : List Placed) (c one other : ℕ) → is_by policy placed c one other ≡ false → is_by policy placed c other one ≡ true
-is_by-total policy placed c one other wrong =
-    by-total (key_in policy placed c one) (priority_in placed c one) one (key_in policy placed c other) (priority_in placed c other) other wrong
+is_by-total policy placed c one other wrong = grind (arith, by-total)
 
 pub is_by-antisym : (policy : Policy) (placed : List Placed) (c one other : ℕ) → is_by policy placed c one other ≡ true
     → is_by policy placed c other one ≡ true → one ≡ other
-is_by-antisym policy placed c one other first second =
-    by-antisym (key_in policy placed c one) (priority_in placed c one) one (key_in policy placed c other) (priority_in placed c other) other first second
+is_by-antisym policy placed c one other first second = grind (arith, by-antisym)
 
 pub is_by-trans : (policy : Policy) (placed : List Placed) (c one other third : ℕ) → is_by policy placed c one other ≡ true
     → is_by policy placed c other third ≡ true → is_by policy placed c one third ≡ true
-is_by-trans policy placed c one other third first second =
-    by-trans (key_in policy placed c one) (priority_in placed c one) one (key_in policy placed c other) (priority_in placed c other) other
-    (key_in policy placed c third) (priority_in placed c third) third first second
+is_by-trans policy placed c one other third first second = grind (arith, by-trans)

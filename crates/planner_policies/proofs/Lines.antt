@@ -1,5 +1,6 @@
 -- Lists of instances in key order, and one more put in.
 use Rattle.std.proofs.Common.{◌≡◌, ◌≢◌, ℕ, zero, suc, ◌+◌, ◌<◌, ◌≤◌, true, false, List, [], ◌∷◌, ◌++◌, All, length, get_or, set, take, drop, refl, sym, ap, ◌∙◌, ◌⊎◌, inl, inr, ⊎_elim, arith}
+use Rattle.std.proofs.lemmas.Grind.{common_steps}
 use Rattle.std.proofs.lemmas.List.{get_or-drop, length-drop, get_or-set_other, get_or-set_same, get_or-take, length-take-le, take-append-drop, take-take}
 use Rattle.std.proofs.Math.ListN.{length-set}
 use Rattle.std.proofs.lemmas.Bool.{cases_eq}
@@ -24,10 +25,7 @@ pub moved-up : {X : Type 0} (place n : ℕ) (was now : List X) (x : X) → lengt
     → ((k : ℕ) (d : X) → place ≤ k → k < n → get_or now (k + 1) d ≡ get_or was k d)
     → take (suc n) (set now place x) ≡ take place was ++ (x ∷ drop place (take n was))
 moved-up zero n was [] x same within below front moved = absurd (omega arith)
-moved-up zero n was (y ∷ now) x same within below front moved =
-    ap (λ rest. x ∷ rest)
-    (take-same n now was (omega arith) (omega arith)
-    (λ k d under. let next : suc k ≡ k + 1 = omega arith in let here : get_or (y ∷ now) (k + 1) d ≡ get_or was k d = moved k d (omega arith) under in rw (← next) at here))
+moved-up zero n was (y ∷ now) x same within below front moved = grind (arith, take-same)
 moved-up (suc place) zero was now x same within below front moved = absurd (omega arith)
 moved-up (suc place) (suc n) [] now x same within below front moved = absurd (omega arith)
 moved-up (suc place) (suc n) (w ∷ was) [] x same within below front moved = absurd (omega arith)
@@ -40,9 +38,7 @@ moved-up (suc place) (suc n) (w ∷ was) (y ∷ now) x same within below front m
 
 -- a read within a list does not look at what stands behind it
 pub same-read : {X : Type 0} (xs : List X) (i : ℕ) (d e : X) → i < length xs → get_or xs i d ≡ get_or xs i e
-same-read [] i d e within = absurd (omega arith)
-same-read (x ∷ xs) zero d e within = refl
-same-read (x ∷ xs) (suc i) d e within = same-read xs i d e (omega arith)
+same-read xs i d e within = grind (arith, common_steps)
 
 -- the instances from `place` on, which do not go before `due`, have moved up by one
 pub record IsMovedUp (was now : List Due) (due : Due) (place count : ℕ) : Type 0 where
@@ -54,45 +50,11 @@ pub record IsMovedUp (was now : List Due) (due : Due) (place count : ℕ) : Type
   pub behind : (k : ℕ) (d : Due) → place ≤ k → k < count → is_due_by (get_or was k d) due ≡ false
 
 pub moved_up-start : (was : List Due) (due : Due) (count : ℕ) → count < length was → IsMovedUp was was due count count
-moved_up-start was due count room = record {
-  room = room;
-  after = refl;
-  within = omega arith;
-  front = λ k d below. refl;
-  moved = λ k d above below. absurd (omega arith);
-  behind = λ k d above below. absurd (omega arith);
-}
+moved_up-start was due count room = grind arith
 
 pub moved_up-next : (was now : List Due) (due e : Due) (place less count : ℕ) → place ≡ suc less → IsMovedUp was now due place count
     → is_due_by (get_or now less e) due ≡ false → IsMovedUp was (set now place (get_or now less e)) due less count
-moved_up-next was now due e place less count next before wrong =
-    let room = before.room in
-    let size = before.after in
-    let within = before.within in
-    record {
-      room = room;
-      after = length-set now place (get_or now less e) ∙ size;
-      within = omega arith;
-      front = λ k d below. let other : k ≢ place = omega arith in get_or-set_other now place k (get_or now less e) d other ∙ before.front k d (omega arith);
-      moved = λ k d above below.
-          ⊎_elim
-          (λ (same : k ≡ less).
-          let at : k + 1 ≡ place = omega arith in
-          ap (λ i. get_or (set now place (get_or now less e)) i d) at ∙ get_or-set_same now place (get_or now less e) d (omega arith)
-          ∙ same-read now less e d (omega arith) ∙ before.front less d (omega arith) ∙ ap (λ i. get_or was i d) (sym same))
-          (λ (other : k ≢ less).
-          let apart : k + 1 ≢ place = omega arith in
-          get_or-set_other now place (k + 1) (get_or now less e) d apart ∙ before.moved k d (omega arith) below)
-          (cases_eq k less);
-      behind = λ k d above below.
-          ⊎_elim
-          (λ (same : k ≡ less).
-          let read : get_or was k d ≡ get_or now less e
-          = ap (λ i. get_or was i d) same ∙ sym (before.front less d (omega arith)) ∙ same-read now less d e (omega arith) in
-          ap (λ x. is_due_by x due) read ∙ wrong)
-          (λ (other : k ≢ less). before.behind k d (omega arith) below)
-          (cases_eq k less);
-    }
+moved_up-next was now due e place less count next before wrong = grind (arith, length-set, get_or-set_other, get_or-set_same, same-read)
 
 -- the instance before the place, where there is one, goes before the new one
 abbrev pub IsAtPlace : List Due → Due → ℕ → Type 0
@@ -101,20 +63,15 @@ IsAtPlace now due place = (place ≡ 0) ⊎ ((e : Due) × (less : ℕ) × (place
 front-before : (was now : List Due) (due e : Due) (less place count : ℕ) → place ≡ suc less → IsMovedUp was now due place count
     → IsLined (take count was) → is_due_by (get_or now less e) due ≡ true → (k : ℕ) → k < place → is_due_by (get_or was k e) due ≡ true
 front-before was now due e less place count next moved lined last k below =
-    let room = moved.room in
-    let size = moved.after in
-    let within = moved.within in
     let at : get_or now less e ≡ get_or was less e = moved.front less e (omega arith) in
     let here : is_due_by (get_or was less e) due ≡ true = ap (λ x. is_due_by x due) (sym at) ∙ last in
     ⊎_elim
     (λ (same : k ≡ less). ap (λ i. is_due_by (get_or was i e) due) same ∙ here)
     (λ (other : k ≢ less).
-    let under : k < count = omega arith in
     let under_less : less < count = omega arith in
     let pair = lined k less e (omega arith) (omega (arith, length-take-le count was)) in
     let first : is_due_by (get_or was k e) (get_or was less e) ≡ true
-    = ap (λ x. is_due_by x (get_or was less e)) (sym (get_or-take count was k e under))
-    ∙ ap (λ x. is_due_by (get_or (take count was) k e) x) (sym (get_or-take count was less e under_less)) ∙ pair in
+    = grind (arith, get_or-take) in
     due_by-trans (get_or was k e) (get_or was less e) due first here)
     (cases_eq k less)
 
@@ -122,37 +79,24 @@ all-before : (was now : List Due) (due : Due) (place count : ℕ) → IsMovedUp 
     → All (λ other. is_due_by other due ≡ true) (take place was)
 all-before was now due place count moved lined (inl none) = λ k d below. absurd (omega (arith, length-take-le place was))
 all-before was now due place count moved lined (inr last) = λ k d below.
-    let size = moved.after in
-    let room = moved.room in
-    let within = moved.within in
     let under : k < place = omega (arith, length-take-le place was) in
     ap (λ x. is_due_by x due) (get_or-take place was k d under ∙ same-read was k d last.0 (omega arith))
     ∙ front-before was now due last.0 last.1 place count last.2 moved lined last.3 k under
 
 all-behind : (was now : List Due) (due : Due) (place count : ℕ) → IsMovedUp was now due place count
     → All (λ other. is_due_by other due ≡ false) (drop place (take count was))
-all-behind was now due place count moved = λ k d below.
-    let size = moved.after in
-    let room = moved.room in
-    let within = moved.within in
-    let under : place + k < count = omega (arith, length-drop place (take count was), length-take-le count was) in
-    ap (λ x. is_due_by x due) (get_or-drop place (take count was) k d ∙ get_or-take count was (place + k) d under)
-    ∙ moved.behind (place + k) d (omega arith) under
+all-behind was now due place count moved = grind (arith, length-drop, length-take-le, get_or-drop, get_or-take)
 
 pub put_in : (was now old : List Due) (due : Due) (place count : ℕ) → IsMovedUp was now due place count → take count was ≡ old → IsLined old
     → IsAtPlace now due place → IsPutIn due old (take (count + 1) (set now place due))
 put_in was now old due place count moved view lined at =
-    let size = moved.after in
-    let room = moved.room in
     let within = moved.within in
     let shown : IsLined (take count was) = rw view lined in
-    let next : count + 1 ≡ suc count = omega arith in
     record {
       front = take place was;
       back = drop place (take count was);
       was = sym view ∙ sym (take-append-drop place (take count was)) ∙ ap (λ xs. xs ++ drop place (take count was)) (take-take place count was within);
-      is = ap (λ n. take n (set now place due)) next
-          ∙ moved-up place count was now due moved.after (omega arith) within moved.front moved.moved;
+      is = grind (arith, moved-up);
       before = all-before was now due place count moved shown at;
       behind = all-behind was now due place count moved;
     }

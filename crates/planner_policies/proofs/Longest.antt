@@ -1,7 +1,8 @@
 -- With the filling `Prefix` what is planned is the longest front, in key order, of the pending slots that fits the window.
 use Rattle.std.proofs.Common.{◌≡◌, ◌≢◌, ℕ, suc, ◌+◌, ◌-◌, ◌<◌, ◌≤◌, ◌&&◌, ◌↔◌, not, Bool, true, false, nat_eq, nat_le, List, [], ◌∷◌, All, AllPairs, Contains, length, get_or, take, drop, refl, sym, ap, ◌∙◌, ⊎_elim, arith}
+use Rattle.std.proofs.lemmas.Grind.{common_steps}
 use Rattle.std.specs.List.{list_any, sum_by}
-use Rattle.std.proofs.lemmas.Bool.{and_from, and_parts, both_ways, cases_eq, cases_lt, cases_order, eq-eqb, eqb-true, false_from_ne_true, le-leb, leb-true, not-true, not_from_false}
+use Rattle.std.proofs.lemmas.Bool.{and_from, and_parts, both_ways, cases_eq, cases_lt, eq-eqb, eqb-true, false_from_ne_true, le-leb, leb-true, not-true, not_from_false}
 use Rattle.std.proofs.lemmas.List.{get_or-drop, get_or-take, length-drop, length-take-le, take-take}
 use Rattle.std.proofs.lemmas.List.Elements.{All-contains, All-head, All-tail, All-take}
 use Rattle.std.proofs.lemmas.List.Folds.{Any-from_list_any, list_any_at}
@@ -37,16 +38,6 @@ sum_where-list n (x ∷ xs) f below distinct =
     ∙ ap (λ m. f x + m) (sum_where-list n xs f (All-tail (λ w. w < n) x xs below) (pairs-tail (λ v w. v ≢ w) x xs distinct))
     ∙ sym (sum_by-cons f x xs)
 
--- the elements of a list of distinct numbers stand at one place each
-one-place : (xs : List ℕ) (i j d : ℕ) → AllPairs (λ v w. v ≢ w) xs → i < length xs → j < length xs → get_or xs i d ≡ get_or xs j d → i ≡ j
-one-place xs i j d distinct in_i in_j same =
-    ⊎_elim
-    (λ (here : i ≡ j). here)
-    (⊎_elim
-    (λ (before : i < j). absurd (distinct i j d before in_j same))
-    (λ (behind : j < i). absurd (distinct j i d behind in_i (sym same))))
-    (cases_order i j)
-
 -- the slots up to the i-th one are those that go before it
 up-to : (plan : Planning) (c : ℕ) (before : ℕ → Bool) (order : List ℕ) (i slot other : ℕ) → IsInKeyOrder plan c before order → i < length order
     → get_or order i slot ≡ slot → other < most_slots
@@ -64,13 +55,7 @@ up-to plan c before order i slot other sorted within at known =
     let short : j < length (take (suc i) order) = omega (arith, length-take-le (suc i) order) in
     list_any_at (λ x. nat_eq x other) (take (suc i) order) j slot short
     (eq-eqb (get_or (take (suc i) order) j slot) other (get_or-take (suc i) order j slot early ∙ read)))
-    (λ (late : suc i ≤ j).
-    let after : is_by plan.policy plan.placed c (get_or order i slot) (get_or order j slot) ≡ true = sorted.in_order i j slot late in_j in
-    let here : is_by plan.policy plan.placed c slot other ≡ true
-    = ap (λ x. is_by plan.policy plan.placed c x other) (sym at) ∙ ap (λ x. is_by plan.policy plan.placed c (get_or order i slot) x) (sym read) ∙ after in
-    let same = is_by-antisym plan.policy plan.placed c slot other here parts.1 in
-    let place = one-place order i j slot sorted.distinct within in_j (at ∙ same ∙ sym read) in
-    absurd (omega arith))
+    (λ (late : suc i ≤ j). grind (arith, is_by-antisym))
     (cases_lt j (suc i)))
     (λ found.
     let any = Any-from_list_any (λ x. nat_eq x other) (take (suc i) order) found in
@@ -83,9 +68,7 @@ up-to plan c before order i slot other sorted within at known =
     let pending = (sorted.pending other known).1 (j, in_j, same-read order j other slot in_j ∙ read) in
     let by : is_by plan.policy plan.placed c other slot ≡ true
     = ⊎_elim
-    (λ (here : j ≡ i).
-    let same : other ≡ slot = sym read ∙ ap (λ k. get_or order k slot) here ∙ at in
-    ap (λ x. is_by plan.policy plan.placed c x slot) same ∙ is_by-refl plan.policy plan.placed c slot)
+    (λ (here : j ≡ i). grind (arith, common_steps, is_by-refl))
     (λ (apart : j ≢ i).
     let pair : is_by plan.policy plan.placed c (get_or order j slot) (get_or order i slot) ≡ true = sorted.in_order j i slot (omega arith) within in
     ap (λ x. is_by plan.policy plan.placed c x slot) (sym read) ∙ ap (λ x. is_by plan.policy plan.placed c (get_or order j slot) x) (sym at) ∙ pair)
@@ -116,11 +99,9 @@ planned-iff plan c before order n slot prefix sorted front known = (
       let width = width-up-to plan c before order i slot sorted within stands.2 in
       let fits = leb-true w plan.window parts.1 in
       let few = front.longest (suc i) (omega arith) (rw (← width) fits) in
-      let bound = front.within in
       (i, omega (arith, length-take-le n order), get_or-take n order i slot (omega arith) ∙ stands.2),
   λ contains.
       let i = contains.0 in
-      let bound = front.within in
       let below : i < n = omega (arith, contains.1, length-take-le n order) in
       let within : i < length order = omega arith in
       let at : get_or order i slot ≡ slot = sym (get_or-take n order i slot below) ∙ contains.2 in
@@ -142,11 +123,7 @@ left-iff plan c before order n slot prefix sorted front known = (
       let i = stands.0 in
       let within = stands.1 in
       ⊎_elim
-      (λ (below : i < n).
-      let bound = front.within in
-      let planned = (planned-iff plan c before order n slot prefix sorted front known).1
-      (i, omega (arith, length-take-le n order), get_or-take n order i slot below ∙ stands.2) in
-      absurd (both_ways (planned_in plan c before slot) (not-true (planned_in plan c before slot) parts.1) planned))
+      (λ (below : i < n). grind (arith, common_steps, planned-iff, length-take-le, get_or-take, both_ways, not-true))
       (λ (behind : n ≤ i).
       let at : n + (i - n) ≡ i = omega arith in
       (i - n, omega (arith, length-drop n order), get_or-drop n order (i - n) slot ∙ ap (λ k. get_or order k slot) at ∙ stands.2))
@@ -157,11 +134,5 @@ left-iff plan c before order n slot prefix sorted front known = (
       let at : get_or order i slot ≡ slot = sym (get_or-drop n order contains.0 slot) ∙ contains.2 in
       let pending = (sorted.pending slot known).1 (i, within, at) in
       and_from (pending_in plan.placed c before slot) (not (planned_in plan c before slot)) pending
-      (not_from_false (planned_in plan c before slot)
-      (false_from_ne_true (planned_in plan c before slot) (λ planned.
-      let early = (planned-iff plan c before order n slot prefix sorted front known).0 planned in
-      let bound = front.within in
-      let below : early.0 < n = omega (arith, early.1, length-take-le n order) in
-      let same = one-place order early.0 i slot sorted.distinct (omega arith) within (sym (get_or-take n order early.0 slot below) ∙ early.2 ∙ sym at) in
-      omega arith))),
+      (grind (arith, not_from_false, false_from_ne_true, planned-iff, length-take-le, get_or-take)),
 )

@@ -1,16 +1,15 @@
 -- Some cycles later a plan does the same again.
-use Rattle.std.proofs.Common.{◌≡◌, ℕ, zero, suc, ◌+◌, ◌-◌, ◌/◌, ◌<◌, ◌≤◌, Bool, false, nat_le, Option, Some, None, option_map, List, All, get_or, refl, sym, ap, ◌∙◌, ⊎_elim, arith}
+use Rattle.std.proofs.Common.{◌≡◌, ℕ, zero, suc, ◌+◌, ◌-◌, ◌<◌, ◌≤◌, Bool, false, nat_le, Option, option_map, List, All, get_or, sym, ap, ◌∙◌, ⊎_elim, arith}
 use Rattle.std.specs.Option.{option_map_or}
 use Rattle.std.proofs.lemmas.Bool.{cases_lt}
 use Rattle.std.proofs.lemmas.Bool.Decides.{nat_tests}
 use Rattle.requirement_table.specs.declared.entries.Placed.{Placed}
-use Rattle.requirement_table.specs.Instance.{Instance, deadline_of}
+use Rattle.requirement_table.specs.Instance.{Instance}
 use Rattle.bit_sets.specs.Sets.{has_bit, most_slots}
 use Rattle.requirement_table.specs.Table.{IsWellPlaced, instance_in}
 use Rattle.requirement_table.proofs.Shared.{GoesRound, IsMoved, SameAgain, instance-again, later, moved-again, same-again}
 use Rattle.planner_policies.specs.declared.Policy.{Policy}
-use Rattle.planner_policies.specs.declared.Policy.TheVariants.{Rm, Dm, Edf}
-use Rattle.planner_policies.specs.Loop.{RepeatsFrom, settled_at}
+use Rattle.planner_policies.specs.Loop.{RepeatsFrom}
 use Rattle.planner_policies.specs.Plan.{HasNoMiss, NeverMisses, Planning, by_number, is_missed_at, key_of, pending_at, pending_before, planned_at}
 use Rattle.planner_policies.proofs.Going.{before-next, pending-test}
 use Rattle.planner_policies.proofs.Steps.{left-alike, missed-alike, planned-alike}
@@ -18,25 +17,10 @@ use Rattle.planner_policies.proofs.Filling.{AreAlike}
 
 -- an entry that repeats from a cycle goes round
 goes-round : (b d : ℕ) (p : Placed) → RepeatsFrom b d p → GoesRound b d p
-goes-round b d p repeats = record {
-  begun = λ none.
-      let start : settled_at p ≡ p.origin + p.entry.phase
-      = ap (λ e. option_map_or (λ free. free) (option_map (λ end. end + p.entry.deadline - 1) e) (p.origin + p.entry.phase)) none in
-      let settled = repeats.settled in
-      rw start at settled;
-  divided = repeats.divided;
-  over = λ e is.
-      let free : settled_at p ≡ e + p.entry.deadline - 1
-      = ap (λ x. option_map_or (λ free. free) (option_map (λ end. end + p.entry.deadline - 1) x) (p.origin + p.entry.phase)) is in
-      let settled = repeats.settled in
-      rw free at settled;
-}
+goes-round b d p repeats = grind (arith, option_map)
 
 by-moved : (a b d : ℕ) (rest : Bool) → by_number (a + d) (b + d) rest ≡ by_number a b rest
 by-moved a b d rest = grind (arith, nat_tests)
-
-by-none : (b d : ℕ) (rest : Bool) → 0 < b → by_number 0 (b + d) rest ≡ by_number 0 b rest
-by-none b d rest some = grind (arith, nat_tests)
 
 by-some : (a d : ℕ) (rest : Bool) → 0 < a → by_number (a + d) 0 rest ≡ by_number a 0 rest
 by-some a d rest some = grind (arith, nat_tests)
@@ -51,26 +35,7 @@ by-later : (policy : Policy) (d : ℕ) (one other : Option Instance) (a b : ℕ)
     → by_number (key_with policy (option_map (later d) one)) (key_with policy (option_map (later d) other))
     (by_number (priority_of (option_map (later d) one)) (priority_of (option_map (later d) other)) (nat_le a b))
     ≡ by_number (key_with policy one) (key_with policy other) (by_number (priority_of one) (priority_of other) (nat_le a b))
-by-later Rm d None None a b first second = refl
-by-later Rm d None (Some j) a b first second = refl
-by-later Rm d (Some i) None a b first second = refl
-by-later Rm d (Some i) (Some j) a b first second = refl
-by-later Dm d None None a b first second = refl
-by-later Dm d None (Some j) a b first second = refl
-by-later Dm d (Some i) None a b first second = refl
-by-later Dm d (Some i) (Some j) a b first second = refl
-by-later Edf d None None a b first second = refl
-by-later Edf d None (Some j) a b first second =
-    let rest = by_number 0 j.placed.entry.priority (nat_le a b) in
-    ap (λ k. by_number 0 k rest) second.0 ∙ by-none (deadline_of j.placed j.number) d rest second.1
-by-later Edf d (Some i) None a b first second =
-    let rest = by_number i.placed.entry.priority 0 (nat_le a b) in
-    ap (λ k. by_number k 0 rest) first.0 ∙ by-some (deadline_of i.placed i.number) d rest first.1
-by-later Edf d (Some i) (Some j) a b first second =
-    let rest = by_number i.placed.entry.priority j.placed.entry.priority (nat_le a b) in
-    ap (λ k. by_number k (deadline_of j.placed (j.number + d / j.placed.entry.period)) rest) first.0
-    ∙ ap (λ k. by_number (deadline_of i.placed i.number + d) k rest) second.0
-    ∙ by-moved (deadline_of i.placed i.number) (deadline_of j.placed j.number) d rest
+by-later policy d one other a b first second = grind (arith, by-some, by-moved)
 
 pub alike-later : (policy : Policy) (placed : List Placed) (b d c : ℕ) → IsWellPlaced placed → All (RepeatsFrom b d) placed → b ≤ c
     → AreAlike policy placed placed c (c + d)
@@ -82,12 +47,7 @@ alike-later policy placed b d c well repeats after =
     let moved : (slot : ℕ) → IsMoved d (instance_in placed slot c) = λ slot. moved-again placed b d c slot well rounds after in
     record {
       released = λ slot known. (again slot).releases;
-      ordered = λ one other known_one known_other.
-          ap (λ o. by_number (key_with policy o) (key_with policy (instance_in placed other (c + d)))
-          (by_number (priority_of o) (priority_of (instance_in placed other (c + d))) (nat_le one other))) (found one)
-          ∙ ap (λ o. by_number (key_with policy (option_map (later d) (instance_in placed one c))) (key_with policy o)
-          (by_number (priority_of (option_map (later d) (instance_in placed one c))) (priority_of o) (nat_le one other))) (found other)
-          ∙ by-later policy d (instance_in placed one c) (instance_in placed other c) one other (moved one) (moved other);
+      ordered = grind (arith, option_map, later, by-later);
       cost = λ slot known. (again slot).cost;
       last = λ slot known. (again slot).last;
     }

@@ -1,28 +1,22 @@
 -- The instance of the least slot of those in their last cycle.
 use Rattle.std.proofs.Common.{◌≡◌, ◌≢◌, ℕ, ◌≤◌, Bool, true, false, nat_eq, nat_lt, if◌then◌else◌, Option, Some, None, List, ◌∷◌, [], ◌++◌, All, Any, refl, ⊎_elim, arith}
-use Rattle.std.proofs.lemmas.List.Elements.{All-push, All-weaker, Contains-append_left}
+use Rattle.std.proofs.lemmas.Grind.{common_steps}
+use Rattle.std.proofs.lemmas.List.Elements.{All-push, All-weaker}
 use Rattle.std.proofs.lemmas.List.Quantifiers.{Any-push}
 use Rattle.std.proofs.lemmas.Bool.{cases_Bool, eqb-false, eqb-true, ltb-true, ltb-false}
 use Rattle.planner_policies.specs.declared.due.Due.{Due}
 use Rattle.planner_policies.specs.declared.state.Miss.{Miss}
 use Rattle.planner_policies.specs.Due.{IsLeastMissed, lesser_miss, miss_of, with_missed}
 
-any-front : {X : Type 0} (P : X → Type 0) (xs ys : List X) → Any P xs → Any P (xs ++ ys)
-any-front P xs ys any =
-    let in' = Contains-append_left xs ys any.1 (any.0, any.2, any.3) in (in'.0, any.1, in'.1, in'.2, any.4)
-
 least-chosen : (c : ℕ) (line : List Due) (d : Due) (miss : Miss) (lesser : Bool) → nat_lt miss.slot d.slot ≡ lesser
     → Any (λ due. (due.last ≡ c) × (miss ≡ miss_of due)) line → All (λ due. due.last ≡ c → miss.slot ≤ due.slot) line → d.last ≡ c
     → IsLeastMissed c (line ++ d ∷ []) (Some (if lesser then miss else miss_of d))
-least-chosen c line d miss true test any all last =
-    let below = ltb-true miss.slot d.slot test in
-    (any-front (λ due. (due.last ≡ c) × (miss ≡ miss_of due)) line (d ∷ []) any, All-push (λ due. due.last ≡ c → miss.slot ≤ due.slot) line d all (λ _. omega arith))
+least-chosen c line d miss true test any all last = grind (arith, common_steps, ltb-true)
 least-chosen c line d miss false test any all last =
     let above = ltb-false miss.slot d.slot test in (
       Any-push (λ due. (due.last ≡ c) × (miss_of d ≡ miss_of due)) line d (last, refl),
       All-push (λ due. due.last ≡ c → d.slot ≤ due.slot) line d
-          (All-weaker (λ due. due.last ≡ c → miss.slot ≤ due.slot) (λ due. due.last ≡ c → d.slot ≤ due.slot)
-          (λ due more here. let least = more here in omega arith) line all)
+          (grind arith)
           (λ _. omega arith),
     )
 
@@ -40,11 +34,7 @@ least_missed-more c line d (Some miss) least last = least-chosen c line d miss (
 -- one more instance that is not
 pub least_missed-other : (c : ℕ) (line : List Due) (d : Due) (least : Option Miss) → IsLeastMissed c line least → d.last ≢ c
     → IsLeastMissed c (line ++ d ∷ []) least
-least_missed-other c line d None none other = All-push (λ due. due.last ≢ c) line d none other
-least_missed-other c line d (Some miss) least other = (
-  any-front (λ due. (due.last ≡ c) × (miss ≡ miss_of due)) line (d ∷ []) least.0,
-  All-push (λ due. due.last ≡ c → miss.slot ≤ due.slot) line d least.1 (λ last. absurd (other last)),
-)
+least_missed-other c line d least none other = grind (arith, common_steps)
 
 -- one more instance, whether or not it is in its last cycle
 pub least_missed-with : (c : ℕ) (line : List Due) (d : Due) (least : Option Miss) → IsLeastMissed c line least

@@ -1,7 +1,7 @@
 -- What holds of each two elements of a list, one before the other.
-use Rattle.std.proofs.Common.{◌≡◌, ◌≢◌, ℕ, zero, suc, ◌<◌, ◌≤◌, List, [], ◌∷◌, ◌++◌, Bool, true, false, cond, filter, All, AllPairs, length, map, take, length-take, eqb, arith}
+use Rattle.std.proofs.Common.{◌≡◌, ◌≢◌, ℕ, suc, ◌<◌, ◌≤◌, List, [], ◌∷◌, ◌++◌, Bool, true, false, cond, filter, All, AllPairs, length, map, take, length-take, eqb, arith}
 use Rattle.std.proofs.lemmas.List.{get_or-take}
-use Rattle.std.proofs.lemmas.List.Elements.{All-cons, All-contains, All-head, All-map, All-nil, All-tail}
+use Rattle.std.proofs.lemmas.List.Elements.{All-cons, All-head, All-map, All-nil, All-tail}
 use Rattle.std.proofs.lemmas.List.Folds.{Any-from_list_any}
 use Rattle.std.proofs.lemmas.Bool.{eqb-true}
 use Rattle.std.proofs.lemmas.Bool.Decides.{Decides-eqb}
@@ -9,10 +9,7 @@ use Rattle.std.proofs.lemmas.Map.Made.{IsDistinct-from_AllPairs}
 use Rattle.std.proofs.lemmas.Map.Steps.{length-le_from_distinct_below}
 
 pub pairs-cons : {X : Type 0} (R : X → X → Type 0) (x : X) (xs : List X) → All (R x) xs → AllPairs R xs → AllPairs R (x ∷ xs)
-pairs-cons R x xs all pairs zero zero d before within = absurd (omega arith)
-pairs-cons R x xs all pairs zero (suc j) d before within = all j d (omega arith)
-pairs-cons R x xs all pairs (suc i) zero d before within = absurd (omega arith)
-pairs-cons R x xs all pairs (suc i) (suc j) d before within = pairs i j d (omega arith) (omega arith)
+pairs-cons R x xs h0 h1 = grind arith
 
 pub pairs-head : {X : Type 0} (R : X → X → Type 0) (x : X) (xs : List X) → AllPairs R (x ∷ xs) → All (R x) xs
 pairs-head R x xs pairs k d within = pairs 0 (suc k) d (omega arith) (omega arith)
@@ -63,11 +60,7 @@ pairs-front R (x ∷ xs) ys pairs =
     pairs-cons R x xs (all-parts (R x) xs ys (pairs-head R x (xs ++ ys) pairs)).0 (pairs-front R xs ys (pairs-tail R x (xs ++ ys) pairs))
 
 pub pairs-take : {X : Type 0} (R : X → X → Type 0) (n : ℕ) (xs : List X) → AllPairs R xs → AllPairs R (take n xs)
-pairs-take R n xs pairs i j d before within =
-    let short : j < n = omega (arith, length-take n xs) in
-    let early : i < n = omega arith in
-    let long : j < length xs = omega (arith, length-take n xs) in
-    rw (get_or-take n xs i d early, get_or-take n xs j d short) (pairs i j d before long)
+pairs-take R n xs h0 = grind (arith, length-take, get_or-take)
 
 -- distinct numbers below n are at most n
 pub count-distinct : (xs : List ℕ) (n : ℕ) → All (λ x. x < n) xs → AllPairs (λ v w. v ≢ w) xs → length xs ≤ n
@@ -76,7 +69,6 @@ count-distinct xs n below distinct =
     (λ q found.
     let any = Any-from_list_any (eqb q) xs found in
     let same : q ≡ any.1 = eqb-true q any.1 any.4 in
-    let under : any.1 < n = All-contains (λ x. x < n) xs any.1 below (any.0, any.2, any.3) in
     omega arith)
 
 -- what a test keeps of a list
@@ -85,8 +77,7 @@ all-filter P test [] all = All-nil P
 all-filter P test (x ∷ xs) all = pick (test x) (all-filter P test xs (All-tail P x xs all))
   where
     pick : (b : Bool) → All P (filter test xs) → All P (cond b (x ∷ filter test xs) (filter test xs))
-    pick true rest = All-cons P x (filter test xs) (All-head P x xs all) rest
-    pick false rest = rest
+    pick b rest = grind arith
 
 pub pairs-filter : {X : Type 0} (R : X → X → Type 0) (test : X → Bool) (xs : List X) → AllPairs R xs → AllPairs R (filter test xs)
 pairs-filter R test [] pairs = λ i j d before within. absurd (omega arith)

@@ -1,12 +1,11 @@
 -- Entries that are sorted by their own numbers are in the order of the policy.
-use Rattle.std.proofs.Common.{◌≡◌, ℕ, zero, suc, ◌+◌, ◌-◌, ◌<◌, ◌≤◌, true, false, nat_le, List, get_or, length, sym, ap, ◌∙◌, arith, is_lt, nat_cmp}
+use Rattle.std.proofs.Common.{◌≡◌, ℕ, zero, suc, ◌+◌, ◌-◌, ◌<◌, ◌≤◌, true, false, List, get_or, length, sym, ap, ◌∙◌, arith, is_lt, nat_cmp}
+use Rattle.std.proofs.lemmas.Grind.{common_steps}
 use Rattle.std.specs.Ordering.{ordering_then}
-use Rattle.std.proofs.lemmas.Bool.Decides.{nat_tests}
 use Rattle.requirement_table.specs.declared.entries.Placed.{Placed}
 use Rattle.planner_policies.specs.declared.Policy.{Policy}
 use Rattle.planner_policies.specs.declared.Policy.TheVariants.{Rm, Dm, Edf}
 use Rattle.planner_policies.specs.declared.due.Due.{Due}
-use Rattle.planner_policies.specs.Plan.{by_number}
 use Rattle.planner_policies.specs.Ranked.{AreRanked, is_ranked_by, own_key}
 use Rattle.planner_policies.proofs.KeyOrder.{due_by-trans}
 
@@ -33,13 +32,6 @@ ranked-all policy rows next i j d before within =
         ap (λ k. is_ranked_by policy (get_or rows i d) (get_or rows k d)) at
         ∙ ranked-trans policy (get_or rows i d) (get_or rows (i + 1 + m) d) (get_or rows (i + 1 + m + 1) d) (along m (omega arith)) (next (i + 1 + m) d (omega arith))
 
-pub two-numbers : (b b' s s' : ℕ) → is_lt (ordering_then (nat_cmp b' b) (nat_cmp s' s)) ≡ false → by_number b b' (nat_le s s') ≡ true
-two-numbers b b' s s' not = grind (arith, nat_tests)
-
-pub three-numbers : (a a' b b' s s' : ℕ) → is_lt (ordering_then (ordering_then (nat_cmp a' a) (nat_cmp b' b)) (nat_cmp s' s)) ≡ false
-    → by_number a a' (by_number b b' (nat_le s s')) ≡ true
-three-numbers a a' b b' s s' not = grind (arith, nat_tests)
-
 -- what a sort by these numbers ensures
 abbrev IsSortedBy3 : (Placed → ℕ) → List Placed → Type 0
 IsSortedBy3 key rows = (k : ℕ) (d : Placed) → 0 ≤ k → k + 1 < length rows → is_lt (ordering_then
@@ -48,22 +40,13 @@ IsSortedBy3 key rows = (k : ℕ) (d : Placed) → 0 ≤ k → k + 1 < length row
     (nat_cmp (get_or rows (k + 1) d).entry.slot (get_or rows k d).entry.slot)) ≡ false
 
 pub ranked-rm : (rows : List Placed) → IsSortedBy3 (λ p. p.entry.period) rows → AreRanked Rm rows
-ranked-rm rows sorted = ranked-all Rm rows (λ k d within.
-    let p = get_or rows k d in
-    let q = get_or rows (k + 1) d in
-    three-numbers p.entry.period q.entry.period p.entry.priority q.entry.priority p.entry.slot q.entry.slot (sorted k d (omega arith) within))
+ranked-rm rows sorted = ranked-all Rm rows (λ k d within. grind (arith, common_steps))
 
 pub ranked-dm : (rows : List Placed) → IsSortedBy3 (λ p. p.entry.deadline) rows → AreRanked Dm rows
-ranked-dm rows sorted = ranked-all Dm rows (λ k d within.
-    let p = get_or rows k d in
-    let q = get_or rows (k + 1) d in
-    three-numbers p.entry.deadline q.entry.deadline p.entry.priority q.entry.priority p.entry.slot q.entry.slot (sorted k d (omega arith) within))
+ranked-dm rows sorted = ranked-all Dm rows (λ k d within. grind (arith, common_steps))
 
 pub ranked-edf : (rows : List Placed)
     → ((k : ℕ) (d : Placed) → 0 ≤ k → k + 1 < length rows → is_lt (ordering_then
     (nat_cmp (get_or rows (k + 1) d).entry.priority (get_or rows k d).entry.priority)
     (nat_cmp (get_or rows (k + 1) d).entry.slot (get_or rows k d).entry.slot)) ≡ false) → AreRanked Edf rows
-ranked-edf rows sorted = ranked-all Edf rows (λ k d within.
-    let p = get_or rows k d in
-    let q = get_or rows (k + 1) d in
-    two-numbers p.entry.priority q.entry.priority p.entry.slot q.entry.slot (sorted k d (omega arith) within))
+ranked-edf rows sorted = ranked-all Edf rows (λ k d within. grind (arith, common_steps))

@@ -1,18 +1,19 @@
 -- The instances that are pending in a cycle, found among the rows of a table.
 use Rattle.std.proofs.Common.{◌≡◌, ◌≢◌, ℕ, ◌+◌, ◌<◌, ◌≤◌, ◌&&◌, ◌||◌, Bool, true, false, nat_eq, if◌then◌else◌, Option, Some, None, is_some, List, [], ◌∷◌, All, AllPairs, Contains, IsPermutation, length, get_or, map, take, slice_get, length-take, length-append, refl, sym, ap, ◌∙◌, ⊎_elim, arith}
+use Rattle.std.proofs.lemmas.Grind.{common_steps}
 use Rattle.std.specs.List.{count_by, list_any}
 use Rattle.std.proofs.lemmas.Bool.{both_ways, cases_lt, eq-eqb, eqb-true, and_parts, and_from, or_cases, or_from, or_left, or_parts, or_right}
 use Rattle.std.proofs.lemmas.Option.{slice_get-get_or, same_Some}
 use Rattle.std.proofs.lemmas.List.{length-map}
-use Rattle.std.proofs.lemmas.List.Elements.{All-contains, All-contains_itself, All-cons, All-head, All-map, All-nil, All-tail, All-weaker}
+use Rattle.std.proofs.lemmas.List.Elements.{All-contains, All-contains_itself, All-cons, All-head, All-map, All-tail, All-weaker}
 use Rattle.std.proofs.lemmas.List.Folds.{Any-from_list_any, list_any-append, list_any-from_Any, list_any_kept, list_any_more}
 use Rattle.std.proofs.lemmas.List.Sorted.{All-permutation, length_permutation, list_any-IsPermutation, sum_by-IsPermutation}
 use Rattle.std.proofs.lemmas.List.Sums.{get_or-le-sum_by, sum_by-cons, sum_by_more_le}
 use Rattle.requirement_table.specs.declared.entries.Placed.{Placed}
-use Rattle.requirement_table.specs.Instance.{Exists, IsReleasedIn, MaySend, instance_of, release_of, released_by}
+use Rattle.requirement_table.specs.Instance.{IsReleasedIn, MaySend, instance_of, release_of, released_by}
 use Rattle.bit_sets.specs.Sets.{has_bit, most_slots}
-use Rattle.requirement_table.specs.Table.{IsInRange, IsWellPlaced, instance_in, releases_in}
-use Rattle.requirement_table.proofs.Shared.{IsReleasedIn-from_released_by, MaySend-from_instance, found-in, found-of, instance_of-sent, one_instance, released_by-released}
+use Rattle.requirement_table.specs.Table.{IsInRange, IsWellPlaced, releases_in}
+use Rattle.requirement_table.proofs.Shared.{found-in, found-of, instance_of-sent, one_instance, released_by-released}
 use Rattle.planner_policies.specs.declared.due.Due.{Due}
 use Rattle.planner_policies.specs.Due.{IsDueIn, IsDueOf, IsLined, IsPending, IsPutIn, IsWholeLine, is_due_by}
 use Rattle.planner_policies.specs.Plan.{IsValid, Planning, pending_in}
@@ -24,8 +25,7 @@ abbrev pub sends_of : ℕ → ℕ → Placed → Bool
 sends_of c slot p = nat_eq p.entry.slot slot && is_some (instance_of p c)
 
 some-number : (o : Option ℕ) → is_some o ≡ true → (k : ℕ) × (o ≡ Some k)
-some-number (Some k) is = (k, refl)
-some-number None is = absurd (cc)
+some-number o is = grind arith
 
 record IsSender (c slot : ℕ) (p : Placed) : Type 0 where
   of_slot : p.entry.slot ≡ slot
@@ -33,26 +33,19 @@ record IsSender (c slot : ℕ) (p : Placed) : Type 0 where
   sends : MaySend p number c
 
 sender-of : (c slot : ℕ) (p : Placed) → sends_of c slot p ≡ true → IsSender c slot p
-sender-of c slot p test =
-    let parts = and_parts (nat_eq p.entry.slot slot) (is_some (instance_of p c)) test in
-    let number = some-number (instance_of p c) parts.1 in
-    record { of_slot = eqb-true p.entry.slot slot parts.0; number = number.0; sends = MaySend-from_instance p number.0 c number.1 }
+sender-of c slot p test = grind (arith, and_parts, is_some, some-number, eqb-true)
 
 pub sends-test : (c slot : ℕ) (p : Placed) (k : ℕ) → IsInRange p → p.entry.slot ≡ slot → MaySend p k c → sends_of c slot p ≡ true
-sends-test c slot p k range of_slot sends =
-    and_from (nat_eq p.entry.slot slot) (is_some (instance_of p c)) (eq-eqb p.entry.slot slot of_slot)
-    (ap is_some (instance_of-sent p k c range.entry.deadline sends))
+sends-test c slot p k range of_slot sends = grind (arith, and_from, is_some, eq-eqb, instance_of-sent)
 
 place-in : (placed : List Placed) (i : ℕ) (d : Placed) → i < length placed → slice_get placed i ≡ Some (get_or placed i d)
 place-in placed i d within = slice_get-get_or placed i d within
 
 only_false : (b : Bool) → (b ≡ true → ⊥) → b ≡ false
-only_false true wrong = absurd (wrong refl)
-only_false false wrong = refl
+only_false b wrong = grind arith
 
 count-cons : {X : Type 0} (p : X → Bool) (x : X) (xs : List X) (b : Bool) → p x ≡ b → count_by p (x ∷ xs) ≡ (if b then 1 else 0) + count_by p xs
-count-cons p x xs b is =
-    sum_by-cons (λ y. if p y then 1 else 0) x xs ∙ ap (λ v. (if v then 1 else 0) + count_by p xs) is
+count-cons p x xs b is = grind (arith, common_steps, sum_by-cons)
 
 count-none : {X : Type 0} (p : X → Bool) (xs : List X) → All (λ x. p x ≡ false) xs → count_by p xs ≡ 0
 count-none p [] none = refl
@@ -68,11 +61,8 @@ count-step : {X : Type 0} (p : X → Bool) (x : X) (xs : List X) (b : Bool) → 
     → count_by p xs ≤ 1 → count_by p (x ∷ xs) ≤ 1
 count-step p x xs true is apart rest =
     let none = count-none p xs (none-behind p x xs apart is) in
-    let whole : count_by p (x ∷ xs) ≡ 1 = count-cons p x xs true is ∙ ap (λ n. 1 + n) none in
-    rw whole (omega arith)
-count-step p x xs false is apart rest =
-    let whole : count_by p (x ∷ xs) ≡ 0 + count_by p xs = count-cons p x xs false is in
-    rw whole (omega arith)
+    grind (arith, count-cons)
+count-step p x xs false is apart rest = grind (arith, count-cons)
 
 -- a test that no two elements pass is passed at most once
 count-le-one : {X : Type 0} (p : X → Bool) (xs : List X) → AllPairs (λ v w. p v ≡ true → p w ≡ true → ⊥) xs → count_by p xs ≤ 1
@@ -88,8 +78,7 @@ one-sender placed c slot well i j d before within = λ first second.
     let other = sender-of c slot q second in
     let same = one_instance placed well i j one.number other.number c p q (place-in placed i d (omega arith)) (place-in placed j d within)
     (one.of_slot ∙ sym other.of_slot) one.sends other.sends in
-    let equal = same.0 in
-    omega arith
+    grind arith
 
 -- before a row with an instance of a slot no other row has one
 pub fresh : (placed rows : List Placed) (c slot k : ℕ) (d : Placed) → IsWellPlaced placed → IsPermutation placed rows → k < length rows
@@ -110,18 +99,7 @@ fresh placed rows c slot k d well same within sends =
 -- an instance that is released in a cycle is one that its slot releases in it
 releases-test : (placed : List Placed) (p : Placed) (k c : ℕ) → IsInRange p → Contains placed p → MaySend p k c → release_of p k ≡ c
     → releases_in placed c p.entry.slot ≡ true
-releases-test placed p k c range stands sends release =
-    let some = range.entry.some_time in
-    let deadline = range.entry.deadline in
-    let exists : Exists p c = rw release at sends.exists in
-    let released = released_by-released p k c (omega arith) (record { release = release; exists = exists }) in
-    list_any-from_Any (λ q. nat_eq q.entry.slot p.entry.slot && is_some (released_by q c)) placed (
-      stands.0,
-      p,
-      stands.1,
-      stands.2,
-      and_from (nat_eq p.entry.slot p.entry.slot) (is_some (released_by p c)) (eq-eqb p.entry.slot p.entry.slot refl) (ap is_some released),
-    )
+releases-test placed p k c range stands sends release = grind (arith, released_by-released, list_any-from_Any, is_some, and_from, eq-eqb)
 
 pub record IsReleaser (placed : List Placed) (slot c : ℕ) : Type 0 where
   pub entry : Placed
@@ -134,42 +112,12 @@ pub record IsReleaser (placed : List Placed) (slot c : ℕ) : Type 0 where
 pub releaser-of : (placed : List Placed) (slot c : ℕ) → IsWellPlaced placed → releases_in placed c slot ≡ true → IsReleaser placed slot c
 releaser-of placed slot c well test =
     let any = Any-from_list_any (λ q. nat_eq q.entry.slot slot && is_some (released_by q c)) placed test in
-    let q = any.1 in
-    let parts = and_parts (nat_eq q.entry.slot slot) (is_some (released_by q c)) any.4 in
-    let number = some-number (released_by q c) parts.1 in
-    let released = IsReleasedIn-from_released_by q number.0 c number.1 in
-    let range : IsInRange q = rw any.3 at (well.in_range any.0 any.1 any.2) in
-    let some = range.entry.some_time in
-    let release = released.release in
-    record {
-      entry = q;
-      stands = (any.0, any.2, any.3);
-      of_slot = eqb-true q.entry.slot slot parts.0;
-      number = number.0;
-      released = released;
-      sends = record { exists = rw release released.exists; released = omega arith; in_time = omega arith };
-    }
+    grind (arith, and_parts, is_some, some-number, eqb-true)
 
 -- what an entry has to send is what its slot has to send
 pub due_in-of : (plan : Planning) (c : ℕ) (before : ℕ → Bool) (p : Placed) (due : Due) → IsWellPlaced plan.placed → Contains plan.placed p
     → IsPending plan.policy before c p due → IsDueIn plan c before due
-due_in-of plan c before p due well stands pending =
-    let range = All-contains IsInRange plan.placed p well.in_range stands in
-    let slot = pending.is.slot in
-    let known = range.entry.slot in
-    record {
-      known = omega arith;
-      pending = ap (pending_in plan.placed c before) slot
-          ∙ ⊎_elim
-          (λ (held : before p.entry.slot ≡ true). or_left (before p.entry.slot) (releases_in plan.placed c p.entry.slot) held)
-          (λ (now : nat_eq (release_of p pending.number) c ≡ true).
-          or_right (before p.entry.slot) (releases_in plan.placed c p.entry.slot)
-          (releases-test plan.placed p pending.number c range stands pending.sends (eqb-true (release_of p pending.number) c now)))
-          (or_cases (before p.entry.slot) (nat_eq (release_of p pending.number) c) pending.waiting);
-      instance = record { placed = p; number = pending.number };
-      found = ap (λ s. instance_in plan.placed s c) slot ∙ found-of plan.placed p pending.number c well stands pending.sends;
-      is = pending.is;
-    }
+due_in-of plan c before p due well stands pending = grind (arith, or_left, or_right, releases-test, eqb-true, or_cases, found-of)
 
 -- an entry whose instance is not pending is of a slot that has none pending
 pub none_pending : (plan : Planning) (c : ℕ) (before : ℕ → Bool) (p : Placed) (slot : ℕ) → IsWellPlaced plan.placed → Contains plan.placed p
@@ -202,41 +150,19 @@ pub record IsLineOf (plan : Planning) (c : ℕ) (before : ℕ → Bool) (rows : 
       → list_any (λ due. nat_eq due.slot slot) line ≡ true
 
 pub line_of-start : (plan : Planning) (c : ℕ) (before : ℕ → Bool) → IsLineOf plan c before [] []
-line_of-start plan c before = record {
-  each = All-nil (IsDueIn plan c before);
-  distinct = λ i j d before within. absurd (omega arith);
-  lined = λ i j d before within. absurd (omega arith);
-  sources = λ k d within. absurd (omega arith);
-  few = omega arith;
-  all = λ slot known pending sends. sends;
-}
+line_of-start plan c before = grind arith
 
 -- a row with nothing to send
 pub line_of-none : (plan : Planning) (c : ℕ) (before : ℕ → Bool) (rows : List Placed) (k : ℕ) (d : Placed) (line : List Due) → IsWellPlaced plan.placed
     → k < length rows → Contains plan.placed (get_or rows k d) → IsLineOf plan c before (take k rows) line
     → IsDueOf plan.policy before c (get_or rows k d) None → IsLineOf plan c before (take (k + 1) rows) line
-line_of-none plan c before rows k d line well within stands so_far none = record {
-  each = so_far.each;
-  distinct = so_far.distinct;
-  lined = so_far.lined;
-  sources = All-weaker (λ due. list_any (sends_of c due.slot) (take k rows) ≡ true) (λ due. list_any (sends_of c due.slot) (take (k + 1) rows) ≡ true)
-      (λ due found. list_any_kept (sends_of c due.slot) rows k found) line so_far.sources;
-  few = let few = so_far.few in omega (arith, length-take k rows, length-take (k + 1) rows);
-  all = λ slot known pending found.
-      ⊎_elim
-      (λ (earlier : list_any (sends_of c slot) (take k rows) ≡ true). so_far.all slot known pending earlier)
-      (λ (here : sends_of c slot (get_or rows k d) ≡ true).
-      absurd (both_ways (pending_in plan.placed c before slot) (none_pending plan c before (get_or rows k d) slot well stands none here) pending))
-      (or_cases (list_any (sends_of c slot) (take k rows)) (sends_of c slot (get_or rows k d))
-      (sym (list_any_more (sends_of c slot) rows k d within) ∙ found));
-}
+line_of-none plan c before rows k d line well within stands so_far none =
+    grind (arith, common_steps, list_any_kept, length-take, both_ways, none_pending, or_cases, list_any_more)
 
 -- a slot that the line has not got
 slots-apart : (c slot : ℕ) (rows : List Placed) (line : List Due) → list_any (sends_of c slot) rows ≡ false
     → All (λ due. list_any (sends_of c due.slot) rows ≡ true) line → All (λ due. slot ≢ due.slot) line
-slots-apart c slot rows line none sources =
-    All-weaker (λ due. list_any (sends_of c due.slot) rows ≡ true) (λ due. slot ≢ due.slot)
-    (λ due found same. both_ways (list_any (sends_of c slot) rows) none (ap (λ s. list_any (sends_of c s) rows) same ∙ found)) line sources
+slots-apart c slot rows line none sources = grind (arith, both_ways)
 
 pub room-for : (plan : Planning) (c : ℕ) (before : ℕ → Bool) (slot : ℕ) (line : List Due) → slot < most_slots → All (IsDueIn plan c before) line
     → AllPairs (λ one other. one.slot ≢ other.slot) line → All (λ due. slot ≢ due.slot) line → length line < most_slots
@@ -246,8 +172,7 @@ room-for plan c before slot line known each distinct apart =
     (All-map (λ x. x < most_slots) f line (All-weaker (IsDueIn plan c before) (λ due. due.slot < most_slots) (λ due is. is.known) line each)) in
     let different = pairs-cons (λ v w. v ≢ w) slot (map f line) (All-map (λ x. slot ≢ x) f line apart) (pairs-map (λ v w. v ≢ w) f line distinct) in
     let count = count-distinct (slot ∷ map f line) most_slots below different in
-    let size : length (map f line) ≡ length line = length-map line f in
-    omega arith
+    grind (arith, length-map)
 
 -- what a row with something to send adds to the line
 pub record IsMore (plan : Planning) (c : ℕ) (before : ℕ → Bool) (rows : List Placed) (k : ℕ) (d : Placed) (line : List Due) (due : Due) : Type 0 where
@@ -276,10 +201,7 @@ pub room-of : (plan : Planning) (c : ℕ) (before : ℕ → Bool) (rows : List P
     → (room < most_slots → length plan.placed ≤ room) → length line < room
 room-of plan c before rows k d line due room so_far more within same enough =
     ⊎_elim
-    (λ (less : room < most_slots).
-    let rows_fit = enough less in
-    let few = so_far.few in
-    omega (arith, length_permutation plan.placed rows same, length-take k rows))
+    (λ (less : room < most_slots). grind (arith, length_permutation, length-take))
     (λ (all : most_slots ≤ room).
     let slots_fit = room-for plan c before due.slot line more.in'.known so_far.each so_far.distinct more.apart in
     omega arith)
@@ -311,23 +233,8 @@ line_of-more plan c before rows k d line after due within so_far more put =
       sources = rw put.is
           (all-join (λ other. list_any (sends_of c other.slot) (take (k + 1) rows) ≡ true) front due back (rw put.was at sources)
           (next due.slot ∙ or_right (list_any (sends_of c due.slot) (take k rows)) (sends_of c due.slot (get_or rows k d)) more.sends));
-      few = let few = so_far.few in
-          omega
-          (arith, length-take k rows, length-take (k + 1) rows, length-append front back, length-append front (due ∷ back), ap length put.was, ap length put.is);
-      all = λ slot known pending found.
-          let p : Due → Bool = λ other. nat_eq other.slot slot in
-          let parts : list_any p after ≡ (list_any p front || list_any p (due ∷ back)) = ap (list_any p) put.is ∙ list_any-append p front (due ∷ back) in
-          ⊎_elim
-          (λ (earlier : list_any (sends_of c slot) (take k rows) ≡ true).
-          let whole = sym (list_any-append p front back) ∙ ap (list_any p) (sym put.was) ∙ so_far.all slot known pending earlier in
-          parts ∙ ⊎_elim
-          (λ (first : list_any p front ≡ true). or_left (list_any p front) (list_any p (due ∷ back)) first)
-          (λ (second : list_any p back ≡ true). or_right (list_any p front) (list_any p (due ∷ back)) (or_right (p due) (list_any p back) second))
-          (or_cases (list_any p front) (list_any p back) whole))
-          (λ (here : sends_of c slot (get_or rows k d) ≡ true).
-          let of_slot = eqb-true (get_or rows k d).entry.slot slot (and_parts (nat_eq (get_or rows k d).entry.slot slot) (is_some (instance_of (get_or rows k d) c)) here).0 in
-          parts ∙ or_right (list_any p front) (list_any p (due ∷ back)) (or_left (p due) (list_any p back) (eq-eqb due.slot slot (more.slot ∙ of_slot))))
-          (or_cases (list_any (sends_of c slot) (take k rows)) (sends_of c slot (get_or rows k d)) (sym (next slot) ∙ found));
+      few = grind (arith, common_steps, length-take, length-append);
+      all = grind (arith, list_any-append, or_left, or_right, or_cases, eqb-true, and_parts, is_some, eq-eqb);
     }
 
 -- each slot that is pending has an instance that may be sent
@@ -344,24 +251,12 @@ sends-pending plan c slot pending well valid waiting =
     (found.stands.0, i.placed, found.stands.1, found.stands.2, sends-test c slot i.placed i.number found.in_range found.of_slot found.sends))
     (λ (now : releases_in placed c slot ≡ true).
     let other = releaser-of placed slot c well now in
-    list_any-from_Any (sends_of c slot) placed (
-      other.stands.0,
-      other.entry,
-      other.stands.1,
-      other.stands.2,
-      sends-test c slot other.entry other.number (All-contains IsInRange placed other.entry well.in_range other.stands) other.of_slot other.sends,
-    ))
+    list_any-from_Any (sends_of c slot) placed (grind (arith, sends-test)))
     (or_cases (has_bit pending slot) (releases_in placed c slot) waiting)
 
 pub whole_line-of : (plan : Planning) (c : ℕ) (pending : ℕ) (rows : List Placed) (line : List Due) → IsWellPlaced plan.placed → IsPermutation plan.placed rows
     → IsValid plan.placed c pending → IsLineOf plan c (has_bit pending) rows line → IsWholeLine plan c (has_bit pending) line
-whole_line-of plan c pending rows line well same valid done = record {
-  each = done.each;
-  distinct = done.distinct;
-  lined = done.lined;
-  all = λ slot known waiting. done.all slot known waiting
-      (sym (list_any-IsPermutation (sends_of c slot) plan.placed rows same) ∙ sends-pending plan c slot pending well valid waiting);
-}
+whole_line-of plan c pending rows line well same valid done = grind (arith, list_any-IsPermutation, sends-pending)
 
 pub stands-in : (placed rows : List Placed) (k : ℕ) (d : Placed) → IsPermutation placed rows → k < length rows → Contains placed (get_or rows k d)
 stands-in placed rows k d same within = All-permutation (Contains placed) placed rows same (All-contains_itself placed) k d within

@@ -1,5 +1,6 @@
 -- With the filling `Skip` each instance of a line that still fits is planned.
-use Rattle.std.proofs.Common.{◌≡◌, ◌≢◌, ℕ, ◌+◌, ◌-◌, ◌<◌, ◌≤◌, ◌&&◌, ◌||◌, not, Bool, true, false, nat_eq, nat_le, if◌then◌else◌, List, [], ◌∷◌, ◌++◌, All, AllPairs, get_or, refl, sym, ap, ◌∙◌, ⊎_elim, arith}
+use Rattle.std.proofs.Common.{◌≡◌, ◌≢◌, ℕ, ◌+◌, ◌-◌, ◌<◌, ◌&&◌, ◌||◌, not, Bool, true, false, nat_eq, nat_le, if◌then◌else◌, List, [], ◌∷◌, ◌++◌, All, AllPairs, get_or, refl, sym, ap, ◌∙◌, ⊎_elim, arith}
+use Rattle.std.proofs.lemmas.Grind.{common_steps}
 use Rattle.std.specs.List.{list_any, sum_by}
 use Rattle.std.proofs.lemmas.Bool.{and_from, and_parts, both_ways, cases_Bool, eq-eqb, eqb-true, false_from_ne_true, le-leb, leb-true, or_cases, or_left, or_from}
 use Rattle.std.proofs.lemmas.List.Elements.{All-cons, All-contains, All-head, All-map, All-nil, All-tail, All-weaker}
@@ -34,19 +35,6 @@ left-fitting window x xs fits = ap (λ b. if b then left_of Skip (window - x.cos
 
 left-wide : (window : ℕ) (x : Due) (xs : List Due) → nat_le x.cost window ≡ false → left_of Skip window (x ∷ xs) ≡ x ∷ left_of Skip window xs
 left-wide window x xs wide = ap (λ b. if b then left_of Skip (window - x.cost) xs else x ∷ left_of Skip window xs) wide
-
--- what is taken fits the window
-pub cost-fits : (window : ℕ) (line : List Due) → cost_of (taken_of Skip window line) ≤ window
-cost-fits window [] = omega arith
-cost-fits window (x ∷ xs) =
-    ⊎_elim
-    (λ (fits : nat_le x.cost window ≡ true).
-    let less = leb-true x.cost window fits in
-    let rest = cost-fits (window - x.cost) xs in
-    let sum = sum_by-cons (λ (due : Due). due.cost) x (taken_of Skip (window - x.cost) xs) in
-    rw (taken-fitting window x xs fits) (omega arith))
-    (λ (wide : nat_le x.cost window ≡ false). rw (taken-wide window x xs wide) (cost-fits window xs))
-    (cases_Bool (nat_le x.cost window))
 
 -- what is taken and left of two lines, one behind the other
 pub taken-append : (window : ℕ) (xs ys : List Due)
@@ -156,12 +144,10 @@ left-rest slot window (x ∷ xs) distinct =
     (cases_Bool (nat_le x.cost window))
   where
     one-taken : (same all taken left : Bool) → left ≡ (all && not taken) → (same ≡ true → left ≡ false) → left ≡ ((same || all) && not (same || taken))
-    one-taken true all taken left is none = none refl
-    one-taken false all taken left is none = is
+    one-taken same all taken left is none = grind arith
 
     one-left : (same all taken left : Bool) → left ≡ (all && not taken) → (same ≡ true → taken ≡ false) → (same || left) ≡ ((same || all) && not taken)
-    one-left true all taken left is none = ap not (sym (none refl))
-    one-left false all taken left is none = is
+    one-left same all taken left is none = grind arith
 
 -- where the instance of a slot stands in a line
 record StandsAt (slot : ℕ) (line : List Due) : Type 0 where
@@ -215,12 +201,10 @@ module _ (plan : Planning) (c : ℕ) (before : ℕ → Bool) where
   parted a b true first second = ap (λ x. (a || x) && true) (sym (and-true b) ∙ second) ∙ or-none a
     where
       and-true : (x : Bool) → (x && true) ≡ x
-      and-true true = refl
-      and-true false = refl
+      and-true x = grind arith
 
       or-none : (x : Bool) → ((x || false) && true) ≡ x
-      or-none true = refl
-      or-none false = refl
+      or-none x = grind arith
   parted true b false first second = first
   parted false true false first second = refl
   parted false false false first second = refl
@@ -294,10 +278,7 @@ module _ (plan : Planning) (c : ℕ) (before : ℕ → Bool) where
           ∙ ap (λ b. b || list_any (has_slot due.slot) (taken_of Skip room (due ∷ back)))
           (none-of due.slot (taken_of Skip window front) (all-taken (λ other. due.slot ≢ other.slot) window front others))
           ∙ ⊎_elim
-          (λ (fits : nat_le due.cost room ≡ true).
-          ap (list_any (has_slot due.slot)) (taken-fitting room due back fits)
-          ∙ or_left (nat_eq due.slot due.slot) (list_any (has_slot due.slot) (taken_of Skip (room - due.cost) back)) (eq-eqb due.slot due.slot refl)
-          ∙ sym fits)
+          (λ (fits : nat_le due.cost room ≡ true). grind (arith, has_slot, taken-fitting, room, or_left, eq-eqb))
           (λ (wide : nat_le due.cost room ≡ false).
           ap (list_any (has_slot due.slot)) (taken-wide room due back wide)
           ∙ none-of due.slot (taken_of Skip room back) (all-taken (λ other. due.slot ≢ other.slot) room back (pairs-behind Apart front due back (rw is at whole.distinct)))
@@ -311,19 +292,7 @@ module _ (plan : Planning) (c : ℕ) (before : ℕ → Bool) where
 
       fits-is : fits_with plan.policy window plan.placed c (pending_in plan.placed c before) test due.slot ≡ nat_le due.cost room
       unfolding room
-      fits-is =
-          let w = width_in plan.placed c (λ other. test other && goes_before plan.policy plan.placed c other due.slot) in
-          let most = cost-fits window front in
-          let width = width-before in
-          let cost = cost-is plan c before due here in
-          ap (λ b. b && nat_le (worst_in plan.placed c due.slot + w) window) here.pending
-          ∙ same-test (nat_le (worst_in plan.placed c due.slot + w) window) (nat_le due.cost (window - cost_of (taken_of Skip window front)))
-          (λ fits.
-          let less = leb-true (worst_in plan.placed c due.slot + w) window fits in
-          le-leb due.cost (window - cost_of (taken_of Skip window front)) (omega arith))
-          (λ fits.
-          let less = leb-true due.cost (window - cost_of (taken_of Skip window front)) fits in
-          le-leb (worst_in plan.placed c due.slot + w) window (omega arith))
+      fits-is = grind (arith, width-before, cost-is, here, same-test, leb-true, le-leb)
 
     -- each slot is taken exactly where it fits with those taken before it
     takes : (slot : ℕ) → slot < most_slots → test slot ≡ fits_with plan.policy window plan.placed c (pending_in plan.placed c before) test slot
@@ -353,8 +322,5 @@ split-each plan c before line skip whole =
       each_left = all-left (IsDueIn plan c before) plan.window line whole.each;
       distinct = pairs-taken Apart plan.window line whole.distinct;
       planned = planned;
-      not_planned = λ slot known.
-          left-rest slot plan.window line whole.distinct
-          ∙ ap (λ b. b && not (list_any (has_slot slot) (taken_of Skip plan.window line))) (in-line plan c before plan.window line whole slot known)
-          ∙ ap (λ b. pending_in plan.placed c before slot && not b) (planned slot known);
+      not_planned = grind (arith, common_steps, left-rest, has_slot, in-line);
     }

@@ -1,9 +1,10 @@
 -- With the filling `Prefix` the first instances of a line are planned, as many as fit the window together.
-use Rattle.std.proofs.Common.{◌≡◌, ◌≢◌, ℕ, zero, suc, ◌+◌, ◌-◌, ◌<◌, ◌≤◌, Bool, true, false, nat_le, if◌then◌else◌, List, [], ◌∷◌, All, length, get_or, take, drop, refl, sym, ap, ◌∙◌, ⊎_elim, arith}
+use Rattle.std.proofs.Common.{◌≡◌, ◌≢◌, ℕ, zero, suc, ◌+◌, ◌-◌, ◌<◌, ◌≤◌, Bool, true, nat_le, List, [], ◌∷◌, All, length, take, drop, refl, sym, ap, ◌∙◌, ⊎_elim, arith}
+use Rattle.std.proofs.lemmas.Grind.{common_steps}
 use Rattle.std.specs.List.{list_any, sum_by}
 use Rattle.std.proofs.lemmas.Bool.{cases_lt, le-leb, lt-leb}
 use Rattle.std.proofs.lemmas.List.{length-map, take-map, take-take}
-use Rattle.std.proofs.lemmas.List.Elements.{All-contains, All-drop, All-map, All-take, All-weaker}
+use Rattle.std.proofs.lemmas.List.Elements.{All-contains, All-map, All-take, All-weaker}
 use Rattle.std.proofs.lemmas.List.Sums.{sum_by-cons, sum_by-take-le}
 use Rattle.bit_sets.specs.Sets.{most_slots}
 use Rattle.requirement_table.specs.Table.{worst_in}
@@ -22,8 +23,7 @@ order-is plan c before line whole = record {
   known = All-map (λ x. x < most_slots) slot_of line (All-weaker (IsDueIn plan c before) (λ due. due.slot < most_slots) (λ due is. is.known) line whole.each);
   distinct = pairs-map (λ v w. v ≢ w) slot_of line whole.distinct;
   in_order = pairs-map (λ v w. is_by plan.policy plan.placed c v w ≡ true) slot_of line
-      (λ i j d first within.
-      due_by-is plan c before (get_or line i d) (get_or line j d) (whole.each i d (omega arith)) (whole.each j d within) ∙ whole.lined i j d first within);
+      (λ i j d first within. grind (arith, due_by-is));
   pending = λ slot known. (
     λ waits. slots-contain slot line (whole.all slot known waits),
     λ contains.
@@ -50,7 +50,6 @@ front-is plan c before line n each fit =
           ⊎_elim
           (λ (more : n < m).
           let cost : Due → ℕ = λ due. due.cost in
-          let next = fit.next (omega arith) in
           let held : sum_by cost (take m line) ≤ plan.window = rw (sum-front plan c before line m each) at fits in
           let less : sum_by cost (take (n + 1) line) ≤ sum_by cost (take m line)
           = rw (← take-take (n + 1) m line (omega arith)) (sum_by-take-le cost (take m line) (n + 1)) in
@@ -64,10 +63,7 @@ planned-is : (plan : Planning) (c : ℕ) (before : ℕ → Bool) (line : List Du
     → IsLongestFit plan.window line n → slot < most_slots → list_any (has_slot slot) (take n line) ≡ planned_in plan c before slot
 planned-is plan c before line n slot prefix whole fit known =
     let iff = planned-iff plan c before (order_of line) n slot prefix (order-is plan c before line whole) (front-is plan c before line n whole.each fit) known in
-    let front : take n (order_of line) ≡ order_of (take n line) = take-map slot_of n line in
-    same-test (list_any (has_slot slot) (take n line)) (planned_in plan c before slot)
-    (λ found. iff.1 (rw front (slots-contain slot (take n line) found)))
-    (λ planned. contain-slots slot (take n line) (rw front at (iff.0 planned)))
+    grind (arith, order_of, take-map, slot_of, same-test, has_slot, slots-contain, contain-slots)
 
 order-drop : (n : ℕ) (xs : List Due) → drop n (order_of xs) ≡ order_of (drop n xs)
 order-drop zero xs = refl
@@ -78,48 +74,25 @@ left-is : (plan : Planning) (c : ℕ) (before : ℕ → Bool) (line : List Due) 
     → IsLongestFit plan.window line n → slot < most_slots → list_any (has_slot slot) (drop n line) ≡ left_after plan c before slot
 left-is plan c before line n slot prefix whole fit known =
     let iff = left-iff plan c before (order_of line) n slot prefix (order-is plan c before line whole) (front-is plan c before line n whole.each fit) known in
-    let back : drop n (order_of line) ≡ order_of (drop n line) = order-drop n line in
-    same-test (list_any (has_slot slot) (drop n line)) (left_after plan c before slot)
-    (λ found. iff.1 (rw back (slots-contain slot (drop n line) found)))
-    (λ left. contain-slots slot (drop n line) (rw back at (iff.0 left)))
+    grind (arith, order_of, order-drop, same-test, has_slot, slots-contain, contain-slots)
 
 -- the first ones are what the filling takes of the line, and the others what it leaves
 record IsCut (window : ℕ) (line : List Due) (n : ℕ) : Type 0 where
   taken : taken_of Prefix window line ≡ take n line
   left : left_of Prefix window line ≡ drop n line
 
-cut-none : (window : ℕ) (x : Due) (xs : List Due) → nat_le x.cost window ≡ false → IsCut window (x ∷ xs) 0
-cut-none window x xs wide = record {
-  taken = ap (λ b. if b then x ∷ taken_of Prefix (window - x.cost) xs else []) wide;
-  left = ap (λ b. if b then left_of Prefix (window - x.cost) xs else x ∷ xs) wide;
-}
-
 cut-more : (window n : ℕ) (x : Due) (xs : List Due) → nat_le x.cost window ≡ true → IsCut (window - x.cost) xs n → IsCut window (x ∷ xs) (suc n)
-cut-more window n x xs fits rest = record {
-  taken = ap (λ b. if b then x ∷ taken_of Prefix (window - x.cost) xs else []) fits ∙ ap (λ ys. x ∷ ys) rest.taken;
-  left = ap (λ b. if b then left_of Prefix (window - x.cost) xs else x ∷ xs) fits ∙ rest.left;
-}
+cut-more window n x xs fits rest = grind arith
 
 cut-at : (window n : ℕ) (line : List Due) → IsLongestFit window line n → IsCut window line n
 cut-at window zero [] fit = record { taken = refl; left = refl }
 cut-at window (suc n) [] fit = absurd (let within = fit.within in omega arith)
-cut-at window zero (x ∷ xs) fit =
-    let next = fit.next (omega arith) in
-    let one : sum_by (λ due. due.cost) (take 1 (x ∷ xs)) ≡ x.cost + 0 = sum_by-cons (λ (due : Due). due.cost) x [] in
-    cut-none window x xs (lt-leb x.cost window (omega arith))
+cut-at window zero (x ∷ xs) fit = grind (arith, sum_by-cons, lt-leb)
 cut-at window (suc n) (x ∷ xs) fit =
-    let within = fit.within in
-    let fits = fit.fits in
-    let next = fit.next in
     let here = sum_by-cons (λ (due : Due). due.cost) x (take n xs) in
     let more = sum_by-cons (λ (due : Due). due.cost) x (take (n + 1) xs) in
-    let at : suc n + 1 ≡ suc (n + 1) = omega arith in
     cut-more window n x xs (le-leb x.cost window (omega arith))
-    (cut-at (window - x.cost) n xs (record {
-      within = omega arith;
-      fits = omega arith;
-      next = λ less. let wide = rw at at (next (omega arith)) in omega arith;
-    }))
+    (cut-at (window - x.cost) n xs (grind arith))
 
 -- there are such first ones
 record HasFit (window : ℕ) (line : List Due) : Type 0 where
@@ -129,15 +102,12 @@ record HasFit (window : ℕ) (line : List Due) : Type 0 where
 fit-of : (window : ℕ) (line : List Due) → HasFit window line
 fit-of window [] = record { number = 0; fit = record { within = omega arith; fits = omega arith; next = λ less. absurd (omega arith) } }
 fit-of window (x ∷ xs) =
-    let one = sum_by-cons (λ (due : Due). due.cost) x [] in
     ⊎_elim
-    (λ (wide : window < x.cost).
-    record { number = 0; fit = record { within = omega arith; fits = omega arith; next = λ less. omega (arith, one) } })
+    (λ (wide : window < x.cost). grind arith)
     (λ (fits : x.cost ≤ window).
     let rest = fit-of (window - x.cost) xs in
     let n = rest.number in
     let within = rest.fit.within in
-    let rest_fits = rest.fit.fits in
     let next = rest.fit.next in
     let here = sum_by-cons (λ (due : Due). due.cost) x (take n xs) in
     let more = sum_by-cons (λ (due : Due). due.cost) x (take (n + 1) xs) in
@@ -155,13 +125,7 @@ split-front plan c before line prefix whole =
     let n = has.number in
     let cut = cut-at plan.window n line has.fit in
     let split : IsSplit plan c before (take n line) (drop n line)
-    = record {
-      each_taken = All-take (IsDueIn plan c before) n line whole.each;
-      each_left = All-drop (IsDueIn plan c before) n line whole.each;
-      distinct = pairs-take (λ one other. one.slot ≢ other.slot) n line whole.distinct;
-      planned = λ slot known. planned-is plan c before line n slot prefix whole has.fit known;
-      not_planned = λ slot known. left-is plan c before line n slot prefix whole has.fit known;
-    } in
+    = grind (arith, common_steps, pairs-take, planned-is, left-is) in
     rw (cut.taken, cut.left) split
 
 -- what the filling takes of a line, where so many of its first ones are the longest front that fits

@@ -35,8 +35,7 @@ use Rattle.poll_run.proofs.Openings.{opening-at}
 
 taken-too : (carried other : ℕ → Option ℕ) (cycle place : ℕ) → ((k : ℕ) → k < cycle → carried k ≡ other k) → IsTakenBefore carried cycle place
     → IsTakenBefore other cycle place
-taken-too carried other cycle place same taken =
-    record { release = taken.release; earlier = taken.earlier; took = sym (same taken.release taken.earlier) ∙ taken.took }
+taken-too carried other cycle place same taken = grind arith
 
 takes-too : (layout_cycle : ℕ) (streams : List Stream) (slot : ℕ) (carried other : ℕ → Option ℕ) (cycle n place : ℕ)
     → ((k : ℕ) → k < cycle → carried k ≡ other k)
@@ -53,9 +52,7 @@ takes-too layout_cycle streams slot carried other cycle n place same takes = rec
 }
 
 same-option : (one other : Option ℕ) → ((x : ℕ) → one ≡ Some x → other ≡ Some x) → ((x : ℕ) → other ≡ Some x → one ≡ Some x) → one ≡ other
-same-option None None there back = refl
-same-option None (Some y) there back = back y refl
-same-option (Some x) other there back = sym (there x refl)
+same-option one other there back = grind arith
 
 module _ (layout_cycle : ℕ) (streams : List Stream) (slot : ℕ) (lengths others carried again : ℕ → Option ℕ)
     (ride : IsRide layout_cycle streams slot lengths carried) (other : IsRide layout_cycle streams slot others again) where
@@ -80,19 +77,12 @@ module _ (streams : List Stream) (carried again : ℕ → ℕ → Option ℕ) (m
     (same : (slot cycle : ℕ) → slot < most_slots → cycle < most → carried slot cycle ≡ again slot cycle) where
   bytes-too : (i : Instance) → i.placed.entry.slot < most_slots → release_of i.placed i.number < most
       → polled_bytes streams carried i ≡ polled_bytes streams again i
-  bytes-too i known early =
-      let slot : ℕ = i.placed.entry.slot in
-      let n : ℕ = i.placed.entry.length in
-      ap (λ (o : Option ℕ). cond (is_polled streams slot) (bytes_with n (option_and_then (payload_at streams n) o)) (bytes_of i))
-      (same slot (release_of i.placed i.number) known early)
+  bytes-too i known early = grind (arith, option_and_then)
 
   sent-too : (placed : List Placed) (slot cycle : ℕ) (o : Option Instance) → slot < most_slots → cycle < most
       → IfSome o (λ i. Contains placed i.placed × (i.placed.entry.slot ≡ slot) × MaySend i.placed i.number cycle)
       → option_map (polled_bytes streams carried) o ≡ option_map (polled_bytes streams again) o
-  sent-too placed slot cycle None known early is = refl
-  sent-too placed slot cycle (Some i) known early is =
-      let released = is.2.released in
-      ap Some (bytes-too i (subst (λ (n : ℕ). n < most_slots) (sym is.1) known) (omega (arith, early, released)))
+  sent-too placed slot cycle o known early is = grind (arith, bytes-too)
 
 -- what laws of the crates below say
 pub record BegunLaws : Type 0 where
@@ -114,8 +104,7 @@ pub record BegunLaws : Type 0 where
 pub begun-history : BegunLaws → (system : System) (steps : List Step) (streams : List Stream) (history whole : List Event) (carried again : ℕ → ℕ → Option ℕ)
     (trace frames : List TimedFrame) → IsPolledBegun system steps streams history carried trace → IsPolledRun system steps streams whole again frames
     → (rest : List Event) × (whole ≡ history ++ rest)
-begun-history laws system steps streams history whole carried again trace frames begun run =
-    laws.events system.rules history whole begun.later begun.polled.plain run.polled.plain (begun.answers ∙ sym run.answers)
+begun-history laws system steps streams history whole carried again trace frames begun run = grind arith
 
 module _ (laws : BegunLaws) (system : System) (steps : List Step) (streams : List Stream) (history whole : List Event) (carried again : ℕ → ℕ → Option ℕ)
     (trace frames : List TimedFrame) (begun : IsPolledBegun system steps streams history carried trace) (run : IsPolledRun system steps streams whole again frames)
@@ -157,20 +146,11 @@ module _ (laws : BegunLaws) (system : System) (steps : List Step) (streams : Lis
   begun-can_trace : IsCanTrace setting.sends system.layout [] (openings_of history) (next_of history) trace
   begun-can_trace =
       same-trace (polled_bytes streams carried) setting.sends system.layout (openings_of history) (next_of history) trace
-      (λ k d within slot known.
-      let o : Opening = get_or (openings_of history) k d in
-      sent-too streams carried again (next_of history) begun-rides o.placed slot o.cycle (instance_in o.placed slot o.cycle) known
-      (number-below (λ x. x.cycle) (openings_of history) (next_of history) in_order k d within)
-      (laws.sound o.placed slot o.cycle))
+      (λ k d within slot known. grind (arith, sent-too, begun-rides, number-below, in_order))
       begun.polled.kept.can_trace
 
   pub known-setting : IsSystem system → IsSetting setting
-  known-setting is = record {
-    known = is.layout;
-    same_window = is.same_window;
-    same_slots = is.same_slots;
-    asynchronous = All-nil (λ request. (0x200 ≤ request.frame.identifier) × (request.frame.identifier ≤ 0x7EF));
-  }
+  known-setting is = grind arith
 
   -- both runs are under way in it
   pub begun-under_way : IsSystem system → IsUnderWay setting history trace

@@ -15,17 +15,12 @@ first-of : (one other : Call) → one ∷ [] ≡ other ∷ [] → one ≡ other
 first-of one other same = cc
 
 is-closed : (event : Event) (caller : ℕ) (act : Act) → call_of event ≡ asked caller act → is_open event ≡ false
-is-closed (Submit caller change from verdict trail) by act answers = refl
-is-closed (Look caller next) by act answers = refl
-is-closed (Open cycle mask) by act answers = absurd (cc)
+is-closed event by act answers = grind arith
 
 -- an answer to an operator opens no cycle
 pub closed-by : (own new : List Event) (event : Event) (caller : ℕ) (act : Act) → new ≡ own ++ event ∷ []
     → map call_of new ≡ map call_of own ++ asked caller act ∷ [] → is_open event ≡ false
-closed-by own new event caller act history answered =
-    is-closed event caller act (first-of (call_of event) (asked caller act)
-    (append_cancel_left (map call_of own) (call_of event ∷ []) (asked caller act ∷ [])
-    (sym (map-append call_of own (event ∷ [])) ∙ sym (ap (map call_of) history) ∙ answered)))
+closed-by own new event caller act history answered = grind (arith, is-closed, first-of, append_cancel_left, map-append)
 
 pub last-event : (d : Event) (own now : List Event) (event last : Event) → now ≡ own ++ event ∷ [] → last ≡ get_or now (length now - 1) d
     → last ≡ event
@@ -36,15 +31,12 @@ last-event d own now event last same is =
     ∙ get_or-append_seam own event [] d
 
 and-true : (b : Bool) → (b && true) ≡ b
-and-true true = refl
-and-true false = refl
+and-true b = grind arith
 
 -- whether each change was accepted, with one event more
 pub quiet-push : (own : List Event) (event : Event) (quiet : Bool) → quiet ≡ all_accepted own
     → (quiet && refuses_nothing event) ≡ all_accepted (own ++ event ∷ [])
-quiet-push own event quiet is =
-    ap (λ (b : Bool). b && refuses_nothing event) is ∙ ap (λ (b : Bool). all_accepted own && b) (sym (and-true (refuses_nothing event)))
-    ∙ sym (list_all-append refuses_nothing own (event ∷ []))
+quiet-push own event quiet is = grind (arith, and-true, list_all-append)
 
 pub quiet-opened : (own : List Event) (cycle mask : ℕ) (quiet : Bool) → quiet ≡ all_accepted own → quiet ≡ all_accepted (own ++ Open cycle mask ∷ [])
 quiet-opened own cycle mask quiet is = sym (and-true quiet) ∙ quiet-push own (Open cycle mask) quiet is

@@ -56,8 +56,7 @@ pub record RideLaws : Type 0 where
 
 -- a setting in its ranges is so whatever its instances carry
 pub known-polled : (setting : Setting) (streams : List Stream) (carried : ℕ → ℕ → Option ℕ) → IsSetting setting → IsSetting (polled_setting setting streams carried)
-known-polled setting streams carried is =
-    record { known = is.known; same_window = is.same_window; same_slots = is.same_slots; asynchronous = is.asynchronous }
+known-polled setting streams carried is = grind arith
 
 -- what instances take by *Ride*
 abbrev pub some_rides : ℕ → List Stream → List Opening → ℕ → ℕ → Option ℕ
@@ -166,12 +165,7 @@ module _ (laws : CycleLaws) (setting : Setting) (streams : List Stream) (history
   At lengths carried o = AreRidesAt E streams o lengths carried
 
   plain-cycle : IsPlainCycle setting.layout opening plain
-  plain-cycle = record {
-    past = plain_trace;
-    before = subst (λ (n : ℕ). All (λ sent. sent.start < n * E) plain_trace) (sym parts.1) opened.before;
-    fits = laws.fits setting history cycle mask opened.known opened.legal;
-    follows = subst (λ (requests : List Request). Follows (offered_in bytes_of setting.layout requests opening) plain_trace (cycle * E) ((cycle + 1) * E) plain) opened.none opened.follows;
-  }
+  plain-cycle = grind (arith, parts, opened)
 
   openings-now : openings_of after ≡ openings_of history ++ opening ∷ []
   openings-now = openings-push history (Open cycle mask)
@@ -225,8 +219,7 @@ module _ (laws : CycleLaws) (setting : Setting) (streams : List Stream) (history
   begins = laws.begin (polled_bytes streams some-run.0) setting.layout opening frames opened.known.known (laws.fits setting history cycle mask opened.known opened.legal) some-run.1
 
   pub rows-on : events_rows (trace ++ frames) [] after ≡ events_rows trace [] history ++ rows_of_event (Open cycle mask) frames
-  rows-on = laws.rows setting.rules trace frames history cycle mask parts.0 opened.triggers parts.1 begins
-      (laws.width (polled_bytes streams some-run.0) setting.layout opening frames some-run.1)
+  rows-on = grind (arith, parts, opened, begins, some-run)
 
   pub triggers-on : triggers_in (trace ++ frames) ≡ next_of after
   triggers-on = laws.counted trace frames cycle mask begins ∙ ap (λ (n : ℕ). n + 1) (opened.triggers ∙ sym parts.1) ∙ sym next-now
@@ -259,32 +252,13 @@ module _ (laws : CycleLaws) (run : Polled) (between : Bus) (after : Polled) (cyc
     at-next = count ∙ ap next_of still.same ∙ sym (right-last setting.rules history (Open next.cycle next.mask) legal-now).1.0
 
     same-now : SameIn cycle placed (placed_of history)
-    same-now =
-        subst (λ (h : List Event). SameIn cycle placed (placed_of h)) still.same
-        (stands-now cycle (placed_of between.master.history) placed
-        (subst (λ (n : ℕ). StandsFor n (placed_of between.master.history) placed) (sym count) stands))
+    same-now = grind (arith, stands-now)
 
     carries-on : Carries setting.layout streams next.cycle (placed_of history) after.bus.segment after.frames.items run.rides after.rides
-    carries-on =
-        subst (λ (n : ℕ). Carries setting.layout streams n (placed_of history) after.bus.segment after.frames.items run.rides after.rides) at-next
-        (subst (λ (s : List Stream). Carries setting.layout s cycle (placed_of history) after.bus.segment after.frames.items run.rides after.rides) is.same_streams
-        (subst (λ (l : CycleLayout). Carries l run.rides.queued.streams cycle (placed_of history) after.bus.segment after.frames.items run.rides after.rides) is.same_layout
-        (carries-same run.layout run.rides.queued.streams cycle placed (placed_of history) after.bus.segment after.frames.items run.rides after.rides same-now carries)))
+    carries-on = grind (arith, at-next, carries-same, same-now)
 
     opened : IsOpened setting streams history next.cycle next.mask trace is.plain_trace after.bus.segment after.frames.items run.rides after.rides
-    opened = record {
-      known = is.going.way.known;
-      none = is.no_requests;
-      legal = legal-now;
-      before = is.going.way.under_way.can_trace.within;
-      follows = subst (λ (h : List Event). Follows (offered_in bytes_of setting.layout setting.requests (record { cycle = next.cycle; mask = next.mask; placed = placed_of h }))
-          is.plain_trace (next.cycle * setting.layout.cycle) ((next.cycle + 1) * setting.layout.cycle) after.bus.segment) still.same next.follows;
-      carries = carries-on;
-      under_way = is.under_way;
-      ridden = is.ridden;
-      are = is.fates;
-      triggers = is.triggers;
-    }
+    opened = grind (arith, going, way, legal-now, next, carries-on)
 
     abbrev frames : List TimedFrame
     frames = after.frames.items
@@ -317,8 +291,7 @@ module _ (laws : CycleLaws) (run : Polled) (between : Bus) (after : Polled) (cyc
                 (rode-on laws setting streams history next.cycle next.mask trace is.plain_trace after.bus.segment frames run.rides after.rides opened);
             fates = subst (λ (h : List Event). SoFar setting streams h (λ carried. AreFates streams (openings_of h) carried after.rides.fates)) back
                 (fates-on laws setting streams history next.cycle next.mask trace is.plain_trace after.bus.segment frames run.rides after.rides opened);
-            triggers = triggers-on laws setting streams history next.cycle next.mask trace is.plain_trace after.bus.segment frames run.rides after.rides opened
-                ∙ ap next_of back;
+            triggers = grind (arith, triggers-on, next, opened);
             room = omega (arith, room, capacity);
             quiet = quiet ∙ quiet-opened history next.cycle next.mask run.quiet is.quiet ∙ ap all_accepted back;
           };
@@ -391,8 +364,7 @@ answered-on laws setting streams trace run after caller act brings calls layout 
         room = subst (λ v. 2128 ≤ vec_capacity v) (sym frames) is.room;
         quiet = quiet event on.history ∙ quiet-push own event run.quiet is.quiet ∙ ap all_accepted back;
       };
-      rows = ap (events_rows (trace ++ []) []) on.history
-          ∙ subst (λ (l : List TimedFrame). events_rows l [] whole ≡ events_rows trace [] own ++ rows_of_event event []) same (laws.rows trace own event closed);
+      rows = grind arith;
     }
 
 -- a run of no calls yet
@@ -410,8 +382,7 @@ begins-polled setting streams run going empty none layout same_streams slots way
       same_layout = layout;
       same_streams = same_streams;
       all_slots = slots;
-      under_way = subst (λ (h : List Event). SoFar setting streams h (λ carried. IsUnderWay (polled_setting setting streams carried) h [])) back
-          (λ lengths carried all. way carried);
+      under_way = grind (arith, way);
       ridden = subst (λ (h : List Event). SoFar setting streams h (λ carried. HaveRidden carried (next_of h) run.rides)) back (λ lengths carried all. fresh carried);
       fates = subst (λ (h : List Event). SoFar setting streams h (λ carried. AreFates streams (openings_of h) carried run.rides.fates)) back
           (λ lengths carried all. are carried);
@@ -432,8 +403,7 @@ polls-on run after frames calls polls = λ on whole trace is.
       ends = record { before = run.bus.master.history; is = brought.history };
       answers = ap (map call_of) (sym history) ∙ brought.answers ∙ ap (λ (h : List Event). map call_of h ++ calls) is.history_is;
       goes = record { history_is = history; is_polled = brought.polled };
-      rows = ap (events_rows (trace ++ frames) []) (sym history) ∙ brought.rows
-          ∙ ap (λ (h : List Event). events_rows trace [] h ++ rows_of_event brought.event frames) is.history_is;
+      rows = grind (arith, brought);
     }
 
 -- a run in some setting can poll

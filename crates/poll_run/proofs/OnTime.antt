@@ -37,8 +37,7 @@ some-or_none (Some x) = inl (x, refl)
 -- an instance that is released before the origin of a later entry of its slot is sent before that, too
 ends-before : (end : Option ℕ) (release deadline origin : ℕ) → 1 ≤ deadline → IfSome end (λ e. release < e)
     → IsSomeAnd (option_map (λ e. e + deadline - 1) end) (λ from. from ≤ origin) → release + deadline ≤ origin
-ends-before None release deadline origin some there free = absurd free
-ends-before (Some e) release deadline origin some there free = omega arith
+ends-before end release deadline origin some there free = grind arith
 
 -- an element stands at a place
 place-of : {X : Type 0} (xs : List X) (x : X) → Contains xs x → (k : ℕ) × (slice_get xs k ≡ Some x)
@@ -46,9 +45,7 @@ place-of xs x (k, within, is) = (k, slice_get-get_or xs k x within ∙ ap (λ y.
 
 in-order : (placed : List Placed) (i j : ℕ) (p q : Placed) → IsWellPlaced placed → i < j → slice_get placed i ≡ Some p → slice_get placed j ≡ Some q
     → GoesBefore p q
-in-order placed i j p q well before at_i at_j =
-    let pair : GoesBefore (get_or placed i p) (get_or placed j p) = well.in_order i j p before (slice_get_within placed j q at_j) in
-    rw (get_or_from_slice_get placed i p p at_i, get_or_from_slice_get placed j q p at_j) at pair
+in-order placed i j p q well before at_i at_j = grind (arith, slice_get_within, get_or_from_slice_get)
 
 -- two entries of a well placed list are one, or one stands before the other
 one-before : (placed : List Placed) (p q : Placed) → IsWellPlaced placed → Contains placed p → Contains placed q
@@ -82,13 +79,7 @@ module _ (laws : TimeLaws) (layout_cycle : ℕ) (streams : List Stream) (placed 
     lengths_are : lengths cycle ≡ Some p.entry.length
 
   release-at : (cycle : ℕ) → cycle < next → lengths_by p cycle ≡ Some p.entry.length → IsReleaseOf cycle
-  release-at cycle early has = elim (some-or_none (released_by p cycle)) [
-    | inl some ↦
-        let deadline = range.entry.deadline in
-        let released = laws.released p some.0 cycle range.entry.some_time deadline some.1 in
-        record { number = some.0; released = released; lengths_are = same cycle early ∙ laws.complete placed p some.0 cycle well stands released }
-    | inr none ↦ absurd (none-some p.entry.length (sym (ap (option_map (λ k. p.entry.length)) none) ∙ has))
-  ]
+  release-at cycle early has = grind (arith, early, some-or_none, range, none-some, option_map)
 
   -- premises about the entry's instances are premises about the slot's
   module _ (place : ℕ) (request : Stream)
@@ -194,9 +185,7 @@ module _ (laws : TimeLaws) (layout_cycle : ℕ) (streams : List Stream) (placed 
         elim (one-before placed p q well stands there) [
           | inl at ↦ let equal : p.entry.deadline ≡ q.entry.deadline = ap (λ x. x.entry.deadline) at in omega arith
           | inr apart ↦ elim apart [
-            | inl before ↦ absurd (
-                let gone = ends-before p.end span.release p.entry.deadline q.origin some mine.exists (before (sym its)) in
-                omega arith)
+            | inl before ↦ absurd (grind (arith, ends-before))
             | inr behind ↦
                 let gone = ends-before q.end carry.release q.entry.deadline p.origin q_some released.exists (behind its) in
                 omega arith

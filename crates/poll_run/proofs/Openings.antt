@@ -16,13 +16,10 @@ pub openings-push : (history : List Event) (event : Event) → openings_of (hist
 openings-push history event = openings_of-append history (event ∷ []) ∙ ap (λ l. openings_of history ++ l) (append-nil (opening_of history event))
 
 opens-nothing : (history : List Event) (event : Event) → is_open event ≡ false → opening_of history event ≡ []
-opens-nothing history (Submit caller change from verdict trail) none = refl
-opens-nothing history (Look caller next) none = refl
-opens-nothing history (Open cycle mask) none = absurd (cc)
+opens-nothing history event none = grind arith
 
 pub openings-closed : (history : List Event) (event : Event) → is_open event ≡ false → openings_of (history ++ event ∷ []) ≡ openings_of history
-openings-closed history event none =
-    openings-push history event ∙ ap (λ l. openings_of history ++ l) (opens-nothing history event none) ∙ append-nil (openings_of history)
+openings-closed history event none = grind (arith, openings-push, opens-nothing, append-nil)
 
 -- the last event of a legal history is right
 pub right-last : (rules : Rules) (history : List Event) (event : Event) → IsLegal rules (history ++ event ∷ []) → IsLegal rules history × IsRight rules history event

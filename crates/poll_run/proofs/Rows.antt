@@ -9,16 +9,8 @@ use Rattle.poll_run.specs.RequestRows.{request_row, request_rows}
 pub rows-at : (number : ℕ) (streams : List Stream) (fates : List Fate) (i : ℕ) (stream : Stream) (fate e : Fate) → i < length streams → length fates ≡ length streams
     → get_or streams i stream ≡ stream → get_or fates i e ≡ fate
     → request_rows number (drop i streams) (drop i fates) ≡ request_row number stream fate ++ request_rows (number + 1) (drop (i + 1) streams) (drop (i + 1) fates)
-rows-at number streams fates i stream fate e within each is became =
-    let next : i + 1 ≡ suc i = omega arith in
-    ap (λ l. request_rows number l (drop i fates)) (drop-cons streams i stream within)
-    ∙ ap (request_rows number (get_or streams i stream ∷ drop (suc i) streams)) (drop-cons fates i e (omega (arith, within, each)))
-    ∙ ap (λ s. request_row number s (get_or fates i e) ++ request_rows (number + 1) (drop (suc i) streams) (drop (suc i) fates)) is
-    ∙ ap (λ f. request_row number stream f ++ request_rows (number + 1) (drop (suc i) streams) (drop (suc i) fates)) became
-    ∙ ap (λ n. request_row number stream fate ++ request_rows (number + 1) (drop n streams) (drop n fates)) (sym next)
+rows-at number streams fates i stream fate e within each is became = grind (arith, drop-cons)
 
 -- the parts of a row, one behind the other
 pub in-a_row : (w a c b d e n : List ℕ) → w ++ (a ++ (c ++ (b ++ (c ++ (d ++ (c ++ (e ++ n))))))) ≡ w ++ a ++ c ++ b ++ c ++ d ++ c ++ e ++ n
-in-a_row w a c b d e n =
-    sym (append_assoc w a _) ∙ sym (append_assoc (w ++ a) c _) ∙ sym (append_assoc (w ++ a ++ c) b _) ∙ sym (append_assoc (w ++ a ++ c ++ b) c _)
-    ∙ sym (append_assoc (w ++ a ++ c ++ b ++ c) d _) ∙ sym (append_assoc (w ++ a ++ c ++ b ++ c ++ d) c _) ∙ sym (append_assoc (w ++ a ++ c ++ b ++ c ++ d ++ c) e n)
+in-a_row w a c b d e n = grind (arith, append_assoc)

@@ -32,8 +32,7 @@ use Rattle.poll_run.proofs.Openings.{opening-at}
 -- The lengths of a slot's releases are those of the final list
 
 without : (cycle : ℕ) (o : Option Instance) → option_and_then (length_at cycle) (option_map without_end o) ≡ option_and_then (length_at cycle) o
-without cycle None = refl
-without cycle (Some i) = refl
+without cycle o = grind arith
 
 same-length : (cycle : ℕ) (one other : Option Instance) → option_map without_end one ≡ option_map without_end other
     → option_and_then (length_at cycle) one ≡ option_and_then (length_at cycle) other
@@ -72,14 +71,7 @@ module _ (laws : HistoryLaws) (system : System) (streams : List Stream) (history
   bytes-of : (q : Placed) (k place : ℕ) (request : Stream) → slice_get streams place ≡ Some request → request.slot ≡ q.entry.slot
       → carried q.entry.slot (release_of q k) ≡ Some place → length request.payload < q.entry.length
       → polled_bytes streams carried (record { placed = q; number = k }) ≡ bytes_with q.entry.length (Some request.payload)
-  bytes-of q k place request at its took short =
-      let polled : is_polled streams q.entry.slot ≡ true =
-      any_passes_from_place (λ (s : Stream). nat_eq s.slot q.entry.slot) streams place request at (eq-eqb request.slot q.entry.slot its) in
-      let payload : payload_taken streams carried (record { placed = q; number = k }) ≡ Some request.payload =
-      ap (option_and_then (λ (n : ℕ). option_and_then (payload_of q.entry.length) (slice_get streams n))) took
-      ∙ ap (option_and_then (payload_of q.entry.length)) at
-      ∙ cond-true (nat_lt (length request.payload) q.entry.length) (Some request.payload) None (lt-ltb (length request.payload) q.entry.length short) in
-      cond-true (is_polled streams q.entry.slot) _ _ polled ∙ ap (bytes_with q.entry.length) payload
+  bytes-of q k place request at its took short = grind (arith, any_passes_from_place, eq-eqb, option_and_then, cond-true, nat_lt, lt-ltb)
 
   module _ (p : Placed) (place : ℕ) (request : Stream) (stands : Contains (placed_of history) p) (may : MayRide system.layout streams (next_of history) p place request) where
     well : IsWellPlaced (placed_of history)
@@ -93,8 +85,7 @@ module _ (laws : HistoryLaws) (system : System) (streams : List Stream) (history
 
     carries : IsCarrier laws.times E streams (placed_of history) (next_of history) lengths (carried p.entry.slot) well p stands
         (λ cycle early. lengths-are p.entry.slot cycle known early) (is.rides p.entry.slot known) place request may.polled may.run
-    carries = carrier laws.times E streams (placed_of history) (next_of history) lengths (carried p.entry.slot) well p stands
-        (λ cycle early. lengths-are p.entry.slot cycle known early) (is.rides p.entry.slot known) place request may.polled may.run
+    carries = grind (arith, carrier, well, lengths-are, known)
 
     abbrev q : Placed
     q = carries.entry
@@ -106,11 +97,7 @@ module _ (laws : HistoryLaws) (system : System) (streams : List Stream) (history
     last = release + q.entry.deadline - 1
 
     served : IsServed (polled_bytes streams carried) system.layout (openings_of history) trace q carries.number last
-    served =
-        let some = carries.some_time in
-        let by = carries.last in
-        let run = may.run in
-        is.kept.served q carries.number last carries.there carries.exists (omega (arith, some)) (omega (arith, some, by, run))
+    served = grind (arith, carries)
 
     abbrev of : TimedFrame → Bool
     of sent = eqb sent.frame.identifier (first_identifier + q.entry.slot) && (leb release (cycle_of system.layout sent) && leb (cycle_of system.layout sent) last)
@@ -144,8 +131,7 @@ module _ (laws : HistoryLaws) (system : System) (streams : List Stream) (history
           last = last;
           is_last = omega (arith, some);
           served = served;
-          carries = served.carries
-              ∙ bytes-of q carries.number place request may.polled.stands.at (may.polled.stands.its_slot ∙ sym its) took carries.short;
+          carries = grind (arith, served, carries, bytes-of);
           behind = omega (arith, after, from);
           by = omega (arith, until, by, some);
         }

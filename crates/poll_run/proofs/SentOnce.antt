@@ -29,16 +29,14 @@ its_release i = release_of i.placed i.number
 
 -- it is the same with an end and without
 without : (o : Option Instance) → option_map its_release (option_map without_end o) ≡ option_map its_release o
-without None = refl
-without (Some i) = refl
+without o = grind arith
 
 same-release : (one other : Option Instance) → option_map without_end one ≡ option_map without_end other
     → option_map its_release one ≡ option_map its_release other
 same-release one other same = sym (without one) ∙ ap (option_map its_release) same ∙ without other
 
 of-release : (o : Option Instance) (release : ℕ) → option_map its_release o ≡ Some release → (i : Instance) × (o ≡ Some i) × (its_release i ≡ release)
-of-release None release is = absurd (cc)
-of-release (Some i) release is = (i, refl, same_Some (its_release i) release is)
+of-release o release is = grind (arith, same_Some)
 
 -- what laws of the crates below say of a history, of plans, and of *Ride*
 pub record OnceLaws : Type 0 where
@@ -73,11 +71,7 @@ module _ (laws : OnceLaws) (rules : Rules) (history : List Event) (legal : IsLeg
   well = laws.well_placed rules history legal
 
   mask-flags : (c slot : ℕ) → slot < most_slots → has_bit (mask_at plan c) slot ≡ flags c slot
-  mask-flags c slot known =
-      let same : c ≡ c - 0 = omega arith in
-      has_bit-set_of most_slots (planned_at plan c) slot
-      ∙ ap (λ (b : Bool). b && planned_at plan c slot) (lt-ltb slot most_slots known)
-      ∙ ap (λ (n : ℕ). planned_at plan n slot) same
+  mask-flags c slot known = grind (arith, has_bit-set_of, lt-ltb)
 
   good : (n m : ℕ) → m < n → IsGoodCycle placed flags 0 (has_bit 0) m
   good n m before = laws.good plan n m (λ c slot _ known. laws.in_time rules history legal c slot known) before
@@ -95,9 +89,7 @@ module _ (laws : OnceLaws) (rules : Rules) (history : List Event) (legal : IsLeg
       (laws.within placed flags 0 cycle (has_bit 0) well none-held (λ m less. good cycle m less) slot).0 waiting_now in
       let waits_in = has.waiting in
       let instance : Instance = record { placed = has.entry; number = has.number } in
-      let found : instance_in placed slot cycle ≡ Some instance =
-      subst (λ (s : ℕ). instance_in placed s cycle ≡ Some instance) has.of_slot
-      (found-of placed has.entry has.number cycle well waits_in.stands (subst (λ (c : ℕ). MaySend has.entry has.number c) start waits_in.sends)) in
+      let found : instance_in placed slot cycle ≡ Some instance = grind (arith, found-of, well) in
       let same : instance ≡ i = same_Some instance i (sym found ∙ is) in
       subst (λ (s : ℕ). flags earlier s ≡ false) has.of_slot
       (waits_in.unsent earlier (omega arith) (subst (λ (j : Instance). its_release j ≤ earlier) (sym same) after) (omega (arith, before, start)))
@@ -122,8 +114,7 @@ module _ (laws : OnceLaws) (rules : Rules) (history : List Event) (legal : IsLeg
         (openings_of history) o (laws.instances rules history legal) is.opened slot in
         let mask = All-contains (λ x. x.mask ≡ mask_at plan x.cycle) (openings_of history) o (laws.masks rules history legal) is.opened in
         let there : option_map its_release (instance_in o.placed slot cycle) ≡ option_map its_release (instance_in placed slot cycle) =
-        subst (λ (c : ℕ). option_map its_release (instance_in o.placed slot c) ≡ option_map its_release (instance_in placed slot c)) is.in_cycle
-        (same-release (instance_in o.placed slot o.cycle) (instance_in placed slot o.cycle) same) in
+        grind (arith, option_map, same-release) in
         let (i, found, released) = of-release (instance_in placed slot cycle) release (sym there ∙ is.released) in
         record {
           instance = i;
@@ -136,8 +127,7 @@ module _ (laws : OnceLaws) (rules : Rules) (history : List Event) (legal : IsLeg
 
     sent-of : (stream : Stream) (place release cycle : ℕ) → slice_get streams place ≡ Some stream
         → IsRidden streams (openings_of history) carried place release cycle → IsSentIn stream.slot place release cycle
-    sent-of stream place release cycle at is =
-        subst (λ (s : Stream). IsSentIn s.slot place release cycle) (same_Some is.stream stream (sym is.at ∙ at)) (sent-by place release cycle is)
+    sent-of stream place release cycle at is = grind (arith, same_Some, sent-by)
 
     -- an instance is sent in no second cycle
     not-again : (slot place release cycle again : ℕ) → slot < most_slots → IsSentIn slot place release cycle → IsSentIn slot place release again → cycle < again → ⊥
@@ -191,11 +181,7 @@ module _ (laws : OnceLaws) (rules : Rules) (history : List Event) (legal : IsLeg
               let i_time = here.sends.in_time in
               let j_time = then_.sends.released in
               let some = then_.in_range.entry.some_time in
-              let i_sends : MaySend i.placed i.number later = record {
-                exists = here.sends.exists;
-                released = omega (arith, sooner, i_is);
-                in_time = omega (arith, i_time, j_time, j_is, late);
-              } in
+              let i_sends : MaySend i.placed i.number later = grind arith in
               let j_sends : MaySend j.placed j.number later = record {
                 exists = then_.sends.exists;
                 released = omega (arith, j_is);

@@ -1,15 +1,15 @@
 -- Where nothing is pending before a cycle, and what is released in it fits the window, nothing is pending after it.
-use Rattle.std.proofs.Common.{◌≡◌, ◌≢◌, ℕ, ◌+◌, ◌-◌, ◌<◌, ◌≤◌, ◌&&◌, ◌||◌, not, Bool, true, false, nat_eq, nat_lt, if◌then◌else◌, Option, Some, None, is_some, List, [], ◌∷◌, get_or, length, replicate, set, take, refl, sym, ap, subst, ◌∙◌, ⊎_elim, arith}
+use Rattle.std.proofs.Common.{◌≡◌, ◌≢◌, ℕ, ◌+◌, ◌-◌, ◌<◌, ◌≤◌, ◌&&◌, ◌||◌, not, Bool, true, false, nat_eq, nat_lt, if◌then◌else◌, Option, Some, is_some, List, [], ◌∷◌, get_or, length, replicate, set, take, refl, sym, ap, ◌∙◌, ⊎_elim, arith}
+use Rattle.std.proofs.lemmas.Grind.{common_steps}
 use Rattle.std.specs.Prelude.{sum_by}
-use Rattle.std.specs.Option.{option_map_or}
-use Rattle.std.proofs.lemmas.Bool.{and_parts, cases_eq, cases_lt, eqb-true, le-ltb, lt-ltb}
+use Rattle.std.proofs.lemmas.Bool.{and_parts, cases_eq, cases_lt, eqb-true, lt-ltb}
 use Rattle.std.proofs.lemmas.List.{get_or-replicate, get_or-set_other, get_or-set_same, length-set, take_all}
 use Rattle.std.proofs.lemmas.List.Folds.{Any-from_list_any}
 use Rattle.std.proofs.lemmas.List.Sums.{get_or-le-sum_by, sum_by-cons, sum_by_more}
 use Rattle.requirement_table.specs.declared.entries.Placed.{Placed}
-use Rattle.requirement_table.specs.Instance.{Exists, IsReleasedIn, MaySend, released_by, worst, worst_of}
+use Rattle.requirement_table.specs.Instance.{Exists, IsReleasedIn, released_by, worst}
 use Rattle.bit_sets.specs.Sets.{has_bit, most_slots, set_of, sum_where}
-use Rattle.requirement_table.specs.Table.{IsInRange, IsWellPlaced, instance_in, is_last_in, releases_in, width_in, worst_in}
+use Rattle.requirement_table.specs.Table.{IsInRange, IsWellPlaced, is_last_in, releases_in, width_in, worst_in}
 use Rattle.requirement_table.proofs.Shared.{IsReleasedIn-from_released_by, found-of}
 use Rattle.bit_sets.proofs.Shared.{sum_where-most, has_bit-empty, set_of-none, sum_where-add, sum_where-fewer, sum_where-one}
 use Rattle.planner_policies.specs.Plan.{HasNoMissIn, IsValid, Planning, Ranking, left_after, pending_in, planned_in, planning_of}
@@ -22,30 +22,19 @@ use Rattle.release_wheel.proofs.RowDues.{next-after, sends-released}
 -- Sums over slots
 
 at-most : (b : Bool) (x most : ℕ) → x ≤ most → (if b then x else 0) ≤ most
-at-most true x most small = small
-at-most false x most small = omega arith
+at-most b x most small = grind arith
 
 -- an amount for one slot, and nothing for the others
 abbrev for_slot : ℕ → ℕ → ℕ → ℕ
 for_slot k x slot = if nat_eq k slot then x else 0
 
 sum-one : (n k x : ℕ) (p : ℕ → Bool) → sum_where n p (λ slot. for_slot k x slot) ≤ x
-sum-one n k x p =
-    let one = sum_where-one n k x p in
-    ⊎_elim
-    (λ (known : k < n).
-    let is : sum_where n p (λ slot. for_slot k x slot) ≡ (if p k then x else 0) = one.1 known in
-    let most = at-most (p k) x x (omega arith) in
-    omega arith)
-    (λ (beyond : n ≤ k). let none : sum_where n p (λ slot. for_slot k x slot) ≡ 0 = one.0 beyond in omega arith)
-    (cases_lt k n)
+sum-one n k x p = grind (arith, sum_where-one, at-most, cases_lt)
 
 sum-parts : (n : ℕ) (p : ℕ → Bool) (f g h : ℕ → ℕ) → ((slot : ℕ) → f slot ≤ g slot + h slot) → sum_where n p f ≤ sum_where n p g + sum_where n p h
 sum-parts n p f g h each =
     let less : sum_where n p f ≤ sum_where n p (λ slot. g slot + h slot) = sum_where-fewer n p f (λ slot. g slot + h slot) (λ slot below passes. each slot) in
-    let sum : sum_where n p (λ slot. g slot + h slot) ≡ sum_where n p g + sum_where n p h
-    = sum_where-add n p g h (λ slot. g slot + h slot) (λ slot below. refl) in
-    omega arith
+    grind (arith, sum_where-add)
 
 -- What slots cost
 
@@ -54,9 +43,7 @@ abbrev share : List Placed → ℕ → ℕ → ℕ
 share placed c slot = sum_by (λ p. for_slot p.entry.slot (cost_in p c) slot) placed
 
 share-cons : (p : Placed) (ps : List Placed) (c slot : ℕ) → share (p ∷ ps) c slot ≤ for_slot p.entry.slot (cost_in p c) slot + share ps c slot
-share-cons p ps c slot =
-    let sum = sum_by-cons (λ (q : Placed). for_slot q.entry.slot (cost_in q c) slot) p ps in
-    omega (arith, sum)
+share-cons p ps c slot = grind (arith, common_steps, sum_by-cons)
 
 -- the shares of the slots are no more than all that is released
 shares-all : (placed : List Placed) (c : ℕ) (flagged : ℕ → Bool) → sum_where most_slots flagged (λ slot. share placed c slot) ≤ demand_in placed c
@@ -73,8 +60,7 @@ shares-all (p ∷ ps) c flagged =
     omega (arith, one, both, rest, sum)
 
 number-of : (o : Option ℕ) → is_some o ≡ true → (k : ℕ) × (o ≡ Some k)
-number-of (Some k) is = (k, refl)
-number-of None is = absurd (cc)
+number-of o is = grind arith
 
 released-of : (p : Placed) (c : ℕ) → is_some (released_by p c) ≡ true → (k : ℕ) × IsReleasedIn p k c
 released-of p c is = let number = number-of (released_by p c) is in (number.0, IsReleasedIn-from_released_by p number.0 c number.1)
@@ -83,21 +69,7 @@ released-of p c is = let number = number-of (released_by p c) is in (number.0, I
 released-share : (placed : List Placed) (c slot : ℕ) → IsWellPlaced placed → releases_in placed c slot ≡ true → worst_in placed c slot ≤ share placed c slot
 released-share placed c slot well test =
     let any = Any-from_list_any (λ q. nat_eq q.entry.slot slot && is_some (released_by q c)) placed test in
-    let i = any.0 in
-    let q = any.1 in
-    let parts = and_parts (nat_eq q.entry.slot slot) (is_some (released_by q c)) any.4 in
-    let released = released-of q c parts.1 in
-    let range : IsInRange q = rw any.3 at (well.in_range i q any.2) in
-    let sends : MaySend q released.0 c = sends-released q c released.0 range (sym released.1.release) released.1.exists in
-    let found : instance_in placed slot c ≡ Some (record { placed = q; number = released.0 })
-    = ap (λ s. instance_in placed s c) (sym (eqb-true q.entry.slot slot parts.0)) ∙ found-of placed q released.0 c well (i, any.2, any.3) sends in
-    let cost : worst_in placed c slot ≡ worst q.entry.length = ap (λ o. option_map_or worst_of o 0) found in
-    let own : for_slot q.entry.slot (cost_in q c) slot ≡ worst q.entry.length
-    = ap (λ (b : Bool). if b then cost_in q c else 0) parts.0 ∙ ap (λ (b : Bool). if b then worst q.entry.length else 0) parts.1 in
-    let here : for_slot (get_or placed i q).entry.slot (cost_in (get_or placed i q) c) slot ≡ for_slot q.entry.slot (cost_in q c) slot
-    = ap (λ (p : Placed). for_slot p.entry.slot (cost_in p c) slot) any.3 in
-    subst (λ n. n ≤ share placed c slot) (here ∙ own ∙ sym cost)
-    (get_or-le-sum_by (λ (p : Placed). for_slot p.entry.slot (cost_in p c) slot) placed i q any.2)
+    grind (arith, and_parts, is_some, released-of, sends-released, eqb-true, found-of, get_or-le-sum_by)
 
 -- where nothing is pending before a cycle, what is pending in it is what is released in it
 width-released : (placed : List Placed) (c pending : ℕ) → IsWellPlaced placed → pending ≡ 0
@@ -106,8 +78,7 @@ width-released placed c pending well none =
     let flagged : ℕ → Bool = pending_in placed c (has_bit pending) in
     let less = sum_where-fewer most_slots flagged (worst_in placed c) (λ slot. share placed c slot)
     (λ slot below is. released-share placed c slot well (sym (ap (λ b. b || releases_in placed c slot) (has_bit-empty pending slot none)) ∙ is)) in
-    let all = shares-all placed c flagged in
-    omega (arith, less, all)
+    grind (arith, shares-all)
 
 -- all of it is planned, and nothing is left
 module _ (plan : Planning) (c pending : ℕ) (well : IsWellPlaced plan.placed) (none : pending ≡ 0) (fits : demand_in plan.placed c ≤ plan.window) where
@@ -115,17 +86,13 @@ module _ (plan : Planning) (c pending : ℕ) (well : IsWellPlaced plan.placed) (
   none-left slot known = pick (pending_in plan.placed c (has_bit pending) slot) refl
     where
       pick : (b : Bool) → pending_in plan.placed c (has_bit pending) slot ≡ b → (b && not (planned_in plan c (has_bit pending) slot)) ≡ false
-      pick false is = refl
-      pick true is =
-          let all = width-released plan.placed c pending well none in
-          ap not (taken-all plan.policy plan.window plan.placed c (pending_in plan.placed c (has_bit pending)) plan.fill slot known (omega (arith, all, fits)) is)
+      pick b is = grind (arith, width-released, taken-all)
 
   none-missed : HasNoMissIn plan c (has_bit pending)
   none-missed slot known = ap (λ b. b && is_last_in plan.placed c slot) (none-left slot known)
 
   left-none : set_of most_slots (left_after plan c (has_bit pending)) ≡ 0
-  left-none =
-      set_of-none most_slots (left_after plan c (has_bit pending)) none-left
+  left-none = grind (arith, set_of-none, none-left)
 
 pub leaves-none : (ranking : Ranking) (window c pending : ℕ) → IsWellPlaced ranking.placed → pending ≡ 0 → demand_in ranking.placed c ≤ window
     → LeavesSame (planning_of ranking window c pending)
@@ -136,9 +103,7 @@ leaves-none ranking window c pending well none fits = record {
 
 -- a state in which nothing is pending is valid
 pub none-valid : (placed : List Placed) (c pending : ℕ) → pending ≡ 0 → IsValid placed c pending
-none-valid placed c pending none slot waits =
-    let wrong : false ≡ true = sym (has_bit-empty pending slot none) ∙ waits in
-    absurd (cc)
+none-valid placed c pending h0 = grind (arith, has_bit-empty)
 
 -- What the releases of entries sum to, cycle by cycle
 
@@ -156,50 +121,13 @@ pub record IsAdding (p : Placed) (w from cycle : ℕ) (old new : List ℕ) : Typ
   pub within : (k : ℕ) → k < 256 → get_or new k 0 ≤ w
   pub more : (k : ℕ) → k < 256 → get_or old k 0 + cost_before p (from + k) at ≤ get_or new k 0
 
-not-yet : (p : Placed) (c at : ℕ) → at ≤ c → cost_before p c at ≤ 0
-not-yet p c at later =
-    let test = le-ltb c at later in
-    pick (is_some (released_by p c)) (nat_lt c at) test
-  where
-    pick : (b late : Bool) → late ≡ false → (if b && late then worst p.entry.length else 0) ≤ 0
-    pick true true wrong = absurd (cc)
-    pick true false is = omega arith
-    pick false late is = omega arith
-
 pub adding-start : (p : Placed) (w from cycle : ℕ) (old : List ℕ) → IsNextRelease p from cycle → from ≤ cycle → length old ≡ 256
     → ((k : ℕ) → k < 256 → get_or old k 0 ≤ w) → IsAdding p w from cycle old old
-adding-start p w from cycle old next later size within = record {
-  at = from;
-  begun = omega arith;
-  reached = later;
-  next = next;
-  size = size;
-  within = within;
-  more = λ k below. let none = not-yet p (from + k) from (omega arith) in omega arith;
-}
+adding-start p w from cycle old next later size within = grind arith
 
 -- a release at or after `at` is not before the next one
 not-between : (p : Placed) (at cycle c : ℕ) → IsNextRelease p at cycle → is_some (released_by p c) ≡ true → at ≤ c → cycle ≤ c
-not-between p at cycle c next is later =
-    let released = released-of p c is in
-    let release = released.1.release in
-    let least = next.least released.0 (omega arith) in
-    omega arith
-
--- so in a cycle that isn't the next one's nothing more is before the cycle after it
-before-same : (p : Placed) (at cycle c : ℕ) → IsNextRelease p at cycle → c ≢ cycle → cost_before p c (cycle + 1) ≤ cost_before p c at
-before-same p at cycle c next apart = pick (is_some (released_by p c)) refl
-  where
-    pick : (b : Bool) → is_some (released_by p c) ≡ b
-        → (if b && nat_lt c (cycle + 1) then worst p.entry.length else 0) ≤ (if b && nat_lt c at then worst p.entry.length else 0)
-    pick false is = omega arith
-    pick true is =
-        ⊎_elim
-        (λ (less : c < at). rw (lt-ltb c at less) (at-most (nat_lt c (cycle + 1)) (worst p.entry.length) (worst p.entry.length) (omega arith)))
-        (λ (later : at ≤ c).
-        let beyond = not-between p at cycle c next is later in
-        rw (le-ltb c (cycle + 1) (omega arith)) (omega arith))
-        (cases_lt c at)
+not-between p at cycle c next is later = grind (arith, released-of)
 
 module _ (p : Placed) (w from cycle : ℕ) (old new : List ℕ) (adding : IsAdding p w from cycle old new) where
   -- the next release is added
@@ -208,16 +136,8 @@ module _ (p : Placed) (w from cycle : ℕ) (old new : List ℕ) (adding : IsAddi
   adding-next place taken cost range place_is few taken_is cost_is small =
       let begun = adding.begun in
       let reached = adding.reached in
-      let some = range.entry.some_time in
-      let deadline = range.entry.deadline in
       let size = adding.size in
-      let here : IsNextRelease p cycle cycle = record {
-        number = adding.next.number;
-        is = adding.next.is;
-        reached = λ exists. omega arith;
-        least = λ k later. later;
-      } in
-      let full = adding.within place few in
+      let here : IsNextRelease p cycle cycle = grind (arith, common_steps) in
       let same-at : (k : ℕ) → place ≡ k → get_or (set new place (taken + cost)) k 0 ≡ taken + cost = λ k same.
       ap (λ j. get_or (set new place (taken + cost)) j 0) (sym same) ∙ get_or-set_same new place (taken + cost) 0 (omega arith) in
       let other-at : (k : ℕ) → place ≢ k → get_or (set new place (taken + cost)) k 0 ≡ get_or new k 0 = λ k apart.
@@ -233,41 +153,18 @@ module _ (p : Placed) (w from cycle : ℕ) (old new : List ℕ) (adding : IsAddi
             (λ (same : place ≡ k). let read = same-at k same in omega arith)
             (λ (apart : place ≢ k). let read = other-at k apart in let was = adding.within k below in omega arith)
             (cases_eq place k);
-        more = λ k below.
-            let was = adding.more k below in
-            ⊎_elim
-            (λ (same : place ≡ k).
-            let read = same-at k same in
-            let held : taken ≡ get_or new k 0 = taken_is ∙ ap (λ j. get_or new j 0) same in
-            let most = at-most (is_some (released_by p (from + k)) && nat_lt (from + k) (cycle + 1)) (worst p.entry.length) (worst p.entry.length) (omega arith) in
-            omega arith)
-            (λ (apart : place ≢ k).
-            let read = other-at k apart in
-            let less = before-same p adding.at cycle (from + k) adding.next (λ (same : from + k ≡ cycle). apart (omega arith)) in
-            omega arith)
-            (cases_eq place k);
+        more = grind (arith, at-most, is_some, nat_lt);
       }
 
   -- all releases are added
   pub adding-end : (end until : ℕ) → end ≤ cycle → ((c : ℕ) → c < until → Exists p c → c < end) → (k : ℕ) → k < 256 → from + k < until
       → get_or old k 0 + cost_in p (from + k) ≤ get_or new k 0
   adding-end end until over ends k few below =
-      let was = adding.more k few in
-      let all = pick (is_some (released_by p (from + k))) refl in
-      omega arith
+      grind (arith, pick, is_some)
     where
       pick : (b : Bool) → is_some (released_by p (from + k)) ≡ b
           → (if b then worst p.entry.length else 0) ≤ (if b && nat_lt (from + k) adding.at then worst p.entry.length else 0)
-      pick false is = omega arith
-      pick true is =
-          ⊎_elim
-          (λ (less : from + k < adding.at). rw (lt-ltb (from + k) adding.at less) (omega arith))
-          (λ (later : adding.at ≤ from + k).
-          let beyond = not-between p adding.at cycle (from + k) adding.next is later in
-          let released = released-of p (from + k) is in
-          let before = ends (from + k) below released.1.exists in
-          absurd (omega arith))
-          (cases_lt (from + k) adding.at)
+      pick b is = grind (arith, lt-ltb, not-between, released-of, cases_lt)
 
 -- what is released in each cycle of a block is no more than what stands at its place, and that fits the window
 pub record IsSummed (placed : List Placed) (w from until : ℕ) (demand : List ℕ) : Type 0 where
@@ -284,21 +181,10 @@ pub summed-more : (placed : List Placed) (i : ℕ) (d : Placed) (w from until : 
     → IsSummed (take i placed) w from until old → ((k : ℕ) → k < 256 → get_or new k 0 ≤ w)
     → ((k : ℕ) → k < 256 → from + k < until → get_or old k 0 + cost_in (get_or placed i d) (from + k) ≤ get_or new k 0)
     → IsSummed (take (i + 1) placed) w from until new
-summed-more placed i d w from until old new there summed within more = record {
-  within = within;
-  covers = λ k few below.
-      let was = summed.covers k few below in
-      let one = more k few below in
-      let sum = sum_by_more (λ (p : Placed). cost_in p (from + k)) placed i d there in
-      omega (arith, was, one, sum);
-}
+summed-more placed i d w from until old new there summed within more = grind (arith, sum_by_more)
 
 pub summed-all : (placed : List Placed) (i w from until : ℕ) (demand : List ℕ) → length placed ≤ i → until ≤ from + 256
     → IsSummed (take i placed) w from until demand → (c : ℕ) → from ≤ c → c < until → demand_in placed c ≤ w
 summed-all placed i w from until demand all few summed c begun below =
-    let k : ℕ = c - from in
     let there : from + (c - from) ≡ c = omega arith in
-    let covers = summed.covers (c - from) (omega arith) (omega arith) in
-    let within = summed.within (c - from) (omega arith) in
-    let least : demand_in (take i placed) (from + (c - from)) ≤ w = omega (arith, covers, within) in
-    subst (λ n. demand_in placed n ≤ w) there (subst (λ (ps : List Placed). demand_in ps (from + (c - from)) ≤ w) (take_all i placed all) least)
+    grind (arith, take_all)

@@ -1,14 +1,12 @@
 -- Lists of entries with the same instances in a cycle plan it alike. Those that are near have the instances of all entries
 -- until others begin.
-use Rattle.std.proofs.Common.{◌≡◌, ℕ, zero, suc, ◌+◌, ◌-◌, ◌<◌, ◌≤◌, Bool, true, false, nat_lt, if◌then◌else◌, Option, None, Some, List, refl, sym, ap, ◌∙◌, subst, Result, Ok, Err, IfOk, IfErr, arith}
-use Rattle.std.proofs.lemmas.Bool.{lt-ltb, ltb-true}
+use Rattle.std.proofs.Common.{◌≡◌, ℕ, zero, suc, ◌+◌, ◌-◌, ◌<◌, ◌≤◌, Bool, true, false, nat_lt, if◌then◌else◌, Option, None, Some, List, refl, sym, ◌∙◌, subst, Result, IfOk, IfErr, arith}
+use Rattle.std.proofs.lemmas.Bool.{ltb-true}
 use Rattle.requirement_table.specs.declared.entries.Placed.{Placed}
 use Rattle.bit_sets.specs.Sets.{has_bit, most_slots, set_of}
-use Rattle.requirement_table.specs.Table.{IsWellPlaced, instance_in, near_of, releases_in, width_in, worst_in}
+use Rattle.requirement_table.specs.Table.{IsWellPlaced, instance_in, near_of, releases_in, width_in}
 use Rattle.requirement_table.proofs.Shared.{instance_in-near_of, releases_in-near_of}
 use Rattle.bit_sets.proofs.Shared.{set_of-same, sum_where-same, sum_where-costs}
-use Rattle.planner_policies.specs.declared.Fill.{Fill}
-use Rattle.planner_policies.specs.declared.Policy.{Policy}
 use Rattle.planner_policies.specs.declared.state.Miss.{Miss}
 use Rattle.planner_policies.specs.Due.{IsPlanned}
 use Rattle.planner_policies.specs.Plan.{HasNoMissIn, IsMissIn, IsValid, Planning, Ranking, is_missed_in, left_after, planned_in, planning_of}
@@ -26,13 +24,7 @@ alike-itself all c = record { policy = refl; fill = refl; instances = λ slot. r
 -- the entries that are not over by a cycle and begin before another one, between these two
 pub alike-near : (all near : Ranking) (since until c : ℕ) → IsWellPlaced all.placed → near ≡ record all { placed = near_of since until all.placed }
     → since ≤ c → c < until → IsAlike all near c
-alike-near all near since until c well is from before =
-    subst (λ some. IsAlike all some c) (sym is) (record {
-      policy = refl;
-      fill = refl;
-      instances = λ slot. instance_in-near_of since until all.placed slot c from before;
-      releases = λ slot. releases_in-near_of since until all.placed slot c well from before;
-    })
+alike-near all near since until c well is from before = grind (arith, instance_in-near_of, releases_in-near_of)
 
 module _ (all : Ranking) (placed : List Placed) (window c slots : ℕ)
     (instances : (slot : ℕ) → instance_in placed slot c ≡ instance_in all.placed slot c)
@@ -68,30 +60,13 @@ module _ (all : Ranking) (placed : List Placed) (window c slots : ℕ)
   none-missed none slot known = sym (missed-slot slot known) ∙ none slot known
 
   same-width : width_in placed c (planned_in part c before) ≡ width_in all.placed c (planned_in plan c before)
-  same-width =
-      sum_where-same most_slots (planned_in part c before) (planned_in plan c before) (worst_in placed c) planned-slot
-      ∙ sum_where-costs most_slots (planned_in plan c before) (worst_in placed c) (worst_in all.placed c) (λ s below _. alike.cost s below)
+  same-width = grind (arith, sum_where-same, planned-slot, sum_where-costs, alike)
 
   planned-here : (mask width next : ℕ) → IsPlanned part c before mask width next → IsPlanned plan c before mask width next
-  planned-here mask width next planned = record {
-    planned = planned.planned ∙ planned-set;
-    width_is = planned.width_is ∙ same-width;
-    fits = planned.fits;
-    left = planned.left ∙ left-set;
-    none_missed = none-missed planned.none_missed;
-  }
+  planned-here mask width next planned = grind (arith, planned-set, same-width, left-set, none-missed)
 
   missed-here : (slot release : ℕ) → IsMissIn part c before slot release → IsMissIn plan c before slot release
-  missed-here slot release miss =
-      let known = miss.known in
-      record {
-        known = known;
-        missed = sym (missed-slot slot known) ∙ miss.missed;
-        least = λ other less. sym (missed-slot other (omega arith)) ∙ miss.least other less;
-        instance = miss.instance;
-        found = sym (instances slot) ∙ miss.found;
-        released = miss.released;
-      }
+  missed-here slot release miss = grind (arith, missed-slot)
 
   passed-here : IsPassed part → IsPassed plan
   passed-here passed = record {
@@ -102,10 +77,7 @@ module _ (all : Ranking) (placed : List Placed) (window c slots : ℕ)
 -- what is known of the planning of one list is known of the other
 module _ (all some : Ranking) (window c slots : ℕ) (alike : IsAlike all some c) where
   same : some ≡ record all { placed = some.placed }
-  same =
-      let with_policy : Policy → Ranking = λ policy. record { placed = some.placed; policy = policy; fill = some.fill } in
-      let with_fill : Fill → Ranking = λ fill. record { placed = some.placed; policy = all.policy; fill = fill } in
-      ap with_policy alike.policy ∙ ap with_fill alike.fill
+  same = grind (arith, alike)
 
   pub planned-all : (mask width next : ℕ) → IsPlanned (planning_of some window c slots) c (has_bit slots) mask width next
       → IsPlanned (planning_of all window c slots) c (has_bit slots) mask width next
@@ -131,12 +103,7 @@ valid-passed all from slots well valid zero passed = subst (λ c. IsValid all.pl
 valid-passed all from slots well valid (suc n) passed =
     let so = valid-passed all from slots well valid n (λ c onward less. passed c onward (omega arith)) in
     let last = (passed (from + n) (omega arith) (omega arith)).same in
-    let next = left-valid (planning_of all 0 (from + n) slots) (from + n) slots well so last.none_missed in
-    subst (λ c. IsValid all.placed c slots) (omega arith) (subst (λ left. IsValid all.placed (from + n + 1) left) (sym last.left) next)
-
--- the wheel has the rows of the entries that are near before the cycle before which they begin
-pub at-near : (all : Ranking) (near : Near) (c : ℕ) → c < near.until → at_wheel (Some near) all c ≡ near.ranked
-at-near all near c before = ap (λ b. if b then near.ranked else all) (lt-ltb c near.until before)
+    grind (arith, left-valid)
 
 -- those whose rows it has plan as all entries do
 pub alike-at : (all : Ranking) (near : Option Near) (w : Wheel) → IsWellPlaced all.placed → HasRows all near w → (c : ℕ) → w.cycle ≤ c
@@ -153,23 +120,16 @@ alike-at all (Some near) w well rows c from before = pick (nat_lt w.cycle near.u
         alike-near all near.ranked near.since near.until c well at.entries (omega arith) (before less)
 
 pub kept-at : (all : Ranking) (near : Option Near) (w : Wheel) → HasRows all near w → w.cycle < until_of near → IsWheelKept (at_wheel near all w.cycle) w
-kept-at all None w rows before = rows
-kept-at all (Some near) w rows before = subst (λ r. IsWheelKept r w) (sym (at-near all near w.cycle before)) (rows before).kept
+kept-at all near w rows before = grind arith
 
 -- a wheel that goes on keeps its rows
 pub rows-onward : (all : Ranking) (near : Option Near) (old new : Wheel) → HasRows all near old → old.cycle ≤ new.cycle
     → IsWheelKept (at_wheel near all old.cycle) new → HasRows all near new
-rows-onward all None old new rows onward kept = kept
-rows-onward all (Some near) old new rows onward kept = λ before.
-    let less : old.cycle < near.until = omega arith in
-    let at = rows less in
-    let since = at.since in
-    record { since = omega arith; entries = at.entries; kept = subst (λ r. IsWheelKept r new) (at-near all near old.cycle less) kept }
+rows-onward all near old new rows onward kept = grind arith
 
 -- a wheel of all entries, where none are taken as near
 pub rows-of-all : (all : Ranking) (near : Option Near) (w : Wheel) → IsForgotten near → IsWheelKept all w → HasRows all near w
-rows-of-all all None w none kept = kept
-rows-of-all all (Some near) w none kept = λ before. let is = none near refl in absurd (omega arith)
+rows-of-all all near w none kept = grind arith
 
 -- a cycle is planned by the rows that the wheel has, from a wheel that stands where it stood
 module _ (all some : Ranking) (near : Option Near) (window : ℕ) (old mid new : Wheel) (r : Result CyclePlan Miss) (well : IsWellPlaced all.placed)
@@ -186,10 +146,7 @@ module _ (all some : Ranking) (near : Option Near) (window : ℕ) (old mid new :
 
   missed-old : (slot release : ℕ) → IsMissIn (planning_of some window mid.cycle mid.dues.waiting.slots) mid.cycle (has_bit mid.dues.waiting.slots) slot release
       → IsMissIn (planning_of all window old.cycle old.dues.waiting.slots) old.cycle (has_bit old.dues.waiting.slots) slot release
-  missed-old slot release miss =
-      let P : ℕ → Type 0 = λ c. IsMissIn (planning_of all window c mid.dues.waiting.slots) c (has_bit mid.dues.waiting.slots) slot release in
-      let Q : ℕ → Type 0 = λ s. IsMissIn (planning_of all window old.cycle s) old.cycle (has_bit s) slot release in
-      subst Q slots (subst P cycle (missed-all all some window mid.cycle mid.dues.waiting.slots alike-here slot release miss))
+  missed-old slot release miss = grind (arith, missed-all, alike-here)
 
   pub stepped-planned : IfOk r (λ p. IsPlanned (planning_of some window mid.cycle mid.dues.waiting.slots) mid.cycle (has_bit mid.dues.waiting.slots) p.mask p.width new.dues.waiting.slots)
       → IfOk r (λ p. IsPlanned (planning_of all window old.cycle old.dues.waiting.slots) old.cycle (has_bit old.dues.waiting.slots) p.mask p.width new.dues.waiting.slots)
@@ -198,8 +155,7 @@ module _ (all some : Ranking) (near : Option Near) (window : ℕ) (old mid new :
       pick : (r' : Result CyclePlan Miss)
           → IfOk r' (λ p. IsPlanned (planning_of some window mid.cycle mid.dues.waiting.slots) mid.cycle (has_bit mid.dues.waiting.slots) p.mask p.width new.dues.waiting.slots)
           → IfOk r' (λ p. IsPlanned (planning_of all window old.cycle old.dues.waiting.slots) old.cycle (has_bit old.dues.waiting.slots) p.mask p.width new.dues.waiting.slots)
-      pick (Ok p) planned = planned-old p.mask p.width new.dues.waiting.slots planned
-      pick (Err miss) planned = planned
+      pick r' planned = grind (arith, planned-old)
 
   pub stepped-missed : IfErr r (λ miss. IsMissIn (planning_of some window mid.cycle mid.dues.waiting.slots) mid.cycle (has_bit mid.dues.waiting.slots) miss.slot miss.release)
       → IfErr r (λ miss. IsMissIn (planning_of all window old.cycle old.dues.waiting.slots) old.cycle (has_bit old.dues.waiting.slots) miss.slot miss.release)
@@ -208,25 +164,18 @@ module _ (all some : Ranking) (near : Option Near) (window : ℕ) (old mid new :
       pick : (r' : Result CyclePlan Miss)
           → IfErr r' (λ miss. IsMissIn (planning_of some window mid.cycle mid.dues.waiting.slots) mid.cycle (has_bit mid.dues.waiting.slots) miss.slot miss.release)
           → IfErr r' (λ miss. IsMissIn (planning_of all window old.cycle old.dues.waiting.slots) old.cycle (has_bit old.dues.waiting.slots) miss.slot miss.release)
-      pick (Ok p) missed = missed
-      pick (Err miss) missed = missed-old miss.slot miss.release missed
+      pick r' missed = grind (arith, missed-old)
 
 -- where a planner stands that stood there, when a cycle is planned or missed
 module _ (all : Ranking) (near : Option Near) (window : ℕ) (mid new : Wheel) (well : IsWellPlaced all.placed) (valid : IsValid all.placed mid.cycle mid.dues.waiting.slots) where
   pub onward-after : (r : Result CyclePlan Miss) → IfOk r (λ _. new.cycle ≡ mid.cycle + 1) → IfErr r (λ _. new.cycle ≡ mid.cycle) → mid.cycle ≤ new.cycle
-  onward-after (Ok p) next same = omega arith
-  onward-after (Err miss) next same = omega arith
+  onward-after r next same = grind (arith, same)
 
   pub valid-after : (r : Result CyclePlan Miss)
       → IfOk r (λ p. IsPlanned (planning_of all window mid.cycle mid.dues.waiting.slots) mid.cycle (has_bit mid.dues.waiting.slots) p.mask p.width new.dues.waiting.slots)
       → IfOk r (λ _. new.cycle ≡ mid.cycle + 1) → IfErr r (λ _. new.cycle ≡ mid.cycle) → IfErr r (λ _. new.dues.waiting.slots ≡ mid.dues.waiting.slots)
       → IsValid all.placed new.cycle new.dues.waiting.slots
-  valid-after (Ok p) planned next same_cycle same_slots =
-      let left = left-valid (planning_of all window mid.cycle mid.dues.waiting.slots) mid.cycle mid.dues.waiting.slots well valid planned.none_missed in
-      subst (λ s. IsValid all.placed new.cycle s) (sym planned.left)
-      (subst (λ c. IsValid all.placed c (set_of most_slots (left_after (planning_of all window mid.cycle mid.dues.waiting.slots) mid.cycle (has_bit mid.dues.waiting.slots)))) (sym next) left)
-  valid-after (Err miss) planned next same_cycle same_slots =
-      subst (λ s. IsValid all.placed new.cycle s) (sym same_slots) (subst (λ c. IsValid all.placed c mid.dues.waiting.slots) (sym same_cycle) valid)
+  valid-after r planned next same_cycle same_slots = grind (arith, left-valid)
 
 -- cycles are passed by the rows that the wheel has
 module _ (all some : Ranking) (near : Option Near) (old new : Wheel) (well : IsWellPlaced all.placed) (standing : IsStanding all near old)
@@ -244,8 +193,4 @@ module _ (all some : Ranking) (near : Option Near) (old new : Wheel) (well : IsW
       (valid-passed all old.cycle old.dues.waiting.slots well standing.valid (c - old.cycle) (λ at onward less. near-passed 0 at onward (omega arith)))
 
   pub near-standing : IsStanding all near new
-  near-standing = record {
-    end = kept.near;
-    valid = subst (λ s. IsValid all.placed new.cycle s) (sym slots) (near-valid new.cycle onward (omega arith));
-    rows = rows-onward all near old new standing.rows onward (subst (λ r. IsWheelKept r new) is kept);
-  }
+  near-standing = grind (arith, near-valid, rows-onward)

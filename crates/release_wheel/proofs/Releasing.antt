@@ -1,6 +1,7 @@
 -- Releases that are made row by row.
-use Rattle.std.proofs.Common.{◌≡◌, ◌≢◌, ℕ, ◌+◌, ◌-◌, ◌%◌, ◌^◌, ◌<◌, ◌&&◌, ◌||◌, not, Bool, true, false, nat_eq, min, None, get_or, length, refl, sym, ap, subst, ◌∙◌, arith}
-use Rattle.std.proofs.Math.Bool.{and-false, and-true, or-false}
+use Rattle.std.proofs.Common.{◌≡◌, ◌≢◌, ℕ, ◌+◌, ◌-◌, ◌%◌, ◌^◌, ◌<◌, ◌&&◌, ◌||◌, not, Bool, true, false, nat_eq, None, get_or, length, refl, sym, ap, subst, ◌∙◌, arith}
+use Rattle.std.proofs.lemmas.Grind.{common_steps}
+use Rattle.std.proofs.Math.Bool.{and-false, or-false}
 use Rattle.std.proofs.lemmas.Bool.{and_parts, both_ways, eq-eqb, eqb-true}
 use Rattle.std.proofs.lemmas.List.{get_or-set_other, get_or-set_same}
 use Rattle.std.proofs.Math.ListN.{length-set}
@@ -14,9 +15,9 @@ use Rattle.release_wheel.specs.declared.dues.Dues.{Dues}
 use Rattle.release_wheel.specs.declared.rows.Rows.{Rows}
 use Rattle.release_wheel.specs.declared.wheel.Wheel.{Wheel}
 use Rattle.release_wheel.specs.Wheel.{HasRoom, IsAlways, IsNextRelease, IsOnWheel, IsReleased, IsReleasing, IsRowBegun, IsRowReleased, IsSameBut, IsTurned, ReleasedAt, TurnedAt, is_found, is_there, no_entry}
-use Rattle.release_wheel.proofs.RowDues.{due-released, due-stay, first-release, next-after, not-held, stands-later}
+use Rattle.release_wheel.proofs.RowDues.{due-stay, first-release, next-after, not-held, stands-later}
 use Rattle.bit_sets.proofs.Shared.{has_bit-none}
-use Rattle.release_wheel.proofs.RowSteps.{by-row, on_wheel-other, other-row, released-other, there-is, there-not, turned-other}
+use Rattle.release_wheel.proofs.RowSteps.{by-row, other-row, released-other, there-is, turned-other}
 use Rattle.release_wheel.proofs.RowSums.{sum-with}
 
 -- a set without one row
@@ -30,8 +31,7 @@ other-of : (row rest less : ℕ) → IsWithout row rest less → (i : ℕ) → h
 other-of row rest less made i in' = turn (nat_eq row i) (and_parts (not (nat_eq row i)) (has_bit rest i) (sym (made i) ∙ in')).0
   where
     turn : (b : Bool) → not b ≡ true → b ≡ false
-    turn true wrong = absurd (cc)
-    turn false is = refl
+    turn b wrong = grind arith
 
 out-of : (row rest less : ℕ) → IsWithout row rest less → (i : ℕ) → has_bit less i ≡ false → nat_eq row i ≡ false → has_bit rest i ≡ false
 out-of row rest less made i out apart = ap (λ b. not b && has_bit rest i) (sym apart) ∙ sym (made i) ∙ out
@@ -57,9 +57,7 @@ module _ (before : ℕ → Bool) (c rest less row : ℕ) (rows : Rows) (dues : D
   step new more size but room here = record {
     room = room;
     place = λ i in'. but.place (c % 64) i (mod-lt c (omega arith)) (other-of row rest less made i in') ∙ g.place i (rest-of row rest less made i in');
-    later = λ i below in'.
-        turned-other row rows new dues more but i (other-of row rest less made i in') before c
-        (g.later i (subst (λ n. i < n) size below) (rest-of row rest less made i in'));
+    later = grind (arith, turned-other, other-of, rest-of);
     made = λ i below out.
         by-row (λ j. ReleasedAt new more before c j) row i here
         (λ other. released-other row rows new dues more but i other before c
@@ -101,29 +99,15 @@ module _ (before : ℕ → Bool) (c rest less row : ℕ) (rows : Rows) (dues : D
     is-release : c ≡ release_of P next.number
     is-release = sym now ∙ next.is
 
-    exists-now : Exists P c
-    exists-now = let E : ℕ → Type 0 = λ r. Exists P r in subst E now on.coming
-
     not-waiting : has_bit dues.waiting.rows row ≡ false
-    not-waiting =
-        (g.later row within stands').1.waits_is
-        ∙ ap (λ b. before P.entry.slot && b) (not-held P c next.number range is-release exists-now)
-        ∙ and-false (before P.entry.slot)
+    not-waiting = grind (arith, not-held, next, range, is-release, and-false)
 
     -- at no other place does the row stand
     gone : (k : ℕ) → k < 64 → (has_bit (get_or rows.places.items k 0) row && not (is_there (c % 64) row k row)) ≡ false
     gone k below = pick (has_bit (get_or rows.places.items k 0) row) refl
       where
         pick : (b : Bool) → has_bit (get_or rows.places.items k 0) row ≡ b → (b && not (is_there (c % 64) row k row)) ≡ false
-        pick false is = refl
-        pick true is =
-            let only : c % 64 ≡ k = ap (λ n. n % 64) (sym now) ∙ (g.room.on_wheel k row below is).at in
-            ap not (ap (λ j. is_there (c % 64) row j row) (sym only) ∙ there-is (c % 64) row)
-
-    off-other : (k i : ℕ) → nat_eq row i ≡ false
-        → (has_bit (get_or rows.places.items k 0) i && not (is_there (c % 64) row k i)) ≡ has_bit (get_or rows.places.items k 0) i
-    off-other k i other =
-        ap (λ b. has_bit (get_or rows.places.items k 0) i && not b) (there-not (c % 64) row k i other) ∙ and-true (has_bit (get_or rows.places.items k 0) i)
+        pick b is = grind (arith, there-is)
 
     -- its first release, where it has an instance in each cycle from then on
     module _ (new : Rows) (more : Dues) (begun : IsRowBegun P row c rows new dues more) (period : P.entry.period ≡ 1) (live : P.end ≡ None) where
@@ -146,15 +130,7 @@ module _ (before : ℕ → Bool) (c rest less row : ℕ) (rows : Rows) (dues : D
       always-here = begun.added.rows row ∙ ap (λ b. b || has_bit dues.always.rows row) (eq-eqb row row refl)
 
       but-begun : IsSameBut row rows new dues more
-      but-begun = record {
-        entry = λ i other. ap (λ xs. get_or xs i no_entry) entries-begun;
-        next = λ i other. ap (λ xs. get_or xs i 0) nexts-begun;
-        last = λ i other. ap (λ xs. get_or xs i 0) lasts-begun;
-        place = λ k i below other. begun.places k i below ∙ off-other k i other;
-        waiting = λ i other. ap (λ s. has_bit s.rows i) waiting-begun;
-        always = λ i other. begun.added.rows i ∙ ap (λ b. b || has_bit dues.always.rows i) other;
-        sooner = let same = soonest-begun in omega arith;
-      }
+      but-begun = grind (arith, entries-begun, next, nexts-begun, lasts-begun, waiting-begun, same, soonest-begun)
 
       is-always : IsAlways P c
       is-always = record { period = period; live = live; since = let first = first-release P next.number in let at = is-release in omega arith }
@@ -175,18 +151,13 @@ module _ (before : ℕ → Bool) (c rest less row : ℕ) (rows : Rows) (dues : D
                 by-row (λ j. has_bit (get_or new.places.items k 0) j ≡ true
                 → IsOnWheel (length new.entries.items) j k (get_or new.nexts.items j 0) (get_or new.entries.items j no_entry) (has_bit more.always.rows j)) row i
                 (λ here. absurd (both_ways (has_bit (get_or new.places.items k 0) row) (begun.places k row below ∙ gone k below) here))
-                (λ other there. on_wheel-other row rows new dues more but-begun i other (length rows.entries.items) (length new.entries.items) k (omega arith)
-                (g.room.on_wheel k i below (sym (but-begun.place k i below other) ∙ there))) in';
+                (λ other there. grind (arith, but-begun)) in';
           }
 
       here-begun : ReleasedAt new more before c row
       here-begun =
           let always : IsAlways P (c + 1) = record { period = period; live = live; since = let since = is-always.since in omega arith } in (
-            rw (ap (λ xs. get_or xs row no_entry) entries-begun, always-here) (record {
-              next_is = λ wrong. absurd (cc);
-              on = λ wrong. absurd (cc);
-              always_is = λ _. always;
-            }),
+            rw (ap (λ xs. get_or xs row no_entry) entries-begun, always-here) (grind (arith, on)),
             rw (ap (λ xs. get_or xs row no_entry) entries-begun, waiting-begun, always-here, ap (λ xs. get_or xs row 0) lasts-begun, soonest-begun)
                 (due-stay before c P (has_bit dues.waiting.rows row) true 0 (get_or rows.lasts.items row 0) dues.soonest false range
                 (record { next_is = λ wrong. absurd (cc); on = λ wrong. absurd (cc); always_is = λ _. is-always }) (g.later row within stands').1
@@ -204,56 +175,31 @@ module _ (before : ℕ → Bool) (c rest less row : ℕ) (rows : Rows) (dues : D
       ending : ℕ
       ending = c + P.entry.deadline - 1
 
-      waiting-other : (i : ℕ) → nat_eq row i ≡ false → has_bit more.waiting.rows i ≡ has_bit dues.waiting.rows i
-      waiting-other i other = done.added.rows i ∙ ap (λ b. b || has_bit dues.waiting.rows i) other
-
       waiting-here : has_bit more.waiting.rows row ≡ true
       waiting-here = done.added.rows row ∙ ap (λ b. b || has_bit dues.waiting.rows row) (eq-eqb row row refl)
 
       always-same : more.always ≡ dues.always
       always-same = ap (λ d. d.always) done.others
 
-      soonest-is : more.soonest ≡ min dues.soonest ending
-      unfolding ending
-      soonest-is = ap (λ d. d.soonest) done.others
-
       moved-other : (k i : ℕ) → k < 64 → nat_eq row i ≡ false → has_bit (get_or new.places.items k 0) i ≡ has_bit (get_or rows.places.items k 0) i
       unfolding coming
-      moved-other k i below other =
-          done.moved.places k i below
-          ∙ ap (λ b. b || (exists P coming && is_there (coming % 64) row k i)) (off-other k i other)
-          ∙ ap (λ b. has_bit (get_or rows.places.items k 0) i || (exists P coming && b)) (there-not (coming % 64) row k i other)
-          ∙ ap (λ b. has_bit (get_or rows.places.items k 0) i || b) (and-false (exists P coming))
-          ∙ or-false (has_bit (get_or rows.places.items k 0) i)
+      moved-other k i below other = grind (arith, coming, and-false, or-false)
 
       moved-here : (k : ℕ) → k < 64 → has_bit (get_or new.places.items k 0) row ≡ (exists P coming && is_there (coming % 64) row k row)
       unfolding coming
-      moved-here k below =
-          done.moved.places k row below ∙ ap (λ b. b || (exists P coming && is_there (coming % 64) row k row)) (gone k below)
+      moved-here k below = grind (arith, coming, gone)
 
       next-here : get_or new.nexts.items row 0 ≡ coming
       unfolding coming
-      next-here =
-          let size = g.room.nexts in
-          ap (λ xs. get_or xs row 0) done.moved.nexts ∙ get_or-set_same rows.nexts.items row coming 0 (omega arith)
+      next-here = grind (arith, get_or-set_same, coming)
 
       last-here : get_or new.lasts.items row 0 ≡ ending
       unfolding ending
-      last-here =
-          let size = g.room.lasts in
-          ap (λ xs. get_or xs row 0) done.moved.lasts ∙ get_or-set_same rows.lasts.items row ending 0 (omega arith)
+      last-here = grind (arith, get_or-set_same, ending)
 
       but-released : IsSameBut row rows new dues more
       unfolding coming ending
-      but-released = record {
-        entry = λ i other. ap (λ xs. get_or xs i no_entry) done.moved.entries;
-        next = λ i other. ap (λ xs. get_or xs i 0) done.moved.nexts ∙ get_or-set_other rows.nexts.items row i coming 0 (other-row row i other);
-        last = λ i other. ap (λ xs. get_or xs i 0) done.moved.lasts ∙ get_or-set_other rows.lasts.items row i ending 0 (other-row row i other);
-        place = moved-other;
-        waiting = waiting-other;
-        always = λ i other. ap (λ s. has_bit s.rows i) always-same;
-        sooner = let same = soonest-is in omega arith;
-      }
+      but-released = grind (arith, next, get_or-set_other, coming, other-row, ending, moved-other, always-same, same)
 
       entry-here : get_or new.entries.items row no_entry ≡ P
       entry-here = ap (λ xs. get_or xs row no_entry) done.moved.entries
@@ -261,16 +207,7 @@ module _ (before : ℕ → Bool) (c rest less row : ℕ) (rows : Rows) (dues : D
       -- where the row stands at a place, its next release comes there
       on-here : (k : ℕ) → k < 64 → has_bit (get_or new.places.items k 0) row ≡ true
           → IsOnWheel (length new.entries.items) row k (get_or new.nexts.items row 0) (get_or new.entries.items row no_entry) (has_bit more.always.rows row)
-      on-here k below in' =
-          let parts = and_parts (exists P coming) (is_there (coming % 64) row k row) (sym (moved-here k below) ∙ in') in
-          let there = and_parts (nat_eq (coming % 64) k) (nat_eq row row) parts.1 in
-          let size = ap length done.moved.entries in
-          rw (entry-here, always-same, next-here) (record {
-            within = omega arith;
-            at = eqb-true (coming % 64) k there.0;
-            coming = Exists-from_test P coming parts.0;
-            off = on.off;
-          })
+      on-here k below in' = grind (arith, common_steps, and_parts, coming, moved-here, entry-here, always-same, next-here, eqb-true, on)
 
       room-released : HasRoom (length new.entries.items) new more
       room-released =
@@ -289,23 +226,12 @@ module _ (before : ℕ → Bool) (c rest less row : ℕ) (rows : Rows) (dues : D
                 by-row (λ j. has_bit (get_or new.places.items k 0) j ≡ true
                 → IsOnWheel (length new.entries.items) j k (get_or new.nexts.items j 0) (get_or new.entries.items j no_entry) (has_bit more.always.rows j)) row i
                 (on-here k below)
-                (λ other there. on_wheel-other row rows new dues more but-released i other (length rows.entries.items) (length new.entries.items) k (omega arith)
-                (g.room.on_wheel k i below (sym (moved-other k i below other) ∙ there))) in';
+                (λ other there. grind (arith, but-released, moved-other)) in';
           }
 
       here-released : ReleasedAt new more before c row
       unfolding coming ending
-      here-released = (
-        rw (entry-here, always-same, next-here) (record {
-          next_is = λ _. next-after P c (get_or rows.nexts.items row 0) range next now;
-          on = λ _ exists-then.
-              moved-here (coming % 64) (mod-lt coming (omega arith))
-              ∙ ap (λ b. b && is_there (coming % 64) row (coming % 64) row) (exists-true P coming exists-then) ∙ there-is (coming % 64) row;
-          always_is = λ wrong. absurd (both_ways (has_bit dues.always.rows row) on.off wrong);
-        }),
-        rw (entry-here, waiting-here, always-same, on.off, last-here, soonest-is)
-            (due-released before c P next.number (min dues.soonest ending) range is-release exists-now (omega arith)),
-      )
+      here-released = (grind (arith, entry-here, always-same, next-here, next-after, range, next, on, moved-here, coming, mod-lt, exists-true, there-is, both_ways, waiting-here, last-here, ending, is-release))
 
       pub release : IsReleasing before c less new more
       release = step new more (ap length done.moved.entries) but-released room-released here-released
@@ -326,15 +252,11 @@ pub releasing-start : (rest : ℕ) (w : Wheel) → IsTurned w → rest ≡ get_o
     → IsReleasing (has_bit w.dues.waiting.slots) w.cycle rest w.rows w.dues
 releasing-start rest w t is =
     releasing-from rest w t (λ row in'. ap (λ m. has_bit m row) (sym is) ∙ in')
-    (λ row below out off exists same. both_ways (has_bit rest row) out
-    (ap (λ m. has_bit m row) is ∙ ap (λ n. is_found w.rows n row) (sym same) ∙ (t.each row below).0.on off exists))
+    (λ row below out off exists same. grind (arith, both_ways, same, on))
 
 -- when all rows are looked at
 pub releasing-end : (before : ℕ → Bool) (rest : ℕ) (w : Wheel) → IsReleasing before w.cycle rest w.rows w.dues → rest ≡ 0 → IsReleased before w
-releasing-end before rest w g none = record {
-  room = g.room;
-  each = λ row below. g.made row below (ap (λ m. has_bit m row) none ∙ has_bit-none row);
-}
+releasing-end before rest w g none = grind (arith, has_bit-none)
 
 pub row-within : (before : ℕ → Bool) (c rest row : ℕ) (rows : Rows) (dues : Dues) → IsReleasing before c rest rows dues → has_bit rest row ≡ true
     → row < length rows.entries.items

@@ -1,5 +1,6 @@
 -- A cycle that is planned by rows, and the wheel after it.
 use Rattle.std.proofs.Common.{◌≡◌, ◌≢◌, ℕ, zero, suc, ◌+◌, ◌%◌, ◌<◌, ◌≤◌, ◌^◌, ◌&&◌, ◌||◌, not, Bool, true, false, nat_eq, nat_le, if◌then◌else◌, Some, None, List, IsPermutation, get_or, length, take, length-take, refl, sym, ap, subst, ◌∙◌, ⊎_elim, arith}
+use Rattle.std.proofs.lemmas.Grind.{common_steps}
 use Rattle.std.proofs.Math.Bool.{or-false}
 use Rattle.std.specs.List.{list_any}
 use Rattle.std.proofs.lemmas.Bool.{and_from, and_parts, both_ways, cases_lt, eq-eqb, eqb-true, false_from_ne_true, lt-ltb, ne_eqb, or_cases, or_left}
@@ -8,15 +9,15 @@ use Rattle.std.proofs.lemmas.List.Elements.{All-contains, Contains-get_or}
 use Rattle.std.proofs.lemmas.List.Folds.{list_any-from_Any}
 use Rattle.std.proofs.lemmas.Option.{same_Some}
 use Rattle.requirement_table.specs.declared.entries.Placed.{Placed}
-use Rattle.requirement_table.specs.Instance.{Exists, Instance, MaySend, deadline_of, instance_of, release_of}
+use Rattle.requirement_table.specs.Instance.{Exists, MaySend, deadline_of, instance_of, release_of}
 use Rattle.bit_sets.specs.Sets.{has_bit, most_slots}
-use Rattle.requirement_table.specs.Table.{IsInRange, IsWellPlaced, instance_in, is_last_in}
+use Rattle.requirement_table.specs.Table.{IsInRange, IsWellPlaced, is_last_in}
 use Rattle.requirement_table.proofs.Shared.{MaySend-from_instance, instance_of-sent}
 use Rattle.bit_sets.proofs.Shared.{has_bit-none, set_of-from_slots, sum_where-or, has_bit-empty}
 use Rattle.planner_policies.specs.declared.Policy.{Policy}
 use Rattle.planner_policies.specs.declared.Policy.TheVariants.{Edf}
 use Rattle.planner_policies.specs.declared.due.Due.{Due}
-use Rattle.planner_policies.specs.Due.{IsAllFitting, IsDueIn, IsDueOf, IsOf, IsPending, IsPlanned, IsSetOf, IsWholeLine, is_due_by, is_held_in, left_of, taken_of}
+use Rattle.planner_policies.specs.Due.{IsAllFitting, IsDueIn, IsDueOf, IsPending, IsPlanned, IsSetOf, IsWholeLine, is_due_by, is_held_in, left_of, taken_of}
 use Rattle.planner_policies.specs.Plan.{HasNoMissIn, Planning, Ranking, is_missed_in, left_after, pending_in, planning_of}
 use Rattle.planner_policies.specs.Ranked.{AreRanked}
 use Rattle.release_wheel.specs.declared.dues.Dues.{Dues}
@@ -24,11 +25,11 @@ use Rattle.release_wheel.specs.declared.dues.Sum.{Sum}
 use Rattle.release_wheel.specs.declared.rows.Rows.{Rows}
 use Rattle.release_wheel.specs.declared.wheel.Wheel.{Wheel}
 use Rattle.release_wheel.specs.Taking.{AreDue, AreOfDistinctSlots, AreOfRows, IsLineOfRows, IsTook, goes_by, last_of}
-use Rattle.release_wheel.specs.Wheel.{AreInTime, HasRoom, IsBelow, IsPart, IsPlannedOn, IsReleased, IsSlotsOf, IsSumOf, IsTurned, IsWheelReady, RowStandsAt, any_below, cost_at, cost_below, due_of_row, is_found, no_entry, slot_at}
+use Rattle.release_wheel.specs.Wheel.{AreInTime, HasRoom, IsBelow, IsPart, IsPlannedOn, IsReleased, IsSlotsOf, IsSumOf, IsTurned, IsWheelReady, RowStandsAt, any_below, cost_at, cost_below, due_of_row, no_entry, slot_at}
 use Rattle.planner_policies.proofs.Shared.{all-planned, planned-set, planned-width, split-of, IsSplit, has_slot, instance-with, last-is, slots-contain, same-test, held-parts, due_in-of, fresh, sends-test, sends_of, stands-in, whole_line-of, cost_of}
 use Rattle.release_wheel.proofs.Releasing.{releasing-end, releasing-from}
 use Rattle.release_wheel.proofs.RowDues.{held-is}
-use Rattle.release_wheel.proofs.RowLines.{AreDues, IsLineTo, IsOneOf, by-last, by-rank, line-to, line_of-rows, same-due}
+use Rattle.release_wheel.proofs.RowLines.{AreDues, IsLineTo, IsOneOf, by-last, by-rank, line-to, line_of-rows}
 use Rattle.release_wheel.proofs.RowSums.{any-found, any-same, any-none, cost-both, one-below}
 use Rattle.release_wheel.proofs.RowTaking.{cost-none}
 
@@ -38,11 +39,7 @@ pub one-row : (placed entries : List Placed) (c slot i j : ℕ) → IsWellPlaced
 one-row placed entries c slot i j well same within_i within_j sends_i sends_j =
     ⊎_elim
     (λ (less : i < j). absurd (apart i j within_i within_j sends_i sends_j less))
-    (λ (not : j ≤ i).
-    ⊎_elim
-    (λ (less : j < i). absurd (apart j i within_j within_i sends_j sends_i less))
-    (λ (other : i ≤ j). omega arith)
-    (cases_lt j i))
+    (λ (not : j ≤ i). grind (arith, apart, cases_lt))
     (cases_lt i j)
   where
     apart : (i j : ℕ) → i < length entries → j < length entries → sends_of c slot (get_or entries i no_entry) ≡ true
@@ -51,9 +48,7 @@ one-row placed entries c slot i j well same within_i within_j sends_i sends_j =
         let none = fresh placed entries c slot j no_entry well same within_j sends_j in
         let short : i < length (take j entries) = omega (arith, length-take j entries) in
         let stands = Contains-get_or (take j entries) i no_entry short in
-        let value : sends_of c slot (get_or (take j entries) i no_entry) ≡ true = ap (sends_of c slot) (get_or-take j entries i no_entry less) ∙ sends_i in
-        both_ways (list_any (sends_of c slot) (take j entries)) none
-        (list_any-from_Any (sends_of c slot) (take j entries) (stands.0, get_or (take j entries) i no_entry, stands.1, stands.2, value))
+        grind (arith, sends_of, get_or-take, both_ways, list_any-from_Any)
 
 any-or : (n : ℕ) (p q r : ℕ → Bool) → (any_below n (λ i. p i && r i) || any_below n (λ i. q i && r i)) ≡ any_below n (λ i. (p i || q i) && r i)
 unfolding any_below
@@ -64,18 +59,10 @@ any-or (suc n) p q r =
     ∙ ap (λ b. any_below n (λ i. (p i || q i) && r i) || b) (join (p n) (q n) (r n))
   where
     along : (a b c d : Bool) → ((a || b) || (c || d)) ≡ ((a || c) || (b || d))
-    along true b c d = refl
-    along false true true d = refl
-    along false true false d = refl
-    along false false true d = refl
-    along false false false d = refl
+    along a b c d = grind arith
 
     join : (a b c : Bool) → ((a && c) || (b && c)) ≡ ((a || b) && c)
-    join true true true = refl
-    join true true false = refl
-    join true false true = refl
-    join true false false = refl
-    join false b c = refl
+    join a b c = grind arith
 
 any-and-not : (n : ℕ) (p r : ℕ → Bool) (s : ℕ) (slot : ℕ → ℕ) (b : Bool) → ((i : ℕ) → nat_eq (slot i) s ≡ true → r i ≡ b)
     → any_below n (λ i. (p i && not (r i)) && nat_eq (slot i) s) ≡ (any_below n (λ i. p i && nat_eq (slot i) s) && not b)
@@ -89,41 +76,22 @@ any-and-not (suc n) p r s slot b at =
     step a x y b true at = rw (at refl) (both a x b)
       where
         both : (a x b : Bool) → ((a && not b) || ((x && not b) && true)) ≡ ((a || (x && true)) && not b)
-        both true true true = refl
-        both true true false = refl
-        both true false true = refl
-        both true false false = refl
-        both false true true = refl
-        both false true false = refl
-        both false false b = refl
+        both a x b = grind (arith, common_steps)
     step true true y b false at = last (not b) (not y)
       where
         last : (a c : Bool) → (a || (c && false)) ≡ a
-        last true c = refl
-        last false true = refl
-        last false false = refl
+        last a c = grind (arith, common_steps)
     step true false y b false at = or-false (not b)
     step false true y b false at = last (not y)
       where
         last : (a : Bool) → (false || (a && false)) ≡ (false && not b)
-        last true = refl
-        last false = refl
+        last a = grind (arith, common_steps)
     step false false y b false at = refl
 
 -- other rows wait
 room-on : (n : ℕ) (rows : Rows) (dues : Dues) (waiting : Sum) (soonest : ℕ) → HasRoom n rows dues → IsSumOf rows.entries.items n waiting
     → HasRoom n rows (record dues { waiting = waiting; soonest = soonest })
-room-on n rows dues waiting soonest room sum = record {
-  within = room.within;
-  few = room.few;
-  nexts = room.nexts;
-  lasts = room.lasts;
-  places = room.places;
-  in_range = room.in_range;
-  waiting = sum;
-  always = room.always;
-  on_wheel = room.on_wheel;
-}
+room-on n rows dues waiting soonest room sum = grind arith
 
 -- a wheel where nothing waits
 pub nothing-waits : (rows : Rows) (dues : Dues) (waiting : Sum) (soonest c quiet : ℕ) (policy : Policy) (turns : Bool) → HasRoom (length rows.entries.items) rows dues
@@ -142,15 +110,7 @@ nothing-waits rows dues waiting soonest c quiet policy turns room none slots cos
         (λ row below. ap (λ b. b && nat_eq (slot_at rows.entries.items row) slot) (sym (has_bit-empty waiting.rows row none)));
     cost = cost ∙ sym (ap (cost_below rows.entries.items (length rows.entries.items)) none ∙ cost-none rows.entries.items (length rows.entries.items));
   });
-  each = λ row below. (
-    stands row below,
-    record {
-      waits_is = has_bit-empty waiting.rows row none
-          ∙ ap (λ b. b && is_held_in c (get_or rows.entries.items row no_entry)) (sym (slots (slot_at rows.entries.items row)));
-      last_is = λ in'. absurd (both_ways (has_bit waiting.rows row) (has_bit-empty waiting.rows row none) in');
-      soonest_is = λ in'. absurd (both_ways (has_bit waiting.rows row) (has_bit-empty waiting.rows row none) in');
-    },
-  );
+  each = λ row below. (grind (arith, below, has_bit-empty, both_ways));
   quiet_is = λ less. record { none_waiting = none; none_always = (later less).0; none_coming = (later less).1 };
 }
 
@@ -170,20 +130,7 @@ pub turned-all : (before : ℕ → Bool) (w : Wheel) (waiting : Sum) (quiet soon
 turned-all before w waiting quiet soonest released none never empty =
     nothing-waits w.rows w.dues waiting soonest (w.cycle + 1) quiet w.policy w.turns released.room (ap (λ s. s.rows) none)
     (λ slot. ap (λ s. has_bit s.slots slot) none ∙ has_bit-none slot) (ap (λ s. s.cost) none) (λ row within. (released.each row within).0)
-    (λ later. (
-      never later,
-      λ row within exists.
-          let off = has_bit-empty w.dues.always.rows row (never later) in
-          let stands = (released.each row within).0 in
-          let reached = (stands.next_is off).reached exists in
-          ⊎_elim
-          (λ (sooner : get_or w.rows.nexts.items row 0 < quiet).
-          absurd (both_ways (is_found w.rows (get_or w.rows.nexts.items row 0) row)
-          (has_bit-empty (get_or w.rows.places.items (get_or w.rows.nexts.items row 0 % 64) 0) row (empty (get_or w.rows.nexts.items row 0) reached sooner))
-          (stands.on off exists)))
-          (λ (after : quiet ≤ get_or w.rows.nexts.items row 0). after)
-          (cases_lt (get_or w.rows.nexts.items row 0) quiet),
-    ))
+    (λ later. (grind (arith, has_bit-empty, both_ways, cases_lt)))
 
 -- the wheel after a cycle in which nothing was pending
 pub turned-quiet : (w : Wheel) (slots : ℕ) → IsTurned w → w.cycle < w.quiet → slots ≡ 0
@@ -208,14 +155,7 @@ quiet-slots w slot t less =
     ∙ t.room.always.slots slot ∙ none w.dues.always.rows quiet.none_always
 
 pub quiet-cost : (w : Wheel) → IsTurned w → w.cycle < w.quiet → w.dues.waiting.cost + w.dues.always.cost ≡ 0
-quiet-cost w t less =
-    let quiet = t.quiet_is less in
-    let n = length w.rows.entries.items in
-    let one : cost_below w.rows.entries.items n w.dues.waiting.rows ≡ 0 = ap (cost_below w.rows.entries.items n) quiet.none_waiting ∙ cost-none w.rows.entries.items n in
-    let other : cost_below w.rows.entries.items n w.dues.always.rows ≡ 0 = ap (cost_below w.rows.entries.items n) quiet.none_always ∙ cost-none w.rows.entries.items n in
-    let first = t.room.waiting.cost in
-    let second = t.room.always.cost in
-    omega arith
+quiet-cost w t less = grind (arith, cost-none)
 
 module _ (ranking : Ranking) (pending window : ℕ) (w : Wheel) (ready : IsWheelReady ranking pending w) where
   abbrev E : List Placed
@@ -251,9 +191,7 @@ module _ (ranking : Ranking) (pending window : ℕ) (w : Wheel) (ready : IsWheel
 
   -- what a row of the set has to send
   pending-of : (row : ℕ) → test row ≡ true → IsPending ranking.policy before w.cycle (get_or w.rows.entries.items row no_entry) (dues row)
-  pending-of row in' =
-      let P : Bool → Type 0 = λ b. IsDueOf ranking.policy before w.cycle (get_or w.rows.entries.items row no_entry) (if b then Some (dues row) else None) in
-      subst P in' (due-of row (test-within row in'))
+  pending-of row in' = grind (arith, due-of, test-within)
 
   range-of : (row : ℕ) → row < N → IsInRange (get_or w.rows.entries.items row no_entry)
   range-of row within = ready.released.room.in_range row within
@@ -278,8 +216,6 @@ module _ (ranking : Ranking) (pending window : ℕ) (w : Wheel) (ready : IsWheel
 
   pub cost-of : (due : ℕ) → ((row : ℕ) → has_bit due row ≡ test row) → w.dues.waiting.cost + w.dues.always.cost ≡ cost_below E N due
   cost-of due rows =
-      let one = ready.released.room.waiting.cost in
-      let other = ready.released.room.always.cost in
       let both = cost-both E N w.dues.waiting.rows w.dues.always.rows due apart rows in
       omega arith
 
@@ -302,17 +238,9 @@ module _ (ranking : Ranking) (pending window : ℕ) (w : Wheel) (ready : IsWheel
   all-fitting : (mask : ℕ) → mask < 2 ^ most_slots → ((slot : ℕ) → has_bit mask slot ≡ (has_bit w.dues.waiting.slots slot || has_bit w.dues.always.slots slot))
       → w.dues.waiting.cost + w.dues.always.cost ≤ window → IsAllFitting plan w.cycle before mask (w.dues.waiting.cost + w.dues.always.cost)
   all-fitting mask small made fits =
-      let one = ready.released.room.waiting.cost in
       let other = ready.released.room.always.cost in
       let both = sum_where-or N (has_bit w.dues.waiting.rows) (has_bit w.dues.always.rows) (cost_at E) apart in
-      let cost = all-of.cost in
-      record {
-        line = all-of.line;
-        whole = whole-of;
-        slots = record { slots = λ slot. made slot ∙ slots-of slot ∙ sym (all-of.slots slot); below = small };
-        cost = omega arith;
-        fits = fits;
-      }
+      grind (arith, all-of, whole-of, slots-of, below)
 
   -- where all fits
   pub planned-all : (mask : ℕ) → mask < 2 ^ most_slots → ((slot : ℕ) → has_bit mask slot ≡ (has_bit w.dues.waiting.slots slot || has_bit w.dues.always.slots slot))
@@ -353,17 +281,10 @@ module _ (ranking : Ranking) (pending window : ℕ) (w : Wheel) (ready : IsWheel
           (λ row below. ap (λ b. b && nat_eq (slot_at E row) slot) (sym (left_is row ∙ ap (λ b. b && not (has_bit mask (slot_at E row))) (rows row))))
 
       left-test : (row : ℕ) → has_bit left row ≡ true → test row ≡ true
-      left-test row in' =
-          sym (rows row) ∙ (and_parts (has_bit due row) (not (has_bit mask (slot_at E row))) (sym (left_is row) ∙ in')).0
-
-      left-within : (row : ℕ) → has_bit left row ≡ true → row < N
-      left-within row in' = test-within row (left-test row in')
+      left-test row in' = grind (arith, and_parts)
 
       pending-left : (slot : ℕ) → slot < most_slots → has_bit next slot ≡ left_after plan w.cycle before slot
-      pending-left slot known =
-          made slot
-          ∙ ap (λ b. b && not (has_bit mask slot)) (slots-of slot ∙ sym (all-of.slots slot) ∙ whole-pending all-of.line slot known whole-of)
-          ∙ ap (λ b. pending_in plan.placed w.cycle before slot && not b) (mask_of.slots slot ∙ split.planned slot known)
+      pending-left slot known = grind (arith, slots-of, all-of, whole-pending, whole-of, split)
 
       -- none that is left is in its last cycle
       module _ (soonest cost : ℕ) (time : AreInTime w left soonest) (cost_is : cost ≡ cost_below w.rows.entries.items (length w.rows.entries.items) left)
@@ -382,16 +303,9 @@ module _ (ranking : Ranking) (pending window : ℕ) (w : Wheel) (ready : IsWheel
           held-on row in' =
               let is = pending-of row (left-test row in') in
               let sends = is.sends in
-              let released = sends.released in
-              let later = time.later row in' in
               let last : get_or w.rows.lasts.items row 0 + 1 ≡ deadline_of (get_or w.rows.entries.items row no_entry) is.number
               = ap (λ n. n + 1) (sym (last-of-left row in')) ∙ is.is.last in
-              record {
-                number = is.number;
-                sends = record { exists = sends.exists; released = omega arith; in_time = omega arith };
-                earlier = omega arith;
-                last = last;
-              }
+              grind (arith, last)
 
           none-missed-now : HasNoMissIn plan w.cycle before
           none-missed-now slot known =
@@ -402,7 +316,6 @@ module _ (ranking : Ranking) (pending window : ℕ) (w : Wheel) (ready : IsWheel
               let both = and_parts (has_bit left row) (nat_eq (slot_at E row) slot) one.passes in
               let in' = due_in-of plan w.cycle before (get_or w.rows.entries.items row no_entry) (dues row) ready.well
               (stands-in ranking.placed E row no_entry ready.of_ranking.same one.within) (pending-of row (left-test row both.0)) in
-              let later = time.later row both.0 in
               let last = last-of-left row both.0 in
               let not_last : is_last_in plan.placed w.cycle slot ≡ false
               = ap (is_last_in plan.placed w.cycle) (sym (eqb-true (slot_at E row) slot both.1)) ∙ last-is plan w.cycle before (dues row) in'
@@ -439,8 +352,7 @@ module _ (ranking : Ranking) (pending window : ℕ) (w : Wheel) (ready : IsWheel
               let same : row ≡ one.row
               = one-row ranking.placed E (w.cycle + 1) (slot_at E row) row one.row ready.well ready.of_ranking.same within one.within
               (sends-test (w.cycle + 1) (slot_at E row) p own.0 (range-of row within) refl (MaySend-from_instance p own.0 (w.cycle + 1) own.1))
-              (sends-test (w.cycle + 1) (slot_at E row) (get_or w.rows.entries.items one.row no_entry) other.number (range-of one.row one.within)
-              (eqb-true (slot_at E one.row) (slot_at E row) in'.1) other.sends) in
+              (grind (arith, common_steps, sends-test, range-of, eqb-true)) in
               both_ways (has_bit left row) is (ap (has_bit left) same ∙ in'.0)))
 
           last-on : (row : ℕ) → row < N → has_bit left row ≡ true → (k : ℕ) → MaySend (get_or w.rows.entries.items row no_entry) k (w.cycle + 1)
@@ -448,10 +360,8 @@ module _ (ranking : Ranking) (pending window : ℕ) (w : Wheel) (ready : IsWheel
           last-on row within in' k sends =
               let p = get_or w.rows.entries.items row no_entry in
               let held = held-on row in' in
-              let deadline = (range-of row within).entry.deadline in
               let same : held.number ≡ k
-              = same_Some held.number k
-              (sym (instance_of-sent p held.number (w.cycle + 1) deadline held.sends) ∙ instance_of-sent p k (w.cycle + 1) deadline sends) in
+              = grind (arith, same_Some, instance_of-sent) in
               held.last ∙ ap (deadline_of p) same
 
           -- the wheel after it
@@ -463,15 +373,7 @@ module _ (ranking : Ranking) (pending window : ℕ) (w : Wheel) (ready : IsWheel
           }
 
           turned-some : IsTurned after
-          turned-some = record {
-            room = room-on N w.rows w.dues (record { rows = left; slots = next; cost = cost }) soonest ready.released.room
-                (record { below = left-within; slots = slots-left; cost = cost_is });
-            each = λ row within. (
-              (ready.released.each row within).0,
-              record { waits_is = waits-on row within (has_bit left row) refl; last_is = last-on row within; soonest_is = time.soonest_is row },
-            );
-            quiet_is = λ wrong. absurd (omega arith);
-          }
+          turned-some = grind (arith, room-on, below, slots-left, waits-on, last-on)
 
           pub some-on : IsPlannedOn ranking window pending w after mask width
           some-on = record { planned = planned-some; next = refl; turned = turned-some; table = record { entries = refl; others = refl } }
@@ -485,15 +387,7 @@ module _ (ranking : Ranking) (pending window : ℕ) (w : Wheel) (ready : IsWheel
       let parts = and_parts (test one.row) (nat_eq (slot_at E one.row) due.slot) one.passes in
       let own = due_in-of plan w.cycle before (get_or w.rows.entries.items one.row no_entry) (dues one.row) ready.well
       (stands-in ranking.placed E one.row no_entry ready.of_ranking.same one.within) (pending-of one.row parts.0) in
-      let same : in'.instance ≡ own.instance
-      = same_Some in'.instance own.instance
-      (sym in'.found ∙ ap (λ slot. instance_in plan.placed slot w.cycle) (sym (eqb-true (slot_at E one.row) due.slot parts.1)) ∙ own.found) in
-      let P : Instance → Type 0 = λ i. IsOf plan.policy i due in
-      record {
-        row = one.row;
-        stands = parts.0;
-        is = same-due plan.policy own.instance due (dues one.row) (subst P same in'.is) own.is;
-      }
+      grind (arith, same_Some, eqb-true)
 
   -- all that is pending, in key order, is a line of the rows
   whole-line : (due : ℕ) → ((row : ℕ) → has_bit due row ≡ test row) → IsLineOfRows dues (has_bit due) all-of.line
@@ -554,8 +448,4 @@ module _ (ranking : Ranking) (pending window : ℕ) (w : Wheel) (ready : IsWheel
     where
       in-time : (row : ℕ) → has_bit w.dues.waiting.rows row ≡ true → IsPending ranking.policy before w.cycle (get_or w.rows.entries.items row no_entry) (dues row)
           → w.cycle ≤ get_or w.rows.lasts.items row 0
-      in-time row in' is =
-          let own : last_of w row ≡ get_or w.rows.lasts.items row 0 = ap (λ b. if b then w.cycle else get_or w.rows.lasts.items row 0) (apart row in') in
-          let last = is.is.last in
-          let sooner = is.sends.in_time in
-          omega arith
+      in-time row in' is = grind (arith, common_steps)

@@ -1,5 +1,6 @@
 -- Rows that are filled in, one after the other.
-use Rattle.std.proofs.Common.{◌≡◌, ℕ, suc, ◌%◌, ◌<◌, ◌≤◌, ◌&&◌, ◌||◌, not, Bool, true, false, nat_eq, min, List, Contains, IsPermutation, get_or, length, refl, sym, ap, subst, ◌∙◌, ⊎_elim, arith}
+use Rattle.std.proofs.Common.{◌≡◌, ℕ, suc, ◌%◌, ◌<◌, ◌≤◌, ◌&&◌, not, Bool, true, false, nat_eq, min, List, Contains, IsPermutation, get_or, length, refl, sym, ap, ◌∙◌, ⊎_elim, arith}
+use Rattle.std.proofs.lemmas.Grind.{common_steps}
 use Rattle.std.proofs.Math.Bool.{and-false, or-false}
 use Rattle.std.proofs.lemmas.Bool.{and_from, and_parts, both_ways, eq-eqb, eqb-false, eqb-true, lt-ltb, or_cases, or_right}
 use Rattle.std.proofs.lemmas.List.{get_or-set_other, get_or-set_same, take_all}
@@ -11,7 +12,7 @@ use Rattle.requirement_table.specs.declared.entries.Placed.{Placed}
 use Rattle.requirement_table.specs.Instance.{exists, release_of}
 use Rattle.bit_sets.specs.Sets.{has_bit}
 use Rattle.requirement_table.specs.Table.{IsInRange, IsWellPlaced}
-use Rattle.requirement_table.proofs.Shared.{Exists-from_test, exists-true, found-in}
+use Rattle.requirement_table.proofs.Shared.{exists-true, found-in}
 use Rattle.planner_policies.specs.Due.{is_held_in}
 use Rattle.planner_policies.specs.Plan.{IsValid, Ranking}
 use Rattle.planner_policies.specs.Ranked.{AreRanked}
@@ -21,7 +22,7 @@ use Rattle.release_wheel.specs.declared.rows.Rows.{Rows}
 use Rattle.release_wheel.specs.Wheel.{AreFilled, HasRoom, IsFilledTo, IsOnWheel, IsRowSet, IsSameBut, IsSlotsOf, IsSumOf, TurnedAt, any_below, is_there, no_entry, slot_at}
 use Rattle.release_wheel.proofs.RowDues.{held-is}
 use Rattle.bit_sets.proofs.Shared.{has_bit-none}
-use Rattle.release_wheel.proofs.RowSteps.{by-row, on_wheel-other, other-row, there-is, there-not, turned-other}
+use Rattle.release_wheel.proofs.RowSteps.{by-row, other-row, there-is, turned-other}
 use Rattle.release_wheel.proofs.RowSums.{added-here, added-other, any-found, one-below, sum-next}
 
 module _ (list : List Placed) (n c pending : ℕ) (rows new : Rows) (dues more : Dues) (p : Placed) (f : IsFilledTo list n c pending rows dues)
@@ -48,19 +49,7 @@ module _ (list : List Placed) (n c pending : ℕ) (rows new : Rows) (dues more :
   sooner a b c is = omega arith
 
   but-set : IsSameBut n rows new dues more
-  but-set = record {
-    entry = entry-other;
-    next = λ i other. ap (λ xs. get_or xs i 0) s.down.nexts ∙ get_or-set_other rows.nexts.items n i s.next 0 (other-row n i other);
-    last = λ i other. ap (λ xs. get_or xs i 0) s.down.lasts ∙ get_or-set_other rows.lasts.items n i s.last 0 (other-row n i other);
-    place = λ k i below other.
-        s.down.places k i below
-        ∙ ap (λ b. has_bit (get_or rows.places.items k 0) i || ((not s.begun && exists p s.next) && b)) (there-not (s.next % 64) n k i other)
-        ∙ ap (λ b. has_bit (get_or rows.places.items k 0) i || b) (and-false (not s.begun && exists p s.next))
-        ∙ or-false (has_bit (get_or rows.places.items k 0) i);
-    waiting = added-other rows.entries.items new.entries.items n p s.waits dues.waiting more.waiting f.room.waiting s.waiting entry-here entry-other;
-    always = added-other rows.entries.items new.entries.items n p s.begun dues.always more.always f.room.always s.always entry-here entry-other;
-    sooner = sooner dues.soonest s.last more.soonest s.soonest;
-  }
+  but-set = grind (arith, entry-other, get_or-set_other, other-row, and-false, or-false, added-other, entry-here, sooner)
 
   -- the row that was filled in stands where its next release comes
   on-here : (k : ℕ) → k < 64 → has_bit (get_or new.places.items k 0) n ≡ true
@@ -68,20 +57,11 @@ module _ (list : List Placed) (n c pending : ℕ) (rows new : Rows) (dues more :
   on-here k below in' =
       ⊎_elim
       (λ (old : has_bit (get_or rows.places.items k 0) n ≡ true). absurd (let less = (f.room.on_wheel k n below old).within in omega arith))
-      (λ (here : ((not s.begun && exists p s.next) && is_there (s.next % 64) n k n) ≡ true).
-      let parts = and_parts (not s.begun && exists p s.next) (is_there (s.next % 64) n k n) here in
-      let comes = and_parts (not s.begun) (exists p s.next) parts.0 in
-      rw (entry-here, next-here, always-here) (record {
-        within = omega arith;
-        at = eqb-true (s.next % 64) k (and_parts (nat_eq (s.next % 64) k) (nat_eq n n) parts.1).0;
-        coming = Exists-from_test p s.next comes.1;
-        off = turn s.begun comes.0;
-      }))
+      (grind (arith, and_parts, entry-here, next-here, always-here, eqb-true, turn))
       (or_cases (has_bit (get_or rows.places.items k 0) n) ((not s.begun && exists p s.next) && is_there (s.next % 64) n k n) (sym (s.down.places k n below) ∙ in'))
     where
       turn : (b : Bool) → not b ≡ true → b ≡ false
-      turn true wrong = absurd (cc)
-      turn false is = refl
+      turn b wrong = grind (arith, common_steps)
 
   less-of : (i : ℕ) → i < suc n → nat_eq n i ≡ false → i < n
   less-of i below other = let differ = eqb-false n i other in omega arith
@@ -106,35 +86,17 @@ module _ (list : List Placed) (n c pending : ℕ) (rows new : Rows) (dues more :
             by-row (λ j. has_bit (get_or new.places.items k 0) j ≡ true
             → IsOnWheel (suc n) j k (get_or new.nexts.items j 0) (get_or new.entries.items j no_entry) (has_bit more.always.rows j)) n i
             (on-here k below)
-            (λ other there. on_wheel-other n rows new dues more but-set i other n (suc n) k (omega arith)
-            (f.room.on_wheel k i below (sym (but-set.place k i below other) ∙ there))) in';
+            (λ other there. grind (arith, but-set)) in';
       }
 
   here-set : TurnedAt new more (has_bit pending) c n
-  here-set = (
-    rw (entry-here, always-here, next-here) (record {
-      next_is = λ _. s.next_is;
-      on = λ off exists-then.
-          let small : s.next % 64 < 64 = mod_below s.next 64 (omega arith) in
-          let comes : (not s.begun && exists p s.next) ≡ true = rw off (exists-true p s.next exists-then) in
-          s.down.places (s.next % 64) n small
-          ∙ or_right (has_bit (get_or rows.places.items (s.next % 64) 0) n) ((not s.begun && exists p s.next) && is_there (s.next % 64) n (s.next % 64) n)
-          (and_from (not s.begun && exists p s.next) (is_there (s.next % 64) n (s.next % 64) n) comes (there-is (s.next % 64) n));
-      always_is = s.begun_is;
-    }),
-    rw (entry-here, waiting-here, last-here) (record {
-      waits_is = s.waits_is;
-      last_is = s.last_is;
-      soonest_is = λ _. let soonest = s.soonest in omega arith;
-    }),
-  )
+  here-set = grind (arith, entry-here, always-here, next-here, mod_below, exists-true, or_right, and_from, there-is, waiting-here, last-here)
 
   pub filled-more : IsFilledTo list (suc n) c pending new more
   filled-more = record {
     room = room-next;
     size = ap length s.down.entries ∙ length-set rows.entries.items n p ∙ f.size;
-    same = λ i below. by-row (λ j. j < suc n → get_or new.entries.items j no_entry ≡ get_or list j no_entry) n i (λ _. entry-here ∙ is)
-        (λ other less. entry-other i other ∙ f.same i (less-of i less other)) below;
+    same = grind (arith, common_steps, by-row, entry-here, entry-other, less-of);
     each = λ i below. by-row (λ j. j < suc n → TurnedAt new more (has_bit pending) c j) n i (λ _. here-set)
         (λ other less. turned-other n rows new dues more but-set i other (has_bit pending) c (f.each i (less-of i less other))) below;
   }
@@ -144,30 +106,13 @@ pub filled-start : (list : List Placed) (c pending : ℕ) (rows : Rows) (dues : 
     → length rows.nexts.items ≡ length list → length rows.lasts.items ≡ length list → length rows.places.items ≡ 64
     → ((k : ℕ) → k < 64 → get_or rows.places.items k 0 ≡ 0) → IsSumOf rows.entries.items 0 dues.waiting → IsSumOf rows.entries.items 0 dues.always
     → IsFilledTo list 0 c pending rows dues
-filled-start list c pending rows dues few entries nexts lasts places empty waiting always = record {
-  room = record {
-    within = omega arith;
-    few = omega arith;
-    nexts = omega arith;
-    lasts = omega arith;
-    places = places;
-    in_range = λ row below. absurd (omega arith);
-    waiting = waiting;
-    always = always;
-    on_wheel = λ place row less in'. absurd (both_ways (has_bit (get_or rows.places.items place 0) row)
-        (ap (λ m. has_bit m row) (empty place less) ∙ has_bit-none row) in');
-  };
-  size = entries;
-  same = λ row below. absurd (omega arith);
-  each = λ row below. absurd (omega arith);
-}
+filled-start list c pending rows dues few entries nexts lasts places empty waiting always = grind (arith, both_ways, has_bit-none)
 
 -- when all rows are filled in
 module _ (ranking : Ranking) (list : List Placed) (c pending : ℕ) (rows : Rows) (dues : Dues) (f : IsFilledTo list (length list) c pending rows dues)
     (well : IsWellPlaced ranking.placed) (same : IsPermutation ranking.placed list) (valid : IsValid ranking.placed c pending) where
   entries-are : rows.entries.items ≡ list
   entries-are =
-      let size = f.size in
       sym (take_all (length list) rows.entries.items (omega arith))
       ∙ take-same (length list) rows.entries.items list (omega arith) (omega arith)
       (λ k d below. same-read rows.entries.items k d no_entry (omega arith) ∙ f.same k below ∙ same-read list k no_entry d below)
@@ -182,19 +127,11 @@ module _ (ranking : Ranking) (list : List Placed) (c pending : ℕ) (rows : Rows
       let found = found-in ranking.placed slot c i well held.found in
       let stands = All-permutation-contains i.placed found.stands in
       let row = stands.0 in
-      let size = f.size in
       let value : get_or rows.entries.items row no_entry ≡ i.placed = f.same row stands.1 ∙ same-read list row no_entry i.placed stands.1 ∙ stands.2 in
-      let waits = (f.each row stands.1).1 in
-      let slot_is : slot_at rows.entries.items row ≡ slot = ap (λ p. p.entry.slot) value ∙ found.of_slot in
       let held_is : is_held_in c (get_or rows.entries.items row no_entry) ≡ true
-      = ap (is_held_in c) value ∙ held-is i.placed c i.number found.in_range found.sends
-      ∙ lt-ltb (release_of i.placed i.number) c held.before in
+      = grind (arith, common_steps, held-is, lt-ltb) in
       any-found (length rows.entries.items) row (λ j. has_bit dues.waiting.rows j && nat_eq (slot_at rows.entries.items j) slot) (omega arith)
-      (and_from (has_bit dues.waiting.rows row) (nat_eq (slot_at rows.entries.items row) slot)
-      (waits.waits_is
-      ∙ and_from (has_bit pending (slot_at rows.entries.items row)) (is_held_in c (get_or rows.entries.items row no_entry))
-      (ap (has_bit pending) slot_is ∙ in') held_is)
-      (eq-eqb (slot_at rows.entries.items row) slot slot_is))
+      (grind (arith, and_from, eq-eqb))
     where
       All-permutation-contains : (p : Placed) → Contains ranking.placed p → Contains list p
       All-permutation-contains p stands =
@@ -208,8 +145,6 @@ module _ (ranking : Ranking) (list : List Placed) (c pending : ℕ) (rows : Rows
       (λ any.
       let one = one-below (length rows.entries.items) (λ row. has_bit dues.waiting.rows row && nat_eq (slot_at rows.entries.items row) slot) any in
       let parts = and_parts (has_bit dues.waiting.rows one.row) (nat_eq (slot_at rows.entries.items one.row) slot) one.passes in
-      let size = f.size in
-      let within = one.within in
       let waits = (f.each one.row (omega arith)).1 in
       ap (has_bit pending) (sym (eqb-true (slot_at rows.entries.items one.row) slot parts.1))
       ∙ (and_parts (has_bit pending (slot_at rows.entries.items one.row)) (is_held_in c (get_or rows.entries.items one.row no_entry))
@@ -217,23 +152,4 @@ module _ (ranking : Ranking) (list : List Placed) (c pending : ℕ) (rows : Rows
 
   pub filled-whole : AreRanked ranking.policy list
       → AreFilled ranking c pending rows (record dues { waiting = record dues.waiting { slots = pending } })
-  filled-whole order =
-      let size = f.size in
-      let room : HasRoom (length rows.entries.items) rows dues = subst (λ n. HasRoom n rows dues) (sym size) f.room in
-      record {
-        room = record {
-          within = room.within;
-          few = room.few;
-          nexts = room.nexts;
-          lasts = room.lasts;
-          places = room.places;
-          in_range = room.in_range;
-          waiting = record { below = room.waiting.below; slots = slots-filled; cost = room.waiting.cost };
-          always = room.always;
-          on_wheel = room.on_wheel;
-        };
-        each = λ row below. f.each row (omega arith);
-        slots = refl;
-        same = rw entries-are same;
-        order = rw entries-are order;
-      }
+  filled-whole order = grind (arith, slots-filled, entries-are)

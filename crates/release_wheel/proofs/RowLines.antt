@@ -1,19 +1,19 @@
 -- The instances of rows of a set, as a line.
-use Rattle.std.proofs.Common.{◌≡◌, ◌≢◌, ℕ, zero, suc, ◌+◌, ◌<◌, ◌≤◌, ◌&&◌, ◌||◌, not, Bool, true, false, nat_eq, nat_le, nat_lt, if◌then◌else◌, Some, None, List, [], ◌∷◌, All, AllPairs, IsPermutation, get_or, length, take, refl, sym, ap, subst, ◌∙◌, ⊎_elim, arith}
-use Rattle.std.proofs.Math.Bool.{or-false, or-true, or_comm}
+use Rattle.std.proofs.Common.{◌≡◌, ◌≢◌, ℕ, zero, suc, ◌+◌, ◌<◌, ◌≤◌, ◌&&◌, ◌||◌, not, Bool, true, false, nat_eq, nat_le, if◌then◌else◌, Some, None, List, [], ◌∷◌, All, AllPairs, IsPermutation, get_or, length, take, refl, sym, ap, ◌∙◌, ⊎_elim, arith}
+use Rattle.std.proofs.lemmas.Grind.{common_steps}
+use Rattle.std.proofs.Math.Bool.{or-false, or_comm}
 use Rattle.std.specs.List.{list_any}
-use Rattle.std.proofs.lemmas.Bool.{and_from, and_parts, both_ways, cases_eq, cases_lt, eq-eqb, eqb-true, false_from_ne_true, leb-true, lt-ltb, ne_eqb, or_cases}
+use Rattle.std.proofs.lemmas.Bool.{and_from, and_parts, cases_eq, cases_lt, eqb-true, false_from_ne_true, leb-true, lt-ltb, ne_eqb, or_cases}
 use Rattle.std.proofs.lemmas.Bool.Decides.{nat_tests}
 use Rattle.std.proofs.lemmas.List.Elements.{All-head, All-tail}
 use Rattle.std.proofs.lemmas.List.Folds.{Any-from_list_any}
 use Rattle.requirement_table.specs.declared.entries.Placed.{Placed}
-use Rattle.requirement_table.specs.Instance.{Instance}
 use Rattle.bit_sets.specs.Sets.{sum_where}
 use Rattle.requirement_table.specs.Table.{IsWellPlaced}
 use Rattle.planner_policies.specs.declared.Policy.{Policy}
 use Rattle.planner_policies.specs.declared.Policy.TheVariants.{Rm, Dm, Edf}
 use Rattle.planner_policies.specs.declared.due.Due.{Due}
-use Rattle.planner_policies.specs.Due.{IsDueOf, IsLined, IsOf, is_due_by}
+use Rattle.planner_policies.specs.Due.{IsDueOf, IsLined, is_due_by}
 use Rattle.planner_policies.specs.Plan.{Planning, by_number}
 use Rattle.planner_policies.specs.Ranked.{AreRanked}
 use Rattle.release_wheel.specs.Taking.{IsLineOfRows, goes_by}
@@ -27,10 +27,6 @@ pub record AreDues (plan : Planning) (c : ℕ) (before : ℕ → Bool) (entries 
   pub slot : (row : ℕ) → (dues row).slot ≡ slot_at entries row
   pub cost : (row : ℕ) → (dues row).cost ≡ cost_at entries row
 
-pub take-none : {X : Type 0} (xs : List X) → take 0 xs ≡ []
-take-none [] = refl
-take-none (x ∷ xs) = refl
-
 module _ (plan : Planning) (c : ℕ) (before : ℕ → Bool) (entries : List Placed) (test : ℕ → Bool) (dues : ℕ → Due)
     (well : IsWellPlaced plan.placed) (same : IsPermutation plan.placed entries) (are : AreDues plan c before entries test dues) where
   -- the instances of the first `n` rows, in key order
@@ -42,12 +38,7 @@ module _ (plan : Planning) (c : ℕ) (before : ℕ → Bool) (entries : List Pla
 
   line-start : IsLineTo 0
   unfolding any_below sum_where
-  line-start = record {
-    line = [];
-    found = let P : List Placed → Type 0 = λ xs. IsLineOf plan c before xs [] in subst P (sym (take-none entries)) (line_of-start plan c before);
-    slots = λ slot. refl;
-    cost = refl;
-  }
+  line-start = grind (arith, before, line_of-start)
 
   line-more : (n : ℕ) → n < length entries → (b : Bool) → test n ≡ b
       → IsDueOf plan.policy before c (get_or entries n no_entry) (if b then Some (dues n) else None) → IsLineTo n → IsLineTo (suc n)
@@ -62,29 +53,19 @@ module _ (plan : Planning) (c : ℕ) (before : ℕ → Bool) (entries : List Pla
       let next : n + 1 ≡ suc n = omega arith in
       let sum : cost_of place.after ≡ due.cost + cost_of line
       = ap cost_of put.is ∙ cost-between put.front due put.back ∙ ap (λ (xs : List Due). due.cost + cost_of xs) (sym put.was) in
-      let was = so_far.cost in
-      let one = are.cost n in
       record {
         line = place.after;
         found = rw next at (line_of-more plan c before entries n no_entry line place.after due within so_far.found more put);
-        slots = λ slot.
-            ap (list_any (has_slot slot)) put.is ∙ any-between (has_slot slot) put.front due put.back
-            ∙ ap (λ b. nat_eq due.slot slot || b) (ap (list_any (has_slot slot)) (sym put.was) ∙ so_far.slots slot)
-            ∙ ap (λ s. nat_eq s slot || any_below n (λ row. test row && nat_eq (slot_at entries row) slot)) (are.slot n)
-            ∙ or_comm (nat_eq (slot_at entries n) slot) (any_below n (λ row. test row && nat_eq (slot_at entries row) slot))
-            ∙ ap (λ b. any_below n (λ row. test row && nat_eq (slot_at entries row) slot) || (b && nat_eq (slot_at entries n) slot)) (sym is);
+        slots = grind (arith, has_slot, any-between, or_comm);
         cost = rw is (omega arith);
       }
   line-more n within false is none so_far =
       let stands = stands-in plan.placed entries n no_entry same within in
       let next : n + 1 ≡ suc n = omega arith in
-      let was = so_far.cost in
       record {
         line = so_far.line;
         found = rw next at (line_of-none plan c before entries n no_entry so_far.line well within stands so_far.found none);
-        slots = λ slot. so_far.slots slot
-            ∙ sym (or-false (any_below n (λ row. test row && nat_eq (slot_at entries row) slot)))
-            ∙ ap (λ b. any_below n (λ row. test row && nat_eq (slot_at entries row) slot) || (b && nat_eq (slot_at entries n) slot)) (sym is);
+        slots = grind (arith, or-false);
         cost = rw is (omega arith);
       }
 
@@ -99,12 +80,6 @@ pub record IsOneOf (dues : ℕ → Due) (test : ℕ → Bool) (due : Due) : Type
   pub stands : test row ≡ true
   pub is : due ≡ dues row
 
-due-itself : (due : Due) → is_due_by due due ≡ true
-due-itself due = itself due.key due.priority due.slot
-  where
-    itself : (a b c : ℕ) → by_number a a (by_number b b (nat_le c c)) ≡ true
-    itself a b c = grind (arith, nat_tests)
-
 -- the first instance of a list in key order, with one instance for each row of a set
 module _ (dues : ℕ → Due) (test : ℕ → Bool) (d : Due) (line : List Due) (own : IsOneOf dues test d)
     (distinct : (one other : ℕ) → test one ≡ true → test other ≡ true → (dues one).slot ≡ (dues other).slot → one ≡ other)
@@ -114,13 +89,6 @@ module _ (dues : ℕ → Due) (test : ℕ → Bool) (d : Due) (line : List Due) 
 
   less-in : (other : ℕ) → less other ≡ true → test other ≡ true
   less-in other in' = (and_parts (not (nat_eq own.row other)) (test other) in').1
-
-  less-apart : (other : ℕ) → less other ≡ true → own.row ≢ other
-  less-apart other in' = λ same.
-      both_ways (not (nat_eq own.row other)) (ap not (eq-eqb own.row other same)) (and_parts (not (nat_eq own.row other)) (test other) in').0
-
-  same-row : (other : ℕ) → test other ≡ true → d.slot ≡ (dues other).slot → own.row ≡ other
-  same-row other in' same = distinct own.row other own.stands in' (ap (λ x. x.slot) (sym own.is) ∙ same)
 
   one-less : (k : ℕ) (e : Due) → k < length line → IsOneOf dues less (get_or line k e)
   one-less k e within =
@@ -137,12 +105,9 @@ module _ (dues : ℕ → Due) (test : ℕ → Bool) (d : Due) (line : List Due) 
   goes-first : (other : ℕ) → test other ≡ true → list_any (has_slot (dues other).slot) (d ∷ line) ≡ true → is_due_by (dues own.row) (dues other) ≡ true
   goes-first other in' found =
       ⊎_elim
-      (λ (here : nat_eq d.slot (dues other).slot ≡ true).
-      let same = same-row other in' (eqb-true d.slot (dues other).slot here) in
-      ap (λ r. is_due_by (dues own.row) (dues r)) (sym same) ∙ due-itself (dues own.row))
+      (λ (here : nat_eq d.slot (dues other).slot ≡ true). grind (arith, eqb-true))
       (λ (behind : list_any (has_slot (dues other).slot) line ≡ true).
       let any = Any-from_list_any (has_slot (dues other).slot) line behind in
-      let within = any.2 in
       let one = each any.0 any.1 any.2 in
       let slots : (dues one.row).slot ≡ (dues other).slot
       = ap (λ x. x.slot) (sym one.is ∙ any.3) ∙ eqb-true any.1.slot (dues other).slot any.4 in
@@ -153,12 +118,7 @@ module _ (dues : ℕ → Due) (test : ℕ → Bool) (d : Due) (line : List Due) 
 
   stands-behind : (other : ℕ) → less other ≡ true → list_any (has_slot (dues other).slot) (d ∷ line) ≡ true
       → list_any (has_slot (dues other).slot) line ≡ true
-  stands-behind other in' found =
-      ⊎_elim
-      (λ (here : nat_eq d.slot (dues other).slot ≡ true).
-      absurd (less-apart other in' (same-row other (less-in other in') (eqb-true d.slot (dues other).slot here))))
-      (λ (behind : list_any (has_slot (dues other).slot) line ≡ true). behind)
-      (or_cases (nat_eq d.slot (dues other).slot) (list_any (has_slot (dues other).slot) line) found)
+  stands-behind other in' found = grind (arith, less-in, eqb-true, has_slot, or_cases)
 
 -- such a list is the line of the set
 pub line_of-rows : (dues : ℕ → Due) (test : ℕ → Bool) (line : List Due)
@@ -181,36 +141,19 @@ line_of-rows dues test (d ∷ line) distinct each lined apart all =
           (λ other in'. stands-behind dues test d line own distinct others lined apart other in' (all other (in_test other in'))),
     )
 
--- two that are kept of one instance are one
-pub same-due : (policy : Policy) (i : Instance) (a b : Due) → IsOf policy i a → IsOf policy i b → a ≡ b
-same-due policy i a b one other =
-    let last_one = one.last in
-    let last_other = other.last in
-    let last : a.last ≡ b.last = omega arith in
-    ap (λ k. record a { key = k }) (one.key ∙ sym other.key)
-    ∙ ap (λ k. record a { key = b.key; priority = k }) (one.priority ∙ sym other.priority)
-    ∙ ap (λ k. record a { key = b.key; priority = b.priority; slot = k }) (one.slot ∙ sym other.slot)
-    ∙ ap (λ k. record a { key = b.key; priority = b.priority; slot = b.slot; cost = k }) (one.cost ∙ sym other.cost)
-    ∙ ap (λ k. record a { key = b.key; priority = b.priority; slot = b.slot; cost = b.cost; release = k }) (one.release ∙ sym other.release)
-    ∙ ap (λ k. record a { key = b.key; priority = b.priority; slot = b.slot; cost = b.cost; release = b.release; last = k }) last
-
 -- in the order of a policy of entries, rows are in key order
 pub by-rank : (policy : Policy) (entries : List Placed) (lasts : ℕ → ℕ) → policy ≢ Edf → AreRanked policy entries
     → (i j : ℕ) → i < length entries → j < length entries → nat_le i j ≡ true
     → is_due_by (due_of_row policy (get_or entries i no_entry) (lasts i)) (due_of_row policy (get_or entries j no_entry) (lasts j)) ≡ true
 by-rank policy entries lasts other ranked i j below within goes =
     ⊎_elim
-    (λ (same : i ≡ j).
-    ap (λ k. is_due_by (due_of_row policy (get_or entries i no_entry) (lasts i)) (due_of_row policy (get_or entries k no_entry) (lasts k))) (sym same)
-    ∙ due-itself (due_of_row policy (get_or entries i no_entry) (lasts i)))
+    (λ (same : i ≡ j). grind arith)
     (λ (apart : i ≢ j). let from = leb-true i j goes in before policy other ranked (omega arith))
     (cases_eq i j)
   where
     before : (policy : Policy) → policy ≢ Edf → AreRanked policy entries → i < j
         → is_due_by (due_of_row policy (get_or entries i no_entry) (lasts i)) (due_of_row policy (get_or entries j no_entry) (lasts j)) ≡ true
-    before Rm other ranked less = ranked i j no_entry less within
-    before Dm other ranked less = ranked i j no_entry less within
-    before Edf other ranked less = absurd (other refl)
+    before policy other ranked less = grind (arith, common_steps)
 
 -- what rows that go by their last cycles have of these and of their places
 pub by-parts : (a b i j : ℕ) → by_number a b (nat_le i j) ≡ true → a ≤ b
@@ -222,29 +165,8 @@ by-place a b i j goes back = grind (arith, nat_tests)
 by-less : (a b : ℕ) (t : Bool) → a < b → by_number (a + 1) (b + 1) t ≡ true
 by-less a b t less = ap (λ x. x || (nat_eq (a + 1) (b + 1) && t)) (lt-ltb (a + 1) (b + 1) (omega arith))
 
-by-tie : (a b : ℕ) (t : Bool) → a ≡ b → t ≡ true → by_number (a + 1) (b + 1) t ≡ true
-by-tie a b t same is =
-    ap (λ n. by_number (a + 1) (n + 1) t) (sym same) ∙ ap (λ x. nat_lt (a + 1) (a + 1) || (x && t)) (eq-eqb (a + 1) (a + 1) refl)
-    ∙ ap (λ x. nat_lt (a + 1) (a + 1) || x) is ∙ or-true (nat_lt (a + 1) (a + 1))
-
 -- by their last cycles, and then in the order that breaks ties, they are so for `Edf`
 pub by-last : (entries : List Placed) (lasts : ℕ → ℕ) → AreRanked Edf entries → (i j : ℕ) → i < length entries → j < length entries
     → goes_by lasts i j ≡ true
     → is_due_by (due_of_row Edf (get_or entries i no_entry) (lasts i)) (due_of_row Edf (get_or entries j no_entry) (lasts j)) ≡ true
-by-last entries lasts ranked i j below within goes =
-    ⊎_elim
-    (λ (same : i ≡ j).
-    ap (λ k. is_due_by (due_of_row Edf (get_or entries i no_entry) (lasts i)) (due_of_row Edf (get_or entries k no_entry) (lasts k))) (sym same)
-    ∙ due-itself (due_of_row Edf (get_or entries i no_entry) (lasts i)))
-    (λ (apart : i ≢ j).
-    let p = get_or entries i no_entry in
-    let q = get_or entries j no_entry in
-    let tie = by_number p.entry.priority q.entry.priority (nat_le p.entry.slot q.entry.slot) in
-    ⊎_elim
-    (λ (less : lasts i < lasts j). by-less (lasts i) (lasts j) tie less)
-    (λ (back : lasts j ≤ lasts i).
-    let from = by-parts (lasts i) (lasts j) i j goes in
-    let place = by-place (lasts i) (lasts j) i j goes back in
-    by-tie (lasts i) (lasts j) tie (omega arith) (ranked i j no_entry (omega arith) within))
-    (cases_lt (lasts i) (lasts j)))
-    (cases_eq i j)
+by-last entries lasts ranked i j below within goes = grind (arith, by-less, by-parts, by-place, cases_lt)

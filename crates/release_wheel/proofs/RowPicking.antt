@@ -1,5 +1,6 @@
 -- The row of a set that goes first by its last cycle.
-use Rattle.std.proofs.Common.{◌≡◌, ◌≢◌, ℕ, ◌<◌, ◌≤◌, ◌&&◌, not, Bool, true, false, nat_eq, nat_le, if◌then◌else◌, List, get_or, length, refl, sym, ap, ◌∙◌, ◌⊎◌, inl, inr, ⊎_elim, arith}
+use Rattle.std.proofs.Common.{◌≡◌, ◌≢◌, ℕ, ◌<◌, ◌≤◌, ◌&&◌, not, Bool, true, false, nat_eq, nat_le, if◌then◌else◌, List, get_or, length, refl, sym, ap, ◌∙◌, ◌⊎◌, inl, ⊎_elim, arith}
+use Rattle.std.proofs.lemmas.Grind.{common_steps}
 use Rattle.std.proofs.lemmas.Bool.{and_from, and_parts, both_ways, cases_Bool, cases_eq, cases_lt, or_cases}
 use Rattle.std.proofs.lemmas.Bool.Decides.{nat_tests}
 use Rattle.planner_policies.specs.Plan.{by_number}
@@ -43,9 +44,7 @@ module _ (lasts : List ℕ) (rows rest less row last next : ℕ) (s : IsSoonest 
     first = λ i in' out.
         ⊎_elim
         (λ (same : next ≡ i). by-le (get_or lasts next 0) (get_or lasts i 0) next i (let at = ap (λ j. get_or lasts j 0) same in omega arith) (omega arith))
-        (λ (other : next ≢ i).
-        let goes = by-parts last (get_or lasts i 0) row i (s.first i in' (not-first rest less next i made out other)) in
-        by-less (get_or lasts next 0) (get_or lasts i 0) next i (omega arith))
+        (λ (other : next ≢ i). grind (arith, common_steps, by-parts, not-first, out, by-less))
         (cases_eq next i);
   }
 
@@ -58,9 +57,7 @@ module _ (lasts : List ℕ) (rows rest less row last next : ℕ) (s : IsSoonest 
     before = λ i in'. s.before i (less-in i in');
     first = λ i in' out.
         ⊎_elim
-        (λ (same : next ≡ i).
-        let from = s.before next stands in
-        by-le last (get_or lasts i 0) row i (let at = ap (λ j. get_or lasts j 0) same in omega arith) (omega arith))
+        (λ (same : next ≡ i). grind (arith, by-le))
         (λ (other : next ≢ i). s.first i in' (not-first rest less next i made out other))
         (cases_eq next i);
   }
@@ -68,62 +65,37 @@ module _ (lasts : List ℕ) (rows rest less row last next : ℕ) (s : IsSoonest 
 -- when all are looked at
 pub looking-end : (lasts : List ℕ) (rows rest row last : ℕ) → IsSoonest lasts rows rest row last → rest ≡ 0
     → IsFirstRow (goes_by (λ row. get_or lasts row 0)) (has_bit rows) row
-looking-end lasts rows rest row last s none = record {
-  stands = s.stands;
-  first = λ other in'.
-      ap (λ n. by_number n (get_or lasts other 0) (nat_le row other)) (sym s.last_is)
-      ∙ s.first other in' (ap (λ m. has_bit m other) none ∙ has_bit-none other);
-}
+looking-end lasts rows rest row last s none = grind (arith, has_bit-none)
 
 -- rows that are due are rows of the wheel
 pub due-below : (w : Wheel) (due : ℕ) → HasRoom (length w.rows.entries.items) w.rows w.dues → AreDue w due → IsBelow (length w.rows.entries.items) due
-due-below w due room are row in' =
-    ⊎_elim
-    (λ (one : has_bit w.dues.waiting.rows row ≡ true). room.waiting.below row one)
-    (λ (other : has_bit w.dues.always.rows row ≡ true). room.always.below row other)
-    (or_cases (has_bit w.dues.waiting.rows row) (has_bit w.dues.always.rows row) (are.known row in'))
+due-below w due h0 h1 = grind (arith, or_cases)
 
 -- and so are some of them
 pub due-less : (w : Wheel) (due rest : ℕ) → AreDue w due → ((row : ℕ) → has_bit rest row ≡ true → has_bit due row ≡ true) → AreDue w rest
-due-less w due rest are rest_in = record {
-  known = λ row in'. are.known row (rest_in row in');
-  in_time = are.in_time;
-  apart = are.apart;
-  soonest_is = are.soonest_is;
-}
+due-less w due rest are rest_in = grind arith
 
 -- among rows with an instance in each cycle and rows that wait
 module _ (w : Wheel) (rest always : ℕ) (due : AreDue w rest) (always_is : (i : ℕ) → has_bit always i ≡ (has_bit rest i && has_bit w.dues.always.rows i)) where
   abbrev lasts : ℕ → ℕ
   lasts i = get_or w.rows.lasts.items i 0
 
-  last-in : (i : ℕ) → has_bit w.dues.always.rows i ≡ true → last_of w i ≡ w.cycle
-  last-in i on = ap (λ b. if b then w.cycle else get_or w.rows.lasts.items i 0) on
-
   last-out : (i : ℕ) → has_bit w.dues.always.rows i ≡ false → last_of w i ≡ get_or w.rows.lasts.items i 0
   last-out i off = ap (λ b. if b then w.cycle else get_or w.rows.lasts.items i 0) off
 
   waits : (i : ℕ) → has_bit rest i ≡ true → has_bit w.dues.always.rows i ≡ false → has_bit w.dues.waiting.rows i ≡ true
-  waits i in' off =
-      ⊎_elim
-      (λ (one : has_bit w.dues.waiting.rows i ≡ true). one)
-      (λ (other : has_bit w.dues.always.rows i ≡ true). absurd (both_ways (has_bit w.dues.always.rows i) off other))
-      (or_cases (has_bit w.dues.waiting.rows i) (has_bit w.dues.always.rows i) (due.known i in'))
+  waits i in' off = grind (arith, off, both_ways, or_cases)
 
   -- all wait
   pub only-waiting : (row : ℕ) → always ≡ 0 → IsFirstRow (goes_by (λ row. get_or w.rows.lasts.items row 0)) (has_bit rest) row
       → IsFirstRow (goes_by (last_of w)) (has_bit rest) row
   only-waiting row none first = record {
     stands = first.stands;
-    first = λ other in'.
-        ap (λ n. by_number n (last_of w other) (nat_le row other)) (last-out row (off row first.stands))
-        ∙ ap (λ n. by_number (lasts row) n (nat_le row other)) (last-out other (off other in'))
-        ∙ first.first other in';
+    first = grind (arith, last-out, off);
   }
     where
       out : (a b : Bool) → a ≡ true → (a && b) ≡ false → b ≡ false
-      out true b is none = none
-      out false b is none = absurd (cc)
+      out a b is none = grind (arith, common_steps)
 
       off : (i : ℕ) → has_bit rest i ≡ true → has_bit w.dues.always.rows i ≡ false
       off i in' = out (has_bit rest i) (has_bit w.dues.always.rows i) in' (sym (always_is i) ∙ ap (λ m. has_bit m i) none ∙ has_bit-none i)
@@ -143,18 +115,8 @@ module _ (w : Wheel) (rest always : ℕ) (due : AreDue w rest) (always_is : (i :
       stands = parts.0;
       first = λ other in'.
           ⊎_elim
-          (λ (on : has_bit w.dues.always.rows other ≡ true).
-          by-le (last_of w own) (last_of w other) own other
-          (let one = last-in own parts.1 in let same = last-in other on in omega arith) (from-own other in' on))
-          (λ (off : has_bit w.dues.always.rows other ≡ false).
-          let wait = waits other in' off in
-          let one = last-in own parts.1 in
-          let same = last-out other off in
-          let in_time = due.in_time other wait in
-          ⊎_elim
-          (λ (less : w.cycle < get_or w.rows.lasts.items other 0). by-less (last_of w own) (last_of w other) own other (omega arith))
-          (λ (behind : own ≤ other). by-le (last_of w own) (last_of w other) own other (omega arith) behind)
-          (later other in' wait))
+          (λ (on : has_bit w.dues.always.rows other ≡ true). grind (arith, common_steps, by-le, parts, from-own))
+          (λ (off : has_bit w.dues.always.rows other ≡ false). grind (arith, waits, off, parts, last-out, by-less, by-le))
           (cases_Bool (has_bit w.dues.always.rows other));
     }
 
@@ -174,14 +136,7 @@ module _ (w : Wheel) (rest always : ℕ) (due : AreDue w rest) (always_is : (i :
       own-sooner sooner = own-first (λ i in' wait. let after = row-after i in' wait in inl (omega arith))
 
       pub own-before : get_or w.rows.lasts.items row 0 ≤ w.cycle → own < row → IsFirstRow (goes_by (last_of w)) (has_bit rest) own
-      own-before last before = own-first (λ i in' wait.
-          ⊎_elim
-          (λ (less : w.cycle < get_or w.rows.lasts.items i 0). inl less)
-          (λ (as_late : get_or w.rows.lasts.items i 0 ≤ w.cycle).
-          let in_time = due.in_time row row-parts.1 in
-          let behind = by-place (lasts row) (lasts i) row i (first.first i (in-waiting i in' wait)) (omega arith) in
-          inr (omega arith))
-          (cases_lt w.cycle (get_or w.rows.lasts.items i 0)))
+      own-before last before = grind (arith, own-first, row-parts, by-place, in-waiting, cases_lt)
 
       pub row-first : get_or w.rows.lasts.items row 0 ≤ w.cycle → row ≤ own → IsFirstRow (goes_by (last_of w)) (has_bit rest) row
       row-first last before = record {
@@ -189,13 +144,7 @@ module _ (w : Wheel) (rest always : ℕ) (due : AreDue w rest) (always_is : (i :
         first = λ other in'.
             let here = last-out row (due.apart row row-parts.1) in
             ⊎_elim
-            (λ (on : has_bit w.dues.always.rows other ≡ true).
-            let from = from-own other in' on in
-            let there = last-in other on in
-            by-le (last_of w row) (last_of w other) row other (omega arith) (omega arith))
-            (λ (off : has_bit w.dues.always.rows other ≡ false).
-            ap (λ n. by_number n (last_of w other) (nat_le row other)) here
-            ∙ ap (λ n. by_number (lasts row) n (nat_le row other)) (last-out other off)
-            ∙ first.first other (in-waiting other in' (waits other in' off)))
+            (λ (on : has_bit w.dues.always.rows other ≡ true). grind (arith, from-own, by-le))
+            (λ (off : has_bit w.dues.always.rows other ≡ false). grind (arith, common_steps, last-out, off, in-waiting, waits))
             (cases_Bool (has_bit w.dues.always.rows other));
       }

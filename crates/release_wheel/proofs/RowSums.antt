@@ -1,6 +1,7 @@
 -- What the rows of a set cost together, which slots they have, and sums of rows.
 use Rattle.std.proofs.Common.{◌≡◌, ◌≢◌, ℕ, zero, suc, ◌+◌, ◌*◌, ◌<◌, ◌≤◌, ◌&&◌, ◌||◌, Bool, true, false, nat_eq, if◌then◌else◌, List, get_or}
-use Rattle.std.proofs.Common.{length, refl, sym, ap, ◌∙◌, ⊎_elim, arith}
+use Rattle.std.proofs.lemmas.Grind.{common_steps}
+use Rattle.std.proofs.Common.{refl, sym, ap, ◌∙◌, ⊎_elim, arith}
 use Rattle.std.proofs.Math.Bool.{and-false, and-true, or-false, or-true, or_assoc, or_comm}
 use Rattle.std.proofs.lemmas.Bool.{and_parts, both_ways, cases_eq, eq-eqb, eqb-true, ne_eqb, or_cases}
 use Rattle.requirement_table.specs.declared.entries.Placed.{Placed}
@@ -19,14 +20,7 @@ cost-bound entries n set range = sum_where-most n 135 (has_bit set) (cost_at ent
 
 -- what waits and what has an instance in each cycle cost little
 pub costs-small : (n : ℕ) (rows : Rows) (dues : Dues) → HasRoom n rows dues → (dues.waiting.cost ≤ 17280) × (dues.always.cost ≤ 17280)
-costs-small n rows dues room =
-    let one = cost-bound rows.entries.items n dues.waiting.rows room.in_range in
-    let other = cost-bound rows.entries.items n dues.always.rows room.in_range in
-    let first = room.waiting.cost in
-    let second = room.always.cost in
-    let few = room.few in
-    let within = room.within in
-    (omega arith, omega arith)
+costs-small n rows dues room = grind (arith, cost-bound)
 
 -- one more row
 pub cost-with : (entries : List Placed) (n set more row : ℕ) → row < n → has_bit set row ≡ false
@@ -42,8 +36,7 @@ unfolding any_below
 any-same zero p q same = refl
 any-same (suc n) p q same =
     let rest = any-same n p q (λ i below. same i (omega arith)) in
-    let last = same n (omega arith) in
-    cc
+    grind arith
 
 pub any-none : (n : ℕ) → any_below n (λ _. false) ≡ false
 unfolding any_below
@@ -71,9 +64,7 @@ one-below zero p any = absurd (cc)
 one-below (suc n) p any = pick (any_below n p) (p n) refl refl any (one-below n p)
   where
     pick : (a b : Bool) → any_below n p ≡ a → p n ≡ b → (a || b) ≡ true → (any_below n p ≡ true → IsOneBelow n p) → IsOneBelow (suc n) p
-    pick true b rest last any low = let one = low rest in let within = one.within in record { row = one.row; within = omega arith; passes = one.passes }
-    pick false true rest last any low = record { row = n; within = omega arith; passes = last }
-    pick false false rest last any low = absurd (cc)
+    pick a b rest last any low = grind arith
 
 -- one more row adds its own
 pub any-with : (n row : ℕ) (p q : ℕ → Bool) → row < n
@@ -82,13 +73,7 @@ unfolding any_below
 any-with zero row p q within = absurd (omega arith)
 any-with (suc n) row p q within =
     ⊎_elim
-    (λ (same : row ≡ n).
-    let is : nat_eq row n ≡ true = eq-eqb row n same in
-    let low : any_below n (λ i. (nat_eq row i || p i) && q i) ≡ any_below n (λ i. p i && q i)
-    = any-same n (λ i. (nat_eq row i || p i) && q i) (λ i. p i && q i)
-    (λ i below. ap (λ b. (b || p i) && q i) (ne_eqb row i (λ (e : row ≡ i). omega arith))) in
-    let at : q row ≡ q n = ap q same in
-    rw (is, low, at) (turned (any_below n (λ i. p i && q i)) (q n) (p n)))
+    (λ (same : row ≡ n). grind (arith, eq-eqb, any-same, ne_eqb, turned))
     (λ (other : row ≢ n).
     let is : nat_eq row n ≡ false = ne_eqb row n other in
     let low = any-with n row p q (omega arith) in
@@ -96,11 +81,7 @@ any-with (suc n) row p q within =
     (cases_eq row n)
   where
     turned : (a b c : Bool) → (a || b) ≡ (b || (a || (c && b)))
-    turned true true c = refl
-    turned true false c = refl
-    turned false true c = refl
-    turned false false true = refl
-    turned false false false = refl
+    turned a b c = grind (arith, common_steps)
 
 pub none-below : (p : ℕ → Bool) → false ≡ any_below 0 p
 unfolding any_below
@@ -113,22 +94,14 @@ no-cost entries set = refl
 -- the sum of no rows
 pub sum-none : (entries : List Placed) (sum : Sum) → sum.rows ≡ 0 → ((slot : ℕ) → has_bit sum.slots slot ≡ false) → sum.cost ≡ 0
     → IsSumOf entries 0 sum
-sum-none entries sum rows slots cost = record {
-  below = λ row in'. absurd (both_ways (has_bit sum.rows row) (ap (λ m. has_bit m row) rows ∙ has_bit-none row) in');
-  slots = λ slot. slots slot ∙ none-below (λ row. has_bit sum.rows row && nat_eq (slot_at entries row) slot);
-  cost = cost ∙ no-cost entries sum.rows;
-}
+sum-none entries sum rows slots cost = grind (arith, both_ways, has_bit-none, none-below, no-cost)
 
 -- a sum with one row more
 module _ (entries : List Placed) (n row : ℕ) (sum more : Sum) (within : row < n) (out : has_bit sum.rows row ≡ false)
     (added : IsAdded (get_or entries row no_entry) row true sum more) (was : IsSumOf entries n sum) where
   pub sum-with : IsSumOf entries n more
   sum-with = record {
-    below = λ i in'.
-        ⊎_elim
-        (λ (here : nat_eq row i ≡ true). let same = eqb-true row i here in omega arith)
-        (λ (other : has_bit sum.rows i ≡ true). was.below i other)
-        (or_cases (nat_eq row i) (has_bit sum.rows i) (sym (added.rows i) ∙ in'));
+    below = grind (arith, eqb-true, or_cases);
     slots = λ slot.
         added.slots slot
         ∙ ap (λ b. b || has_bit sum.slots slot) (turned-eq slot (slot_at entries row))
@@ -146,15 +119,13 @@ module _ (old new : List Placed) (n : ℕ) (p : Placed) (flag : Bool) (sum more 
   last-out = pick (has_bit sum.rows n) refl
     where
       pick : (b : Bool) → has_bit sum.rows n ≡ b → b ≡ false
-      pick true in' = absurd (let less = was.below n in' in omega arith)
-      pick false out = refl
+      pick b in' = grind arith
 
   pub added-other : (i : ℕ) → nat_eq n i ≡ false → has_bit more.rows i ≡ has_bit sum.rows i
   added-other i other = added.rows i ∙ ap (λ b. (flag && b) || has_bit sum.rows i) other ∙ ap (λ b. b || has_bit sum.rows i) (and-false flag)
 
   pub added-here : has_bit more.rows n ≡ flag
-  added-here =
-      added.rows n ∙ ap (λ b. (flag && b) || has_bit sum.rows n) (eq-eqb n n refl) ∙ ap (λ b. (flag && true) || b) last-out ∙ or-false (flag && true) ∙ and-true flag
+  added-here = grind (arith, eq-eqb, last-out, or-false, and-true)
 
   apart : (i : ℕ) → i < n → nat_eq n i ≡ false
   apart i less = ne_eqb n i (λ same. omega arith)
@@ -162,19 +133,14 @@ module _ (old new : List Placed) (n : ℕ) (p : Placed) (flag : Bool) (sum more 
   pub sum-next : IsSumOf new (suc n) more
   unfolding any_below sum_where
   sum-next = record {
-    below = λ i in'.
-        ⊎_elim
-        (λ (one : (flag && nat_eq n i) ≡ true). let same = eqb-true n i (and_parts flag (nat_eq n i) one).1 in omega arith)
-        (λ (other : has_bit sum.rows i ≡ true). let less = was.below i other in omega arith)
-        (or_cases (flag && nat_eq n i) (has_bit sum.rows i) (sym (added.rows i) ∙ in'));
+    below = grind (arith, eqb-true, and_parts, or_cases);
     slots = λ slot.
         added.slots slot
         ∙ ap (λ b. (flag && b) || has_bit sum.slots slot) (turned-eq slot p.entry.slot)
         ∙ or_comm (flag && nat_eq p.entry.slot slot) (has_bit sum.slots slot)
         ∙ ap (λ b. b || (flag && nat_eq p.entry.slot slot)) (was.slots slot
         ∙ any-same n (λ i. has_bit sum.rows i && nat_eq (slot_at old i) slot) (λ i. has_bit more.rows i && nat_eq (slot_at new i) slot)
-        (λ i less. ap (λ b. b && nat_eq (slot_at old i) slot) (sym (added-other i (apart i less)))
-        ∙ ap (λ q. has_bit more.rows i && nat_eq q.entry.slot slot) (sym (others i (apart i less)))))
+        (λ i less. grind (arith, common_steps, added-other, apart)))
         ∙ ap (λ b. any_below n (λ i. has_bit more.rows i && nat_eq (slot_at new i) slot) || (b && nat_eq p.entry.slot slot)) (sym added-here)
         ∙ ap (λ q. any_below n (λ i. has_bit more.rows i && nat_eq (slot_at new i) slot) || (has_bit more.rows n && nat_eq q.entry.slot slot)) (sym here);
     cost =
@@ -182,8 +148,6 @@ module _ (old new : List Placed) (n : ℕ) (p : Placed) (flag : Bool) (sum more 
         let costs = sum_where-costs n (has_bit sum.rows) (cost_at new) (cost_at old) (λ i less _. ap (λ q. worst q.entry.length) (others i (apart i less))) in
         let last : (if has_bit more.rows n then cost_at new n else 0) ≡ (if flag then worst p.entry.length else 0)
         = ap (λ b. if b then cost_at new n else 0) added-here ∙ ap (λ q. if flag then worst q.entry.length else 0) here in
-        let first = was.cost in
-        let one = added.cost in
         omega arith;
   }
 

@@ -1,5 +1,6 @@
 -- What a filling takes of the rows of a set, one after the other.
-use Rattle.std.proofs.Common.{◌≡◌, ◌≢◌, ℕ, ◌+◌, ◌-◌, ◌<◌, ◌≤◌, ◌^◌, ◌&&◌, ◌||◌, not, Bool, true, false, nat_eq, nat_le, if◌then◌else◌, List, [], ◌∷◌, length, refl, sym, ap, subst, ◌∙◌, ⊎_elim, arith}
+use Rattle.std.proofs.Common.{◌≡◌, ◌≢◌, ℕ, ◌+◌, ◌-◌, ◌<◌, ◌≤◌, ◌^◌, ◌&&◌, ◌||◌, not, Bool, true, false, nat_eq, nat_le, if◌then◌else◌, List, [], ◌∷◌, length, refl, sym, ap, ◌∙◌, ⊎_elim, arith}
+use Rattle.std.proofs.lemmas.Grind.{common_steps}
 use Rattle.std.proofs.Math.Bool.{or-false}
 use Rattle.std.specs.List.{list_any}
 use Rattle.std.proofs.lemmas.Bool.{and_parts, both_ways, cases_Bool, eq-eqb, eqb-false, eqb-true, le-leb, lt-leb, ne_eqb}
@@ -29,38 +30,15 @@ same-slot : (a b : Due) → is_due_by a b ≡ true → is_due_by b a ≡ true �
 same-slot a b one other = same-last a.key a.priority a.slot b.key b.priority b.slot one other
 
 line-same : (dues : ℕ → Due) (p q : ℕ → Bool) (line : List Due) → ((i : ℕ) → p i ≡ q i) → IsLineOfRows dues p line → IsLineOfRows dues q line
-line-same dues p q [] same is = λ row. sym (same row) ∙ is row
-line-same dues p q (due ∷ line) same is =
-    let row = is.0 in (
-      row,
-      record { stands = sym (same row) ∙ is.1.stands; first = λ other in'. is.1.first other (same other ∙ in') },
-      is.2,
-      line-same dues (λ other. not (nat_eq row other) && p other) (λ other. not (nat_eq row other) && q other) line
-          (λ other. ap (λ b. not (nat_eq row other) && b) (same other)) is.3,
-    )
+line-same dues p q line same is = grind arith
 
 pub taking-start : (fill : Fill) (window : ℕ) (goes : ℕ → ℕ → Bool) (entries : List Placed) (due mask : ℕ)
     → ((slot : ℕ) → has_bit mask slot ≡ false) → IsTaking fill window goes entries due due 0 mask 0
-taking-start fill window goes entries due mask empty = record {
-  kept = λ i in'. rw (in', empty (slot_at entries i)) refl;
-  rest_in = λ i in'. in';
-  left_in = λ i in'. absurd (both_ways (has_bit 0 i) (has_bit-none i) in');
-  apart = λ i in'. has_bit-none i;
-  fits = omega arith;
-  cost = let none = cost-none entries (length entries) in omega arith;
-  taken = λ dues line of is. let all : window - 0 ≡ window = omega arith in
-      record {
-        back = line;
-        of_rest = is;
-        width_is = rw all (omega arith);
-        slots_are = λ slot. rw (all, empty slot) refl;
-      };
-}
+taking-start fill window goes entries due mask empty = grind (arith, both_ways, has_bit-none, cost-none)
 
 -- an instance that fits is taken, with either filling
 taken-first : (fill : Fill) (room : ℕ) (due : Due) (line : List Due) → due.cost ≤ room → taken_of fill room (due ∷ line) ≡ due ∷ taken_of fill (room - due.cost) line
-taken-first Prefix room due line small = ap (λ b. if b then due ∷ taken_of Prefix (room - due.cost) line else []) (le-leb due.cost room small)
-taken-first Skip room due line small = ap (λ b. if b then due ∷ taken_of Skip (room - due.cost) line else taken_of Skip room line) (le-leb due.cost room small)
+taken-first fill room due line small = grind (arith, le-leb)
 
 taken-stop : (room : ℕ) (due : Due) (line : List Due) → room < due.cost → taken_of Prefix room (due ∷ line) ≡ []
 taken-stop room due line wide = ap (λ b. if b then due ∷ taken_of Prefix (room - due.cost) line else []) (lt-leb due.cost room wide)
@@ -82,31 +60,14 @@ module _ (fill : Fill) (window : ℕ) (goes : ℕ → ℕ → Bool) (entries : L
 
   picked : (dues : ℕ → Due) (back : List Due) → AreOfRows entries goes dues → IsLineOfRows dues (has_bit rest) back → IsPicked dues back
   picked dues [] of is = absurd (both_ways (has_bit rest row) (is row) first.stands)
-  picked dues (d ∷ tail) of is =
-      let other = is.0 in
-      let in_one = t.rest_in other is.1.stands in
-      let in_this = t.rest_in row first.stands in
-      let slots : slot_at entries other ≡ slot_at entries row
-      = sym (of.slot other)
-      ∙ same-slot (dues other) (dues row) (is.1.first row first.stands) (of.ordered row other within (below other in_one) (first.first other is.1.stands))
-      ∙ of.slot row in
-      let same : other ≡ row = distinct other row in_one in_this slots in
-      record {
-        tail = tail;
-        is = ap (λ x. x ∷ tail) (is.2 ∙ ap dues same);
-        others = line-same dues (λ i. not (nat_eq other i) && has_bit rest i) (λ i. not (nat_eq row i) && has_bit rest i) tail
-            (λ i. ap (λ k. not (nat_eq k i) && has_bit rest i) same) is.3;
-      }
+  picked dues (d ∷ tail) of is = grind (arith, same-slot, within, line-same)
 
   -- it does not fit, and nothing more is taken
   pub nothing-fits : fill ≡ Prefix → window - width < cost_at entries row → (dues : ℕ → Due) (back : List Due) → AreOfRows entries goes dues
       → IsLineOfRows dues (has_bit rest) back → taken_of fill (window - width) back ≡ []
   nothing-fits stops wide dues back of is =
       let next = picked dues back of is in
-      let cost = of.cost row in
-      ap (taken_of fill (window - width)) next.is
-      ∙ ap (λ f. taken_of f (window - width) (dues row ∷ next.tail)) stops
-      ∙ taken-stop (window - width) (dues row) next.tail (omega arith)
+      grind (arith, taken-stop)
 
   -- it is looked at
   module _ (less : ℕ) (made : (i : ℕ) → has_bit less i ≡ (not (nat_eq row i) && has_bit rest i)) where
@@ -117,11 +78,7 @@ module _ (fill : Fill) (window : ℕ) (goes : ℕ → ℕ → Bool) (entries : L
     same-other i other = made i ∙ ap (λ b. not b && has_bit rest i) other
 
     rest-is : (i : ℕ) → has_bit rest i ≡ (nat_eq row i || has_bit less i)
-    rest-is i =
-        ⊎_elim
-        (λ (same : nat_eq row i ≡ true). ap (has_bit rest) (sym (eqb-true row i same)) ∙ first.stands ∙ sym (ap (λ b. b || has_bit less i) same))
-        (λ (other : nat_eq row i ≡ false). sym (same-other i other) ∙ sym (ap (λ b. b || has_bit less i) other))
-        (cases_Bool (nat_eq row i))
+    rest-is i = grind (arith, eqb-true, same-other)
 
     less-in : (i : ℕ) → has_bit less i ≡ true → has_bit rest i ≡ true
     less-in i in' = (and_parts (not (nat_eq row i)) (has_bit rest i) (sym (made i) ∙ in')).1
@@ -130,8 +87,7 @@ module _ (fill : Fill) (window : ℕ) (goes : ℕ → ℕ → Bool) (entries : L
     less-other i in' = pick (nat_eq row i) refl
       where
         pick : (b : Bool) → nat_eq row i ≡ b → b ≡ false
-        pick true same = absurd (both_ways (has_bit less i) (made i ∙ ap (λ b. not b && has_bit rest i) same) in')
-        pick false other = refl
+        pick b same = grind (arith, both_ways)
 
     cost-parts : cost_below entries (length entries) rest ≡ cost_below entries (length entries) less + cost_at entries row
     cost-parts = cost-with entries (length entries) less rest row within gone-here rest-is
@@ -143,9 +99,7 @@ module _ (fill : Fill) (window : ℕ) (goes : ℕ → ℕ → Bool) (entries : L
     taking-take more small slots = record {
       kept = λ i in'.
           ⊎_elim
-          (λ (same : nat_eq row i ≡ true).
-          let P : ℕ → Type 0 = λ j. (has_bit less j || has_bit left j) ≡ not (has_bit more (slot_at entries j)) in
-          subst P (eqb-true row i same) (rw (gone-here, t.apart row first.stands, slots (slot_at entries row), eq-eqb (slot_at entries row) (slot_at entries row) refl) refl))
+          (λ (same : nat_eq row i ≡ true). grind (arith, eqb-true, gone-here, eq-eqb))
           (λ (other : nat_eq row i ≡ false).
           let apart : slot_at entries i ≢ slot_at entries row
           = λ same. eqb-false row i other (sym (distinct i row in' (t.rest_in row first.stands) same)) in
@@ -168,11 +122,7 @@ module _ (fill : Fill) (window : ℕ) (goes : ℕ → ℕ → Bool) (entries : L
           record {
             back = next.tail;
             of_rest = line-same dues (λ i. not (nat_eq row i) && has_bit rest i) (has_bit less) next.tail (λ i. sym (made i)) next.others;
-            width_is =
-                let was = so_far.width_is in
-                let sum = sum_by-cons (λ (due : Due). due.cost) d (taken_of fill (window - (width + cost_at entries row)) next.tail) in
-                let whole = ap cost_of taken in
-                omega arith;
+            width_is = grind (arith, common_steps, sum_by-cons, cost_of);
             slots_are = λ slot.
                 let later = list_any (has_slot slot) (taken_of fill (window - (width + cost_at entries row)) next.tail) in
                 ap (λ b. b || later)
@@ -192,14 +142,7 @@ module _ (fill : Fill) (window : ℕ) (goes : ℕ → ℕ → Bool) (entries : L
     pub taking-pass : (more : ℕ) → fill ≡ Skip → window - width < cost_at entries row
         → ((i : ℕ) → has_bit more i ≡ (nat_eq row i || has_bit left i)) → IsTaking fill window goes entries due less more mask width
     taking-pass more skips wide rows = record {
-      kept = λ i in'.
-          ⊎_elim
-          (λ (same : nat_eq row i ≡ true).
-          let P : ℕ → Type 0 = λ j. (has_bit less j || has_bit more j) ≡ not (has_bit mask (slot_at entries j)) in
-          subst P (eqb-true row i same)
-          (rw (gone-here, rows row, eq-eqb row row refl) (sym (ap (λ b. b || has_bit left row) first.stands) ∙ t.kept row (t.rest_in row first.stands))))
-          (λ (other : nat_eq row i ≡ false). rw (same-other i other, rows i, other) (t.kept i in'))
-          (cases_Bool (nat_eq row i));
+      kept = grind (arith, eqb-true, gone-here, eq-eqb, same-other);
       rest_in = λ i in'. t.rest_in i (less-in i in');
       left_in = λ i in'.
           ⊎_elim
@@ -213,7 +156,6 @@ module _ (fill : Fill) (window : ℕ) (goes : ℕ → ℕ → Bool) (entries : L
       taken = λ dues line of is.
           let so_far = t.taken dues line of is in
           let next = picked dues so_far.back of so_far.of_rest in
-          let cost = of.cost row in
           let passed : taken_of fill (window - width) so_far.back ≡ taken_of fill (window - width) next.tail
           = ap (taken_of fill (window - width)) next.is
           ∙ ap (λ f. taken_of f (window - width) (dues row ∷ next.tail)) skips
@@ -230,8 +172,7 @@ module _ (fill : Fill) (window : ℕ) (goes : ℕ → ℕ → Bool) (entries : L
 -- nothing is to be looked at any more
 pub nothing-left : (fill : Fill) (room rest : ℕ) (dues : ℕ → Due) (back : List Due) → rest ≡ 0 → IsLineOfRows dues (has_bit rest) back → taken_of fill room back ≡ []
 nothing-left fill room rest dues [] none is = refl
-nothing-left fill room rest dues (d ∷ tail) none is =
-    absurd (both_ways (has_bit rest is.0) (ap (λ m. has_bit m is.0) none ∙ has_bit-none is.0) is.1.stands)
+nothing-left fill room rest dues (d ∷ tail) none is = grind (arith, both_ways, has_bit-none)
 
 pub took : (fill : Fill) (window : ℕ) (goes : ℕ → ℕ → Bool) (entries : List Placed) (due rest left mask width gone : ℕ)
     → IsTaking fill window goes entries due rest left mask width
@@ -242,18 +183,8 @@ pub took : (fill : Fill) (window : ℕ) (goes : ℕ → ℕ → Bool) (entries :
     → mask < 2 ^ most_slots → IsTook fill window goes entries due gone mask width
 took fill window goes entries due rest left mask width gone t stops rows cost small = record {
   left_is = λ i. rows i ∙ left-is i (has_bit due i) refl;
-  mask_is = λ dues line of is.
-      let so_far = t.taken dues line of is in
-      record {
-        slots = λ slot.
-            sym (or-false (has_bit mask slot))
-            ∙ ap (λ xs. has_bit mask slot || list_any (has_slot slot) xs) (sym (stops dues so_far.back of so_far.of_rest))
-            ∙ so_far.slots_are slot;
-        below = small;
-      };
-  width_is = λ dues line of is.
-      let so_far = t.taken dues line of is in
-      let was = so_far.width_is in let none = ap cost_of (stops dues so_far.back of so_far.of_rest) in omega arith;
+  mask_is = grind (arith, or-false, has_slot);
+  width_is = grind (arith, common_steps, cost_of);
   fits = t.fits;
   cost = let was = t.cost in omega arith;
 }
@@ -271,7 +202,4 @@ took fill window goes entries due rest left mask width gone t stops rows cost sm
 
 -- the first row of a set goes first by its own number
 pub first-row : (set' row : ℕ) → has_bit set' row ≡ true → ((i : ℕ) → i < row → has_bit set' i ≡ false) → IsFirstRow nat_le (has_bit set') row
-first-row set' row stands none = record {
-  stands = stands;
-  first = λ other in'. le-leb row other (from-first set' row other none in');
-}
+first-row set' row stands none = grind (arith, le-leb, from-first)

@@ -1,15 +1,15 @@
 -- Each instance of a table that is kept so far is flagged exactly once, from its release to its last cycle.
-use Rattle.std.proofs.Common.{◌≡◌, ℕ, zero, suc, ◌+◌, ◌-◌, ◌<◌, ◌≤◌, Bool, true, false, not, ◌&&◌, ◌||◌, nat_eq, Option, Some, None, List, Contains, is_some, slice_get, get_or, length, refl, sym, ap, ◌∙◌, ⊎_elim, arith}
+use Rattle.std.proofs.Common.{◌≡◌, ℕ, zero, suc, ◌+◌, ◌-◌, ◌<◌, ◌≤◌, Bool, true, false, not, ◌&&◌, ◌||◌, nat_eq, Option, Some, List, Contains, is_some, slice_get, get_or, length, refl, sym, ap, ◌∙◌, ⊎_elim, arith}
 use Rattle.std.proofs.lemmas.Option.{slice_get-get_or, slice_get_within, get_or_from_slice_get, same_Some}
 use Rattle.std.proofs.lemmas.Bool.{cases_lt, cases_order, eq-eqb, eqb-true, and_parts, and_from}
 use Rattle.std.proofs.lemmas.List.Folds.{Any-from_list_any, list_any-from_Any}
 use Rattle.requirement_table.specs.declared.entries.Placed.{Placed}
-use Rattle.requirement_table.specs.Instance.{Exists, IsLastCycle, IsReleasedIn, MaySend, deadline_of, release_of, released_by}
+use Rattle.requirement_table.specs.Instance.{Exists, IsLastCycle, IsReleasedIn, MaySend, release_of, released_by}
 use Rattle.bit_sets.specs.Sets.{most_slots}
 use Rattle.requirement_table.specs.Table.{IsInRange, IsWellPlaced, held_before, is_last_in, releases_in}
 use Rattle.requirement_table.specs.Flags.{IsFlaggedOnce, IsGoodCycle, waits}
 use Rattle.requirement_table.proofs.SlotInstances.{instance_in-found, one_instance}
-use Rattle.requirement_table.proofs.Latest.{IsReleasedIn-from_released_by, released_by-released}
+use Rattle.requirement_table.proofs.Latest.{released_by-released}
 
 -- a slot that was not held, and has no release, is not held
 not_held : (b r f : Bool) → b ≡ false → r ≡ false → (b || r) && not f ≡ false
@@ -38,9 +38,7 @@ before-suc placed flags from held n slot = refl
 
 -- an instance that is released in a cycle may be sent in it
 sends-released : (q : Placed) (m c : ℕ) → 1 ≤ q.entry.deadline → IsReleasedIn q m c → MaySend q m c
-sends-released q m c some released =
-    let at = released.release in
-    record { exists = rw at released.exists; released = omega arith; in_time = omega arith }
+sends-released q m c some released = grind arith
 
 -- what is asked of an instance: it stands in the list, exists, and this is its last cycle
 record IsOne (placed : List Placed) (p : Placed) (k last : ℕ) : Type 0 where
@@ -53,8 +51,7 @@ place-of : (placed : List Placed) (p : Placed) (i : ℕ) → i < length placed �
 place-of placed p i within at = slice_get-get_or placed i p within ∙ ap (λ q. Some q) at
 
 number-in : (o : Option ℕ) → is_some o ≡ true → (k : ℕ) × (o ≡ Some k)
-number-in (Some k) is = (k, refl)
-number-in None is = absurd (cc)
+number-in o is = grind arith
 
 -- an entry of the list, of this slot, releases an instance in a cycle
 pub record IsRelease (placed : List Placed) (slot c : ℕ) : Type 0 where
@@ -69,23 +66,10 @@ pub record IsRelease (placed : List Placed) (slot c : ℕ) : Type 0 where
 pub release-in : (placed : List Placed) (slot c : ℕ) → IsWellPlaced placed → releases_in placed c slot ≡ true → IsRelease placed slot c
 release-in placed slot c well test =
     let any = Any-from_list_any (λ q. nat_eq q.entry.slot slot && is_some (released_by q c)) placed test in
-    let parts = and_parts (nat_eq any.1.entry.slot slot) (is_some (released_by any.1 c)) any.4 in
-    let number = number-in (released_by any.1 c) parts.1 in
-    let released = IsReleasedIn-from_released_by any.1 number.0 c number.1 in
-    let range : IsInRange any.1 = rw any.3 at (well.in_range any.0 any.1 any.2) in
-    record {
-      place = any.0;
-      number = number.0;
-      entry = any.1;
-      stands = place-of placed any.1 any.0 any.2 any.3;
-      of_slot = eqb-true any.1.entry.slot slot parts.0;
-      released = released;
-      sends = sends-released any.1 number.0 c range.entry.some_time released;
-    }
+    grind (arith, and_parts, slot, is_some, number-in, place-of, eqb-true, sends-released)
 
 range-of : (placed : List Placed) (p : Placed) (i : ℕ) → IsWellPlaced placed → slice_get placed i ≡ Some p → IsInRange p
-range-of placed p i well stands =
-    rw (get_or_from_slice_get placed i p p stands) at (well.in_range i p (slice_get_within placed i p stands))
+range-of placed p i well stands = grind (arith, get_or_from_slice_get, slice_get_within)
 
 sends-until : (p : Placed) (k last c : ℕ) → Exists p (release_of p k) → IsLastCycle p k last → release_of p k ≤ c → c ≤ last → MaySend p k c
 sends-until p k last c exists is_last after before = record { exists = exists; released = after; in_time = omega arith }
@@ -104,25 +88,19 @@ quiet placed p k last c well one after before =
     omega arith)
   where
     only_false : (b : Bool) → (b ≡ true → ⊥) → b ≡ false
-    only_false true wrong = absurd (wrong refl)
-    only_false false wrong = refl
+    only_false b wrong = grind arith
 
 -- in its last cycle the instance is the one that is found there
 last-is : (placed : List Placed) (p : Placed) (k last : ℕ) → IsWellPlaced placed → IsOne placed p k last
     → is_last_in placed last p.entry.slot ≡ true
 last-is placed p k last well one =
     let range = range-of placed p one.place well one.stands in
-    let some = range.entry.some_time in
-    let ends = one.is_last in
-    let mine = sends-until p k last last one.exists one.is_last (omega arith) (omega arith) in
-    rw (instance_in-found placed well one.place k last p one.stands mine) (eq-eqb (deadline_of p k) (last + 1) (sym ends))
+    grind (arith, sends-until, instance_in-found, eq-eqb)
 
 released-is : (placed : List Placed) (p : Placed) (k last : ℕ) → IsWellPlaced placed → IsOne placed p k last
     → releases_in placed (release_of p k) p.entry.slot ≡ true
 released-is placed p k last well one =
     let range = range-of placed p one.place well one.stands in
-    let some = range.entry.some_time in
-    let period = range.entry.deadline in
     let found = released_by-released p k (release_of p k) (omega arith) (record { release = refl; exists = one.exists }) in
     let test : (nat_eq p.entry.slot p.entry.slot && is_some (released_by p (release_of p k))) ≡ true
     = and_from _ _ (eq-eqb p.entry.slot p.entry.slot refl) (ap is_some found) in
@@ -190,18 +168,12 @@ module _ (placed : List Placed) (flags : ℕ → ℕ → Bool) (from n : ℕ) (h
   found-from (suc j) m ends after waiting unsent false sent =
       found-from j (suc m) (omega arith) (omega arith)
       (or_left _ _ (before-suc placed flags from held m p.entry.slot ∙ held_next (held_before placed flags from held m p.entry.slot) (releases_in placed (from + m) p.entry.slot) _ waiting sent))
-      (λ c behind before flagged.
-      ⊎_elim
-      (λ (earlier : c < from + m). unsent c behind earlier flagged)
-      (λ (here : from + m ≤ c). let same : c ≡ from + m = omega arith in let now = ap (λ x. flags x p.entry.slot) same in absurd (cc))
-      (cases_lt c (from + m)))
+      (λ c behind before flagged. grind (arith, slot, cases_lt))
       (flags (from + suc m) p.entry.slot) refl
 
   flagged_once-of : from ≤ release_of p k → IsFlaggedOnce flags p.entry.slot (release_of p k) last
   flagged_once-of after =
       let range = range-of placed p one.place well one.stands in
-      let some = range.entry.some_time in
-      let ends = one.is_last in
       let m = release_of p k - from in
       let at : from + m ≡ release_of p k = omega arith in
       found-from (last - release_of p k) m (omega arith) (omega arith)

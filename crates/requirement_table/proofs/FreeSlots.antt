@@ -31,13 +31,11 @@ All-front P xs ys all = All-same P xs (take (length xs) (xs ++ ys)) (sym (take-a
 -- an end that frees the slot at `c` stands above the origin
 end-above : (end : Option ℕ) (origin deadline c : ℕ) → IfSome end (λ e. (origin ≤ e) × (e < 2 ^ 42)) → 1 ≤ deadline
     → IsSomeAnd (option_map (λ e. e + deadline - 1) end) (λ from. from ≤ c) → origin ≤ c
-end-above None origin deadline c within positive free = absurd free
-end-above (Some e) origin deadline c within positive free = let low = within.0 in omega arith
+end-above end origin deadline c within positive free = grind arith
 
 free-later : (end : Option ℕ) (deadline c d : ℕ) → c ≤ d → IsSomeAnd (option_map (λ e. e + deadline - 1) end) (λ from. from ≤ c)
     → IsSomeAnd (option_map (λ e. e + deadline - 1) end) (λ from. from ≤ d)
-free-later None deadline c d later free = free
-free-later (Some e) deadline c d later free = omega arith
+free-later end deadline c d later free = grind arith
 
 pub origin-below : (p : Placed) (c : ℕ) → IsInRange p → IsFreeAt p c → p.origin ≤ c
 origin-below p c range free = end-above p.end p.origin p.entry.deadline c range.end range.entry.some_time free
@@ -73,9 +71,7 @@ well_placed-more placed p free well range tracks now = record {
 pub free-before : (placed : List Placed) (i : ℕ) (d : Placed) → i < length placed → IsWellPlaced placed → AllFreeAt (take i placed) (get_or placed i d).entry.slot (get_or placed i d).origin
 free-before placed i d within well =
     All-from_get_or (λ q. q.entry.slot ≡ (get_or placed i d).entry.slot → IsFreeAt q (get_or placed i d).origin) (take i placed) d
-    (λ k below.
-    let front : k < i = omega (arith, length-take i placed) in
-    rw (get_or-take i placed k d front) (well.in_order k i d front within))
+    (λ k below. grind (arith, length-take, get_or-take))
 
 -- the table of free cycles before any entry
 pub free-start : (n slot : ℕ) → slot < n → IsFreeFrom [] slot (get_or (replicate n (Some 0)) slot None)

@@ -1,6 +1,6 @@
 -- Some cycles later a table does the same again, where all its entries go round.
-use Rattle.std.proofs.Common.{◌≡◌, ℕ, ◌+◌, ◌-◌, ◌*◌, ◌/◌, ◌%◌, ◌<◌, ◌≤◌, ◌&&◌, ◌||◌, Bool, true, false, nat_eq, nat_le, nat_lt, if◌then◌else◌}
-use Rattle.std.proofs.Common.{Option, Some, None, IfSome, is_some, option_map, List, [], ◌∷◌, All, slice_get, get_or, refl, sym, ap, ◌∙◌, arith}
+use Rattle.std.proofs.Common.{◌≡◌, ℕ, ◌+◌, ◌-◌, ◌*◌, ◌/◌, ◌%◌, ◌<◌, ◌≤◌, ◌&&◌, ◌||◌, Bool, true, false, nat_eq, nat_lt, if◌then◌else◌}
+use Rattle.std.proofs.Common.{Option, Some, None, IfSome, is_some, option_map, List, [], ◌∷◌, All, slice_get, get_or, refl, ap, ◌∙◌, arith}
 use Rattle.std.specs.List.{cons_option, filter_map}
 use Rattle.std.specs.Option.{option_map_or}
 use Rattle.std.proofs.lemmas.Bool.Decides.{nat_tests}
@@ -11,7 +11,6 @@ use Rattle.requirement_table.specs.declared.entries.Placed.{Placed}
 use Rattle.requirement_table.specs.Instance.{Instance, deadline_of, exists, instance_of, latest, may_send, release_of, released_by, worst_of}
 use Rattle.requirement_table.specs.Table.{IsInRange, IsWellPlaced, instance_in, is_last_in, releases_in, sendable, worst_in}
 use Rattle.requirement_table.proofs.Found.{found-in}
-use Rattle.requirement_table.proofs.Latest.{IsReleasedIn-from_released_by, MaySend-from_instance}
 
 -- an instance of a live entry, `length` cycles later
 abbrev pub later : ℕ → Instance → Instance
@@ -32,25 +31,13 @@ record IsLive (p : Placed) (b d : ℕ) : Type 0 where
   whole : d / p.entry.period * p.entry.period ≡ d
 
 live-of : (p : Placed) (b d : ℕ) → GoesRound b d p → p.end ≡ None → IsLive p b d
-live-of p b d rounds none =
-    let begun = rounds.begun none in
-    let rest = rounds.divided none in
-    let parts = div-add-mod' d p.entry.period in
-    record { none = none; begun = begun; whole = omega arith }
-
-le-shifted : (a b d : ℕ) → nat_le (a + d) (b + d) ≡ nat_le a b
-le-shifted a b d = grind (arith, nat_tests)
-
-lt-shifted : (a b d : ℕ) → nat_lt (a + d) (b + d) ≡ nat_lt a b
-lt-shifted a b d = grind (arith, nat_tests)
+live-of p b d rounds none = grind (arith, div-add-mod')
 
 eq-shifted : (a b d : ℕ) → nat_eq (a + d) (b + d) ≡ nat_eq a b
 eq-shifted a b d = grind (arith, nat_tests)
 
 latest-later : (p : Placed) (b d c : ℕ) → 1 ≤ p.entry.period → IsLive p b d → b ≤ c → latest p (c + d) ≡ latest p c + d / p.entry.period
 latest-later p b d c period live after =
-    let begun = live.begun in
-    let whole = live.whole in
     let m = d / p.entry.period in
     let since : c + d - (p.origin + p.entry.phase) ≡ (c - (p.origin + p.entry.phase)) + m * p.entry.period = omega arith in
     ap (λ x. x / p.entry.period) since ∙ add-mul-div_right (c - (p.origin + p.entry.phase)) m period
@@ -62,22 +49,10 @@ exists-live : (p : Placed) (r : ℕ) → p.end ≡ None → exists p r ≡ true
 exists-live p r none = ap (λ e. option_map_or (λ end. nat_lt r end) e true) none
 
 may_send-later : (p : Placed) (b d k c : ℕ) → IsLive p b d → may_send p (k + d / p.entry.period) (c + d) ≡ may_send p k c
-may_send-later p b d k c live =
-    let m = d / p.entry.period in
-    let at = release-later p b d k live in
-    let there = exists-live p (release_of p (k + m)) live.none ∙ sym (exists-live p (release_of p k) live.none) in
-    let begun : nat_le (release_of p (k + m)) (c + d) ≡ nat_le (release_of p k) c
-    = ap (λ r. nat_le r (c + d)) at ∙ le-shifted (release_of p k) c d in
-    let due : deadline_of p (k + m) ≡ deadline_of p k + d = omega arith in
-    let in_time : nat_lt (c + d) (deadline_of p (k + m)) ≡ nat_lt c (deadline_of p k)
-    = ap (λ r. nat_lt (c + d) r) due ∙ lt-shifted c (deadline_of p k) d in
-    ap (λ e. e && nat_le (release_of p (k + m)) (c + d) && nat_lt (c + d) (deadline_of p (k + m))) there
-    ∙ ap (λ e. exists p (release_of p k) && e && nat_lt (c + d) (deadline_of p (k + m))) begun
-    ∙ ap (λ e. exists p (release_of p k) && nat_le (release_of p k) c && e) in_time
+may_send-later p b d k c live = grind (arith, release-later, exists-live, nat_lt)
 
 number-later : (t : Bool) (k m : ℕ) → (if t then Some (k + m) else None) ≡ option_map (λ x. x + m) (if t then Some k else None)
-number-later true k m = refl
-number-later false k m = refl
+number-later t k m = grind arith
 
 instance-live : (p : Placed) (b d c : ℕ) → 1 ≤ p.entry.period → IsLive p b d → b ≤ c
     → instance_of p (c + d) ≡ option_map (λ k. k + d / p.entry.period) (instance_of p c)
@@ -88,40 +63,19 @@ instance-live p b d c period live after =
     ∙ ap (λ t. if t then Some (k + m) else None) (may_send-later p b d k c live)
     ∙ number-later (may_send p k c) k m
 
-some-test : (t : Bool) (k m : ℕ) → is_some (if t then Some (k + m) else None) ≡ is_some (if t then Some k else None)
-some-test true k m = refl
-some-test false k m = refl
-
 released-live : (p : Placed) (b d c : ℕ) → 1 ≤ p.entry.period → IsLive p b d → b ≤ c → is_some (released_by p (c + d)) ≡ is_some (released_by p c)
 released-live p b d c period live after =
     let m = d / p.entry.period in
     let k = latest p c in
     let at : nat_eq (release_of p (k + m)) (c + d) ≡ nat_eq (release_of p k) c
     = ap (λ r. nat_eq r (c + d)) (release-later p b d k live) ∙ eq-shifted (release_of p k) c d in
-    let there = exists-live p (c + d) live.none ∙ sym (exists-live p c live.none) in
-    ap (λ x. is_some (if nat_eq (release_of p x) (c + d) && exists p (c + d) then Some x else None)) (latest-later p b d c period live after)
-    ∙ ap (λ t. is_some (if t && exists p (c + d) then Some (k + m) else None)) at
-    ∙ ap (λ t. is_some (if nat_eq (release_of p k) c && t then Some (k + m) else None)) there
-    ∙ some-test (nat_eq (release_of p k) c && exists p c) k m
+    grind (arith, exists-live, is_some, latest-later)
 
 none-of : (o : Option ℕ) → ((k : ℕ) → o ≡ Some k → ⊥) → o ≡ None
-none-of (Some k) never = absurd (never k refl)
-none-of None never = refl
+none-of o never = grind arith
 
 instance-over : (p : Placed) (b e c : ℕ) → p.end ≡ Some e → 1 ≤ p.entry.deadline → e + p.entry.deadline - 1 ≤ b → b ≤ c → instance_of p c ≡ None
-instance-over p b e c is some over after =
-    none-of (instance_of p c) (λ k found.
-    let sends = MaySend-from_instance p k c found in
-    let there : release_of p k < e = rw is at sends.exists in
-    let in_time = sends.in_time in
-    omega arith)
-
-released-over : (p : Placed) (b e c : ℕ) → p.end ≡ Some e → 1 ≤ p.entry.deadline → e + p.entry.deadline - 1 ≤ b → b ≤ c → released_by p c ≡ None
-released-over p b e c is some over after =
-    none-of (released_by p c) (λ k found.
-    let released = IsReleasedIn-from_released_by p k c found in
-    let there : c < e = rw is at released.exists in
-    omega arith)
+instance-over p b e c is some over after = grind (arith, none-of)
 
 -- what an entry does in a cycle it does again
 record DoesAgain (d c : ℕ) (p : Placed) : Type 0 where
@@ -129,34 +83,16 @@ record DoesAgain (d c : ℕ) (p : Placed) : Type 0 where
   released : is_some (released_by p (c + d)) ≡ is_some (released_by p c)
 
 again-with : (p : Placed) (b d c : ℕ) (end : Option ℕ) → p.end ≡ end → IsInRange p → GoesRound b d p → b ≤ c → DoesAgain d c p
-again-with p b d c None is range rounds after =
-    let live = live-of p b d rounds is in
-    let some = range.entry.some_time in
-    let short = range.entry.deadline in
-    let period : 1 ≤ p.entry.period = omega arith in
-    record { instance = instance-live p b d c period live after; released = released-live p b d c period live after }
+again-with p b d c None is range rounds after = grind (arith, live-of, instance-live, released-live)
 again-with p b d c (Some e) is range rounds after =
     let over = rounds.over e is in
-    let some = range.entry.some_time in
-    let m = d / p.entry.period in
-    record {
-      instance = instance-over p b e (c + d) is some over (omega arith) ∙ ap (option_map (λ k. k + m)) (sym (instance-over p b e c is some over after));
-      released = ap is_some (released-over p b e (c + d) is some over (omega arith) ∙ sym (released-over p b e c is some over after));
-    }
+    grind (arith, instance-over, option_map, is_some)
 
 -- A table
 
-sent-later : (here : Bool) (o : Option ℕ) (p : Placed) (d : ℕ)
-    → (if here then option_map (λ k. record { placed = p; number = k }) (option_map (λ k. k + d / p.entry.period) o) else None)
-    ≡ option_map (later d) (if here then option_map (λ k. record { placed = p; number = k }) o else None)
-sent-later true (Some k) p d = refl
-sent-later true None p d = refl
-sent-later false o p d = refl
-
 first-later : (f : Instance → Instance) (o : Option Instance) (xs ys : List Instance) → slice_get ys 0 ≡ option_map f (slice_get xs 0)
     → slice_get (cons_option (option_map f o) ys) 0 ≡ option_map f (slice_get (cons_option o xs) 0)
-first-later f (Some x) xs ys same = refl
-first-later f None xs ys same = same
+first-later f o xs ys same = grind arith
 
 instance-later : (placed : List Placed) (slot d c : ℕ) → All (DoesAgain d c) placed
     → instance_in placed slot (c + d) ≡ option_map (later d) (instance_in placed slot c)
@@ -164,8 +100,7 @@ instance-later [] slot d c again = refl
 instance-later (p ∷ rest) slot d c again =
     let here = All-head (DoesAgain d c) p rest again in
     let sent : sendable slot (c + d) p ≡ option_map (later d) (sendable slot c p)
-    = ap (λ o. if nat_eq p.entry.slot slot then option_map (λ k. record { placed = p; number = k }) o else None) here.instance
-    ∙ sent-later (nat_eq p.entry.slot slot) (instance_of p c) p d in
+    = grind (arith, option_map) in
     ap (λ o. slice_get (cons_option o (filter_map (sendable slot (c + d)) rest)) 0) sent
     ∙ first-later (later d) (sendable slot c p) (filter_map (sendable slot c) rest) (filter_map (sendable slot (c + d)) rest)
     (instance-later rest slot d c (All-tail (DoesAgain d c) p rest again))
@@ -197,9 +132,7 @@ moved-with placed b d c slot None is well rounds after = tt
 moved-with placed b d c slot (Some i) is well rounds after =
     let found = found-in placed slot c i well is in
     let round = All-contains (GoesRound b d) placed i.placed rounds found.stands in
-    let in_time = found.sends.in_time in
     let live = live-of i.placed b d round (no-end i.placed.end refl round found.in_range found.number) in
-    let at = release-later i.placed b d i.number live in
     (omega arith, omega arith)
   where
     no-end : (end : Option ℕ) → i.placed.end ≡ end → GoesRound b d i.placed → IsInRange i.placed → instance_of i.placed c ≡ Some i.number → i.placed.end ≡ None
@@ -213,17 +146,12 @@ pub moved-again : (placed : List Placed) (b d c slot : ℕ) → IsWellPlaced pla
 moved-again placed b d c slot well rounds after = moved-with placed b d c slot (instance_in placed slot c) refl well rounds after
 
 cost-later : (d : ℕ) (o : Option Instance) → option_map_or worst_of (option_map (later d) o) 0 ≡ option_map_or worst_of o 0
-cost-later d None = refl
-cost-later d (Some i) = refl
+cost-later d o = grind arith
 
 last-later : (d c : ℕ) (o : Option Instance) → IsMoved d o
     → option_map_or (λ i. nat_eq (deadline_of i.placed i.number) (c + d + 1)) (option_map (later d) o) false
     ≡ option_map_or (λ i. nat_eq (deadline_of i.placed i.number) (c + 1)) o false
-last-later d c None moved = refl
-last-later d c (Some i) moved =
-    let next : c + d + 1 ≡ (c + 1) + d = omega arith in
-    ap (λ k. nat_eq k (c + d + 1)) moved.0 ∙ ap (λ k. nat_eq (deadline_of i.placed i.number + d) k) next
-    ∙ eq-shifted (deadline_of i.placed i.number) (c + 1) d
+last-later d c o moved = grind (arith, eq-shifted)
 
 -- from cycle `b` on the slot does the same again after `d` cycles
 pub record SameAgain (placed : List Placed) (d c slot : ℕ) : Type 0 where
@@ -236,7 +164,6 @@ same-again placed b d c slot well rounds after =
     let found = instance-again placed b d c slot well rounds after in
     record {
       releases = releases-later placed slot d c (all-again placed b d c well rounds after);
-      last = ap (λ o. option_map_or (λ i. nat_eq (deadline_of i.placed i.number) (c + d + 1)) o false) found
-          ∙ last-later d c (instance_in placed slot c) (moved-again placed b d c slot well rounds after);
+      last = grind (arith, last-later, moved-again);
       cost = ap (λ o. option_map_or worst_of o 0) found ∙ cost-later d (instance_in placed slot c);
     }

@@ -1,8 +1,8 @@
 -- The requests that the frames of a cycle carry, by what is known of the slots.
-use Rattle.std.proofs.Common.{◌≡◌, ◌≢◌, inl, inr, ℕ, ◌<◌, ◌==◌, Bool, true, false, if◌then◌else◌, List, [], ◌∷◌, All, length, set, Option, Some, None, IfSome, option_map, option_and_then, refl, sym, ap, ◌∙◌, arith}
+use Rattle.std.proofs.Common.{◌≡◌, ◌≢◌, inl, inr, ℕ, ◌<◌, ◌==◌, true, List, [], ◌∷◌, All, length, set, Option, Some, None, IfSome, option_map, option_and_then, refl, sym, arith}
 use Rattle.std.specs.List.{slice_get}
 use Rattle.std.specs.Prelude.{unwrap_or}
-use Rattle.std.proofs.lemmas.Bool.{cases_eq, eqb-true, or_cases}
+use Rattle.std.proofs.lemmas.Bool.{eqb-true, or_cases}
 use Rattle.std.proofs.lemmas.List.Elements.{All-head, All-tail}
 use Rattle.std.proofs.lemmas.Option.{none-some, same_Some}
 use Rattle.can_frame.specs.DataFrame.{DataFrame}
@@ -27,8 +27,7 @@ pub noted_by : (slot release cycle : ℕ) (carried : ℕ → Option ℕ) (riding
     → IfSome result (λ place. taken_in riding.fates place ≡ Some release)
     → (result ≡ None → (place : ℕ) → IsOfSlot riding.queued.streams slot place → taken_in riding.fates place ≢ Some release)
     → HasRidden slot carried cycle riding → release < cycle → result ≡ carried release
-noted_by slot release cycle carried riding (Some place) of_slot noted none ridden before =
-    sym ((ridden.only place release (record { of_slot = of_slot; noted = noted })).1)
+noted_by slot release cycle carried riding (Some place) of_slot noted none ridden before = grind arith
 noted_by slot release cycle carried riding None of_slot noted none ridden before = by_case (carried release) refl
   where
     by_case : (took : Option ℕ) → carried release ≡ took → None ≡ took
@@ -51,8 +50,7 @@ pub release_by : (placed : List Placed) (slot cycle : ℕ) (current : Option Cur
 release_by placed slot cycle current is = by_found (instance_in placed slot cycle) is
   where
     by_found : (found : Option Instance) → current ≡ option_map current_of found → option_map (λ i. release_of i.placed i.number) found ≡ option_map (λ it. it.release) current
-    by_found None is = rw is refl
-    by_found (Some i) is = rw is refl
+    by_found found is = grind arith
 
 -- a request's place and the release of its instance
 abbrev pub ride_by : ℕ → Option ℕ → Option Ride
@@ -61,17 +59,7 @@ ride_by release took = option_map (λ place. record { release = release; place =
 -- what the frame of a polled slot carries
 pub ride_polled : (streams : List Stream) (carried : ℕ → ℕ → Option ℕ) (placed : List Placed) (cycle slot : ℕ) (current : Current) → is_polled streams slot ≡ true
     → Some current ≡ option_map current_of (instance_in placed slot cycle) → ride_sent streams carried placed cycle slot ≡ ride_by current.release (carried slot current.release)
-ride_polled streams carried placed cycle slot current polled is =
-    let release : release_in placed slot cycle ≡ Some current.release = release_by placed slot cycle (Some current) is in
-    rw (polled, release) refl
-
-pub ride_none : (streams : List Stream) (carried : ℕ → ℕ → Option ℕ) (placed : List Placed) (cycle slot : ℕ) → None ≡ option_map current_of (instance_in placed slot cycle)
-    → ride_sent streams carried placed cycle slot ≡ None
-ride_none streams carried placed cycle slot is = by_test (is_polled streams slot)
-  where
-    by_test : (test : Bool) → (if test then option_and_then (λ release. ride_by release (carried slot release)) (release_in placed slot cycle) else None) ≡ None
-    by_test true = rw (release_by placed slot cycle None is) refl
-    by_test false = refl
+ride_polled streams carried placed cycle slot current polled is = grind (arith, release_by)
 
 -- a frame that is sent leaves what is known of the slots
 pub sent_keeps : (slot other cycle since : ℕ) (carried : ℕ → Option ℕ) (queued : Queued) (latest : List (Option Ride)) (fates : List Fate) (ride : Ride)
@@ -81,11 +69,7 @@ pub sent_keeps : (slot other cycle since : ℕ) (carried : ℕ → Option ℕ) (
 sent_keeps slot other cycle since carried queued latest fates ride taken inside ridden =
     takes_elsewhere slot since carried (record { queued = queued; latest = latest; fates = fates })
     (record { queued = queued; latest = latest; fates = set fates ride.place (Sent ride.release cycle) }) refl refl refl
-    (λ place of_slot. elim (cases_eq place ride.place) [
-      | inl same ↦
-          ap (taken_in (set fates ride.place (Sent ride.release cycle))) same ∙ taken-same fates ride.place (Sent ride.release cycle) inside ∙ sym taken ∙ ap (taken_in fates) (sym same)
-      | inr apart ↦ taken-other fates ride.place place (Sent ride.release cycle) apart
-    ])
+    (λ place of_slot. grind (arith, taken-same, taken-other))
     ridden
 
 -- the bytes of an instance of a polled slot
@@ -101,8 +85,7 @@ bytes_polled streams carried placed cycle slot current bytes well polled is = by
     by_found None at same = absurd (none-some current (sym same))
     by_found (Some i) at same =
         let its = (found-in placed slot cycle i well at).of_slot in
-        let it = same_Some _ _ same in
-        rw (it, its, polled) refl
+        grind (arith, same_Some)
 
 -- the bytes by what was taken
 pub bytes_took : (streams : List Stream) (entry_length place : ℕ) (stream : Stream) (took : Option ℕ) → Some place ≡ took → slice_get streams place ≡ Some stream

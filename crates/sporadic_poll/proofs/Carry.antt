@@ -12,7 +12,7 @@ use Rattle.can_frame.specs.declared.data_frame.TimedFrame.{TimedFrame}
 use Rattle.trigger_kind.specs.Kind.{greatest_trigger}
 use Rattle.cycle_layout.specs.Layout.{CycleLayout, IsLayout}
 use Rattle.requirement_table.specs.Instance.{Instance, bytes_of}
-use Rattle.requirement_table.specs.Opening.{Opening, width_of}
+use Rattle.requirement_table.specs.Opening.{Opening}
 use Rattle.bit_sets.specs.Sets.{has_bit, most_slots}
 use Rattle.requirement_table.specs.Table.{IsWellPlaced, instance_in}
 use Rattle.requirement_table.proofs.Shared.{found-in}
@@ -33,9 +33,7 @@ first-passes {X} test (y ∷ ys) x rest is = by_test (first-passes test ys x res
   where
     by_test : (filter test ys ≡ x ∷ rest → Contains ys x × (test x ≡ true)) → (passes : Bool) → test y ≡ passes → (if passes then y ∷ filter test ys else filter test ys) ≡ x ∷ rest
         → Contains (y ∷ ys) x × (test x ≡ true)
-    by_test among true passes here =
-        let same : y ≡ x = ap (λ (l : List X). get_or l 0 x) here in
-        ((0, omega arith, same), ap test (sym same) ∙ passes)
+    by_test among true passes here = grind arith
     by_test among false passes later =
         let it = among later in
         ((suc it.0.0, omega (arith, it.0.1), it.0.2), it.1)
@@ -56,52 +54,14 @@ agree layout opening frames past before front back at frame split late within = 
     other_way id all = All-append (λ sent. sent.frame.identifier ≡ id → sent.start < start_of layout opening) past front (λ k d inside is. before k d inside) all
 
     there : offered_in bytes_of layout [] opening (past ++ front) at frame → offered_in bytes_of layout [] opening front at frame
-    there (inl it) = inl (record { begun = it.begun; within = it.within; among = it.among; unsent = one_way frame.identifier it.unsent })
-    there (inr (inl it)) = absurd (no_request layout opening (past ++ front) at frame it)
-    there (inr (inr (slot, it))) = inr (inr (
-      slot,
-      record {
-        begun = it.begun;
-        late_enough = it.late_enough;
-        within = it.within;
-        known = it.known;
-        flagged = it.flagged;
-        unsent = one_way (first_identifier + slot) it.unsent;
-        identifier = it.identifier;
-        bytes = it.bytes;
-      },
-    ))
+    there h0 = grind (arith, one_way, no_request)
 
     back_again : offered_in bytes_of layout [] opening front at frame → offered_in bytes_of layout [] opening (past ++ front) at frame
-    back_again (inl it) = inl (record { begun = it.begun; within = it.within; among = it.among; unsent = other_way frame.identifier it.unsent })
-    back_again (inr (inl it)) = absurd (no_request layout opening front at frame it)
-    back_again (inr (inr (slot, it))) = inr (inr (
-      slot,
-      record {
-        begun = it.begun;
-        late_enough = it.late_enough;
-        within = it.within;
-        known = it.known;
-        flagged = it.flagged;
-        unsent = other_way (first_identifier + slot) it.unsent;
-        identifier = it.identifier;
-        bytes = it.bytes;
-      },
-    ))
+    back_again h0 = grind (arith, other_way, no_request)
 
 pub fresh_trace : (layout : CycleLayout) (opening : Opening) (frames : List TimedFrame) → Follows (offered_in bytes_of layout [] opening) [] (start_of layout opening) (end_of_cycle layout opening) frames
     → FollowsTrace bytes_of layout [] [] opening [] frames
-fresh_trace layout opening frames follows = record {
-  below = λ k d within. absurd (omega (arith, within));
-  can_trace = record {
-    ordered = record { lengths = λ k d within. absurd (omega (arith, within)); apart = λ i j d before within. absurd (omega (arith, within)) };
-    within = λ k d within. absurd (omega (arith, within));
-    least = λ k d within. absurd (omega (arith, within));
-    busy = λ at frame before offers. absurd (omega (arith, offers.1.1));
-  };
-  ended = λ k d within. absurd (omega (arith, within));
-  follows = follows;
-}
+fresh_trace layout opening frames follows = grind arith
 
 -- all flagged slots were sent
 pub all_sent : (layout : CycleLayout) (opening : Opening) (sends : Instance → List ℕ) (known : IsLayout layout) (fits : FitsWindow layout opening) (past frames : List TimedFrame)
@@ -124,20 +84,7 @@ drop-first (x ∷ xs) (suc n) = drop-first xs n
 
 -- the slot of a frame of a slot
 pub slot_is : (frame : DataFrame) (slot : ℕ) → slot < most_slots → frame.identifier ≡ first_identifier + slot → slot_sent frame ≡ Some slot
-slot_is frame slot few is =
-    let test : (nat_le first_identifier frame.identifier && nat_lt frame.identifier (first_identifier + most_slots)) ≡ true =
-    and_from _ _ (le-leb first_identifier frame.identifier (omega (arith, is))) (lt-ltb frame.identifier (first_identifier + most_slots) (omega (arith, is, few))) in
-    let less : frame.identifier - first_identifier ≡ slot = omega (arith, is) in
-    rw test (ap Some less)
-
--- and its identifier is no lower
-above_low : (frame : DataFrame) (slot : ℕ) → slot_sent frame ≡ Some slot → greatest_trigger < frame.identifier
-above_low frame slot is = by_test (nat_le first_identifier frame.identifier && nat_lt frame.identifier (first_identifier + most_slots)) refl is
-  where
-    by_test : (test : Bool) → (nat_le first_identifier frame.identifier && nat_lt frame.identifier (first_identifier + most_slots)) ≡ test
-        → (if test then Some (frame.identifier - first_identifier) else None) ≡ Some slot → greatest_trigger < frame.identifier
-    by_test true passes some = omega (arith, leb-true first_identifier frame.identifier ((and_parts _ _ passes).0))
-    by_test false passes some = absurd (none-some slot some)
+slot_is frame slot few is = grind (arith, and_from, le-leb, lt-ltb)
 
 -- a frame of a slot is one of a flagged slot
 pub flagged_frame : (layout : CycleLayout) (opening : Opening) (known : IsLayout layout) (fits : FitsWindow layout opening) (frames past : List TimedFrame) (free : ℕ)
@@ -150,12 +97,9 @@ flagged_frame layout opening known fits (one ∷ later) past free (next, follows
     by_offer (ap (λ (s : TimedFrame). slot_sent s.frame) same ∙ is) next.least.offered
   where
     by_offer : slot_sent one.frame ≡ Some slot → offered_in bytes_of layout [] opening past one.start one.frame → (slot < most_slots) × (has_bit opening.mask slot ≡ true)
-    by_offer here (inl trigger) =
-        absurd (omega (arith, above_low one.frame slot here, low layout.slots opening.cycle (width_of opening) opening.mask one.frame trigger.among))
+    by_offer here (inl trigger) = grind (arith, low)
     by_offer here (inr (inl request)) = absurd (no_request layout opening past one.start one.frame request)
-    by_offer here (inr (inr (s, offers))) =
-        let it : s ≡ slot = same_Some _ _ (sym (slot_is one.frame s offers.known offers.identifier) ∙ here) in
-        (omega (arith, it, offers.known), ap (has_bit opening.mask) (sym it) ∙ offers.flagged)
+    by_offer here (inr (inr (s, offers))) = grind (arith, same_Some, slot_is)
 
 -- each flagged slot has a frame in the window
 pub window_frame : (layout : CycleLayout) (opening : Opening) (frames front window : List TimedFrame) → RunsCycle bytes_of layout opening frames → frames ≡ front ++ window
@@ -179,10 +123,7 @@ module _ (streams : List Stream) (carried : ℕ → ℕ → Option ℕ) (opening
       × (bytes_sent (polled_bytes streams carried) opening slot ≡ Some ((polled_frame streams carried opening.placed opening.cycle frame).bytes))
   carries slot frame few is bytes =
       let made : polled_frame streams carried opening.placed opening.cycle frame
-      ≡ record { identifier = frame.identifier; bytes = bytes_or streams carried opening.placed opening.cycle slot frame.bytes } = rw (slot_is frame slot few is) refl in (
-        ap (λ (f : DataFrame). f.identifier) made,
-        by_found (instance_in opening.placed slot opening.cycle) refl bytes ∙ ap (λ (f : DataFrame). Some f.bytes) (sym made),
-      )
+      ≡ record { identifier = frame.identifier; bytes = bytes_or streams carried opening.placed opening.cycle slot frame.bytes } = rw (slot_is frame slot few is) refl in (grind (arith, by_found))
     where
       by_test : (i : Instance) (test : Bool) → is_polled streams slot ≡ test → i.placed.entry.slot ≡ slot → Some (bytes_of i) ≡ Some frame.bytes
           → Some (polled_bytes streams carried i) ≡ Some (if test then polled_bytes streams carried i else frame.bytes)
@@ -216,5 +157,4 @@ module _ (streams : List Stream) (carried : ℕ → ℕ → Option ℕ) (opening
         where
           by_test : (test : Bool) → (nat_le first_identifier sent.frame.identifier && nat_lt sent.frame.identifier (first_identifier + most_slots)) ≡ test
               → is_some (if test then Some (sent.frame.identifier - first_identifier) else None) ≡ true → greatest_trigger < sent.frame.identifier
-          by_test true passes some = omega (arith, leb-true first_identifier sent.frame.identifier ((and_parts _ _ passes).0))
-          by_test false passes some = absurd (cc)
+          by_test test passes some = grind (arith, leb-true, and_parts)

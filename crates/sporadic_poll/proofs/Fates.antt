@@ -1,8 +1,8 @@
 -- What became of the requests, after the frames of one more cycle.
-use Rattle.std.proofs.Common.{◌≡◌, ◌⊎◌, inl, inr, ℕ, zero, suc, ◌<◌, ◌==◌, ◌||◌, Bool, true, false, List, [], ◌∷◌, ◌++◌, Contains, length, set, get_or, Option, Some, None, option_and_then, refl, sym, ap, ◌∙◌, arith}
+use Rattle.std.proofs.Common.{◌≡◌, ◌⊎◌, inl, inr, ℕ, zero, suc, ◌<◌, ◌==◌, ◌||◌, Bool, true, List, [], ◌∷◌, ◌++◌, Contains, length, get_or, Option, Some, None, option_and_then, refl, sym, ap, ◌∙◌, arith}
 use Rattle.std.specs.Prelude.{if◌then◌else◌}
 use Rattle.std.specs.List.{slice_get}
-use Rattle.std.proofs.lemmas.Bool.{cases_eq, eq-eqb}
+use Rattle.std.proofs.lemmas.Bool.{eq-eqb}
 use Rattle.std.proofs.lemmas.List.{length-set}
 use Rattle.std.proofs.lemmas.List.Elements.{Contains-append_cases, Contains-append_left, Contains-append_right}
 use Rattle.std.proofs.lemmas.Option.{none-some, same_Some, slice_get-get_or, slice_get_within}
@@ -11,7 +11,7 @@ use Rattle.requirement_table.specs.declared.entries.Placed.{Placed}
 use Rattle.requirement_table.specs.Opening.{Opening}
 use Rattle.bit_sets.specs.Sets.{has_bit, most_slots}
 use Rattle.sporadic_poll.specs.declared.fate.Fate.{Fate}
-use Rattle.sporadic_poll.specs.declared.fate.Fate.TheVariants.{Waits, Taken, Sent}
+use Rattle.sporadic_poll.specs.declared.fate.Fate.TheVariants.{Waits, Sent}
 use Rattle.sporadic_poll.specs.declared.fate.Ride.{Ride}
 use Rattle.sporadic_poll.specs.declared.stream.Stream.{Stream}
 use Rattle.sporadic_poll.specs.Polled.{is_polled}
@@ -22,50 +22,18 @@ use Rattle.sporadic_poll.proofs.Carried.{ride_by}
 use Rattle.sporadic_poll.proofs.Openings.{Contains-cases}
 use Rattle.sporadic_poll.proofs.Riding.{read-set_other, read-set_same}
 
--- the parts of what is noted of a request that was sent
-release_of_sent : Fate → ℕ
-release_of_sent Waits = 0
-release_of_sent (Taken release) = release
-release_of_sent (Sent release cycle) = release
-
-cycle_of_sent : Fate → ℕ
-cycle_of_sent Waits = 0
-cycle_of_sent (Taken release) = 0
-cycle_of_sent (Sent release cycle) = cycle
-
-same_sending : (one other now instant : ℕ) → Sent one now ≡ Sent other instant → (one ≡ other) × (now ≡ instant)
-unfolding release_of_sent cycle_of_sent
-same_sending one other now instant same = (ap release_of_sent same, ap cycle_of_sent same)
-
 -- a request that was sent stays so
 noted-keeps : (cycle : ℕ) (fates : List Fate) (ride : Option Ride) (place : ℕ) → IsSent fates place → IsSent (noted cycle fates ride) place
 noted-keeps cycle fates None place sent = sent
-noted-keeps cycle fates (Some ride) place sent = elim (cases_eq place ride.place) [
-  | inl same ↦
-      let inside = slice_get_within fates place (Sent sent.release sent.cycle) sent.is in
-      record {
-        release = ride.release;
-        cycle = cycle;
-        is = ap (slice_get (set fates ride.place (Sent ride.release cycle))) same ∙ read-set_same fates ride.place (Sent ride.release cycle) (omega (arith, inside, same));
-      }
-  | inr apart ↦ record { release = sent.release; cycle = sent.cycle; is = read-set_other fates ride.place place (Sent ride.release cycle) apart ∙ sent.is }
-]
+noted-keeps cycle fates (Some ride) place sent = grind (arith, slice_get_within, read-set_same, read-set_other)
 
 noted-back : (cycle : ℕ) (fates : List Fate) (ride : Option Ride) (place release instant : ℕ) → slice_get (noted cycle fates ride) place ≡ Some (Sent release instant)
     → (slice_get fates place ≡ Some (Sent release instant)) ⊎ ((ride ≡ Some (record { release = release; place = place })) × (instant ≡ cycle))
-noted-back cycle fates None place release instant is = inl is
-noted-back cycle fates (Some ride) place release instant is = elim (cases_eq place ride.place) [
-  | inl same ↦
-      let inside : ride.place < length fates = omega (arith, slice_get_within (set fates ride.place (Sent ride.release cycle)) place (Sent release instant) is, length-set fates ride.place (Sent ride.release cycle), same) in
-      let it = same_sending ride.release release cycle instant (same_Some _ _ (sym (read-set_same fates ride.place (Sent ride.release cycle) inside)
-      ∙ ap (slice_get (set fates ride.place (Sent ride.release cycle))) (sym same) ∙ is)) in
-      inr (ap (λ r. Some (record { release = r; place = ride.place })) it.0 ∙ ap (λ p. Some (record { release = release; place = p })) (sym same), sym it.1)
-  | inr apart ↦ inl (sym (read-set_other fates ride.place place (Sent ride.release cycle) apart) ∙ is)
-]
+noted-back cycle fates ride place release instant is =
+    grind (arith, slice_get_within, length-set, same_Some, read-set_same, read-set_other)
 
 noted-length : (cycle : ℕ) (fates : List Fate) (ride : Option Ride) → length (noted cycle fates ride) ≡ length fates
-noted-length cycle fates None = refl
-noted-length cycle fates (Some ride) = length-set fates ride.place (Sent ride.release cycle)
+noted-length cycle fates ride = grind (arith, length-set)
 
 module _ (streams : List Stream) (carried : ℕ → ℕ → Option ℕ) (placed : List Placed) (cycle : ℕ) where
   -- what a frame carries
@@ -119,34 +87,14 @@ module _ (streams : List Stream) (carried : ℕ → ℕ → Option ℕ) (placed 
   parts : (sent : TimedFrame) (place release : ℕ) → ride_of_frame sent ≡ Some (record { release = release; place = place }) → Carries sent place release
   parts sent place release is = by_slot (slot_sent sent.frame) refl is
     where
-      by_took : (slot at : ℕ) (took : Option ℕ) → slot_sent sent.frame ≡ Some slot → release_in placed slot cycle ≡ Some at → carried slot at ≡ took
-          → ride_by at took ≡ Some (record { release = release; place = place }) → Carries sent place release
-      by_took slot at None here released took same = absurd (none-some _ same)
-      by_took slot at (Some p) here released took same =
-          let it = same_Some _ _ same in
-          let when : at ≡ release = ap (λ (r : Ride). r.release) it in
-          record {
-            slot = slot;
-            is_slot = here;
-            released = released ∙ ap Some when;
-            took = ap (carried slot) (sym when) ∙ took ∙ ap (λ (r : Ride). Some r.place) it;
-          }
-
-      by_release : (slot : ℕ) (found : Option ℕ) → slot_sent sent.frame ≡ Some slot → release_in placed slot cycle ≡ found
-          → option_and_then (λ at. ride_by at (carried slot at)) found ≡ Some (record { release = release; place = place }) → Carries sent place release
-      by_release slot None here released same = absurd (none-some _ same)
-      by_release slot (Some at) here released same = by_took slot at (carried slot at) here released refl same
-
       by_test : (slot : ℕ) (test : Bool) → slot_sent sent.frame ≡ Some slot
           → (if test then option_and_then (λ at. ride_by at (carried slot at)) (release_in placed slot cycle) else None)
           ≡ Some (record { release = release; place = place }) → Carries sent place release
-      by_test slot true here same = by_release slot (release_in placed slot cycle) here refl same
-      by_test slot false here same = absurd (none-some _ same)
+      by_test slot test here same = grind (arith, none-some)
 
       by_slot : (found : Option ℕ) → slot_sent sent.frame ≡ found → option_and_then (ride_sent streams carried placed cycle) found ≡ Some (record { release = release; place = place })
           → Carries sent place release
-      by_slot None here same = absurd (none-some _ same)
-      by_slot (Some slot) here same = by_test slot (is_polled streams slot) here same
+      by_slot found here same = grind (arith, none-some, by_test)
 
   made : (sent : TimedFrame) (slot place release : ℕ) → slot_sent sent.frame ≡ Some slot → is_polled streams slot ≡ true → release_in placed slot cycle ≡ Some release
       → carried slot release ≡ Some place → ride_of_frame sent ≡ Some (record { release = release; place = place })
@@ -165,25 +113,15 @@ none-noted : (fates : List Fate) (place release : ℕ) → AllWait fates → tak
 none-noted fates place release all is = by_found (slice_get fates place) refl is
   where
     by_found : (found : Option Fate) → slice_get fates place ≡ found → option_and_then release_noted found ≡ Some release → ⊥
-    by_found None at same = none-some release same
-    by_found (Some fate) at same = none-some release (ap release_noted (read-waits fates place fate all at) ∙ same)
+    by_found found at same = grind (arith, none-some, read-waits)
 
 pub fresh_ridden : (slot : ℕ) (carried : ℕ → Option ℕ) (queued : Queued) (latest : List (Option Ride)) (fates : List Fate)
     → HasTaken queued.streams slot carried 0 (get_or queued.next slot 0) → AllWait fates → get_or latest slot None ≡ None
     → HasRidden slot carried 0 (record { queued = queued; latest = latest; fates = fates })
-fresh_ridden slot carried queued latest fates taken all none = record {
-  taken = taken;
-  noted = λ place release took before. absurd (omega (arith, before));
-  only = λ place release is. absurd (none-noted fates place release all is.noted);
-  latest = rw none tt;
-  none_later = λ place release took before. absurd (omega (arith, before));
-}
+fresh_ridden slot carried queued latest fates taken all none = grind (arith, none-noted)
 
 pub fresh_fates : (streams : List Stream) (carried : ℕ → ℕ → Option ℕ) (fates : List Fate) → AllWait fates → AreFates streams [] carried fates
-fresh_fates streams carried fates all = record {
-  sent = λ place release cycle is. absurd (none-some release (ap release_noted (read-waits fates place (Sent release cycle) all is)));
-  all = λ place release cycle ridden. absurd (omega (arith, ridden.opened.1));
-}
+fresh_fates streams carried fates all = grind (arith, none-some, read-waits)
 
 -- a request that an instance takes is one of its slot
 pub of_ride : (layout_cycle : ℕ) (streams : List Stream) (slot : ℕ) (lengths carried : ℕ → Option ℕ) → IsRide layout_cycle streams slot lengths carried
@@ -201,8 +139,7 @@ polled_by (one ∷ streams) zero stream at = rw (eq-eqb one.slot stream.slot (ap
 polled_by (one ∷ streams) (suc place) stream at = by_test (one.slot == stream.slot) (polled_by streams place stream at)
   where
     by_test : (test : Bool) → is_polled streams stream.slot ≡ true → (test || is_polled streams stream.slot) ≡ true
-    by_test true later = refl
-    by_test false later = later
+    by_test test later = grind arith
 
 -- the fates after one more cycle
 pub fates_more : (streams : List Stream) (openings : List Opening) (opening : Opening) (carried : ℕ → ℕ → Option ℕ) (old middle : List Fate) (frames : List TimedFrame)
@@ -243,16 +180,7 @@ fates_more streams openings opening carried old middle frames same each of_slot 
   ];
   all = λ place release cycle ridden. elim (Contains-append_cases openings (opening ∷ []) ridden.opening ridden.opened) [
     | inl before ↦
-        let it = fates.all place release cycle (record {
-          stream = ridden.stream;
-          at = ridden.at;
-          opening = ridden.opening;
-          opened = before;
-          in_cycle = ridden.in_cycle;
-          flagged = ridden.flagged;
-          released = ridden.released;
-          took = ridden.took;
-        }) in
+        let it = fates.all place release cycle (grind arith) in
         all-keeps streams carried opening.placed opening.cycle frames middle place (record { release = it.release; cycle = it.cycle; is = (same place it.release it.cycle).1 it.is })
     | inr here ↦ elim (Contains-cases opening [] ridden.opening here) [
       | inl eq ↦

@@ -25,24 +25,9 @@ record IsCount (slot : ℕ) (streams : List Stream) (count : ℕ) : Type 0 where
 
 count-more : (slot : ℕ) (first : Stream) (streams : List Stream) (count : ℕ) (test : Bool) → (first.slot == slot) ≡ test → IsCount slot streams count
     → IsCount slot (first ∷ streams) (cond test 0 (suc count))
-count-more slot first streams count true is later =
-    let same : first.slot ≡ slot = grind (arith, nat_tests) in
-    record {
-      few = omega arith;
-      stands = λ stream at. ap (λ (s : Stream). s.slot) (sym (same_Some _ _ at)) ∙ same;
-      none = λ k stream before at. absurd (omega (arith, before));
-    }
+count-more slot first streams count true is later = grind (arith, nat_tests, same_Some)
 count-more slot first streams count false is later =
-    let other : first.slot ≢ slot = grind (arith, nat_tests) in
-    record {
-      few = omega (arith, later.few);
-      stands = λ stream at. later.stands stream at;
-      none = none_at other;
-    }
-  where
-    none_at : first.slot ≢ slot → (k : ℕ) (stream : Stream) → k < suc count → slice_get (first ∷ streams) k ≡ Some stream → stream.slot ≢ slot
-    none_at other zero stream before at same = other (ap (λ (s : Stream). s.slot) (same_Some _ _ at) ∙ same)
-    none_at other (suc k) stream before at same = later.none k stream (omega (arith, before)) at same
+    grind arith
 
 counted : (slot : ℕ) (streams : List Stream) → IsCount slot streams (before_first slot streams)
 counted slot [] = record { few = omega arith; stands = λ stream at. absurd (none-some stream at); none = λ k stream before at. absurd (omega (arith, before)) }
@@ -87,15 +72,7 @@ first-one streams slot from one other first second =
 
 -- a request of the slot is the first from its place on
 pub first-here : (streams : List Stream) (slot place : ℕ) → IsOfSlot streams slot place → first_from streams slot place ≡ place
-first-here streams slot place here =
-    let inside = slice_get_within streams place here.stream here.at in
-    first-one streams slot place (first_from streams slot place) place (first-is streams slot place (omega (arith, inside)))
-    (record {
-      from_on = omega arith;
-      within = omega (arith, inside);
-      stands = λ stream at. ap (λ (s : Stream). s.slot) (same_Some _ _ (sym at ∙ here.at)) ∙ here.its_slot;
-      none = λ k above below of_slot. absurd (omega (arith, above, below));
-    })
+first-here streams slot place here = grind (arith, slice_get_within, first-one, first-is, same_Some)
 
 -- behind a request of another slot stands the same as from it on
 pub first-next : (streams : List Stream) (slot place : ℕ) (stream : Stream) → slice_get streams place ≡ Some stream → stream.slot ≢ slot
@@ -104,24 +81,11 @@ first-next streams slot place stream at other =
     let inside = slice_get_within streams place stream at in
     let next = first-is streams slot (place + 1) (omega (arith, inside)) in
     first-one streams slot place (first_from streams slot place) (first_from streams slot (place + 1)) (first-is streams slot place (omega (arith, inside)))
-    (record {
-      from_on = omega (arith, next.from_on);
-      within = next.within;
-      stands = next.stands;
-      none = λ k above below of_slot.
-          elim (cases_lt place k) [
-            | inl behind ↦ next.none k (omega (arith, behind)) below of_slot
-            | inr not ↦
-                let same : k ≡ place = omega (arith, above, not) in
-                other (ap (λ (s : Stream). s.slot) (same_Some _ _ (sym at ∙ ap (slice_get streams) (sym same) ∙ of_slot.at)) ∙ of_slot.its_slot)
-          ];
-    })
+    (grind (arith, cases_lt, same_Some))
 
 -- from the end on there is none
 pub first-end : (streams : List Stream) (slot : ℕ) → first_from streams slot (length streams) ≡ length streams
-first-end streams slot =
-    let first = first-is streams slot (length streams) (omega arith) in
-    omega (arith, first.from_on, first.within)
+first-end streams slot = grind (arith, first-is)
 
 -- the first from a place on is the first from its own place on
 pub first-again : (streams : List Stream) (slot from : ℕ) → from ≤ length streams → first_from streams slot (first_from streams slot from) ≡ first_from streams slot from

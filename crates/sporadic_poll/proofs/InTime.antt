@@ -1,5 +1,5 @@
 -- How long a request waits for an instance.
-use Rattle.std.proofs.Common.{◌≡◌, inl, inr, ℕ, zero, suc, ◌+◌, ◌*◌, ◌<◌, List, Option, Some, sym, ◌∙◌, arith}
+use Rattle.std.proofs.Common.{◌≡◌, inl, inr, ℕ, zero, suc, ◌+◌, ◌*◌, ◌<◌, List, Option, Some, arith}
 use Rattle.std.proofs.lemmas.Bool.{cases_lt}
 use Rattle.std.proofs.lemmas.Option.{same_Some}
 use Rattle.std.proofs.Math.Nat.{div-lt_iff_lt-mul}
@@ -28,9 +28,7 @@ module _ (layout_cycle : ℕ) (streams : List Stream) (slot : ℕ) (lengths carr
   behind_arrival : (place release : ℕ) (request : Stream) → 0 < layout_cycle → slice_get streams place ≡ Some request → carried release ≡ Some place → arrival_cycle layout_cycle request < release
   behind_arrival place release request some at took =
       let takes = (by_instance layout_cycle streams slot lengths carried ride release place took).1 in
-      let same : takes.stream ≡ request = same_Some _ _ (sym takes.at ∙ at) in
-      let arrived : request.at < release * layout_cycle = rw (← same) takes.can.arrived in
-      (div-lt_iff_lt-mul some).1 arrived
+      grind (arith, same_Some, div-lt_iff_lt-mul)
 
   -- by strong induction on the place: `most` is a bound of it
   in_time_below : (most place : ℕ) (request : Stream) → place < most → IsPolled layout_cycle streams slot lengths period entry_length place request

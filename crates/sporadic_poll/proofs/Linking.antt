@@ -1,6 +1,5 @@
 -- Links between requests of one slot, made from the last request to the first.
-use Rattle.std.proofs.Common.{◌≡◌, inl, inr, ℕ, ◌+◌, ◌-◌, ◌<◌, ◌≤◌, List, length, get_or, set, Some, All, refl, sym, ap, ◌∙◌, arith}
-use Rattle.std.proofs.lemmas.Bool.{cases_eq}
+use Rattle.std.proofs.Common.{◌≡◌, ℕ, ◌+◌, ◌-◌, ◌<◌, ◌≤◌, List, length, get_or, set, Some, All, refl, sym, ap, ◌∙◌, arith}
 use Rattle.std.proofs.lemmas.List.{get_or-set_other, get_or-set_same, get_or_default, length-set}
 use Rattle.std.proofs.lemmas.List.Elements.{All-get_or}
 use Rattle.std.proofs.lemmas.Option.{same_Some, slice_get_read, slice_get_within}
@@ -21,54 +20,19 @@ pub record IsLinking (slots : ℕ) (streams : List Stream) (later next : List �
 -- none is linked before the last one is
 pub none_linked : (slots : ℕ) (streams : List Stream) (later next : List ℕ) → length later ≡ length streams → length next ≡ slots
     → ((slot : ℕ) → slot < slots → get_or next slot 0 ≡ length streams) → IsLinking slots streams later next (length streams)
-none_linked slots streams later next all_later all_slots none =
-    record {
-      all_later = all_later;
-      all_slots = all_slots;
-      links = λ place stream past at. absurd (omega (arith, past, slice_get_within streams place stream at));
-      heads = λ slot known. none slot known ∙ sym (first-end streams slot);
-    }
+none_linked slots streams later next all_later all_slots none = grind (arith, slice_get_within, first-end)
 
 -- the request before those that are linked
 pub one_linked : (slots : ℕ) (streams : List Stream) (later next : List ℕ) (place : ℕ) (stream : Stream) → IsLinking slots streams later next (place + 1)
     → slice_get streams place ≡ Some stream → stream.slot < slots
     → IsLinking slots streams (set later place (get_or next stream.slot 0)) (set next stream.slot place) place
 one_linked slots streams later next place stream linking at known =
-    let inside = slice_get_within streams place stream at in
-    record {
-      all_later = length-set later place (get_or next stream.slot 0) ∙ linking.all_later;
-      all_slots = length-set next stream.slot place ∙ linking.all_slots;
-      links = λ other it from found.
-          elim (cases_eq other place) [
-            | inl same ↦
-                let its : stream ≡ it = same_Some _ _ (sym at ∙ ap (slice_get streams) (sym same) ∙ found) in
-                rw (same, ← its) (get_or-set_same later place (get_or next stream.slot 0) 0 (omega (arith, inside, linking.all_later)) ∙ linking.heads stream.slot known)
-            | inr apart ↦
-                get_or-set_other later place other (get_or next stream.slot 0) 0 apart ∙ linking.links other it (omega (arith, from, apart)) found
-          ];
-      heads = λ slot below.
-          elim (cases_eq slot stream.slot) [
-            | inl same ↦
-                rw same (get_or-set_same next stream.slot place 0 (omega (arith, known, linking.all_slots))
-                ∙ sym (first-here streams stream.slot place (record { stream = stream; at = at; its_slot = refl })))
-            | inr apart ↦
-                get_or-set_other next stream.slot slot place 0 apart ∙ linking.heads slot below
-                ∙ sym (first-next streams slot place stream at (λ same. apart (sym same)))
-          ];
-    }
+    grind (arith, slice_get_within, length-set, same_Some, get_or-set_same, get_or-set_other, first-here, first-next)
 
 -- all are linked
 pub all_linked : (slots : ℕ) (streams : List Stream) (later next : List ℕ) → All (λ stream. stream.slot < slots) streams → IsLinking slots streams later next 0
     → AreLinked slots streams later next
-all_linked slots streams later next known linking =
-    record {
-      all_later = linking.all_later;
-      all_slots = linking.all_slots;
-      known = known;
-      links = λ place stream at. linking.links place stream (omega arith) at;
-      heads = λ slot below. ap (first_from streams slot) (linking.heads slot below) ∙ first-again streams slot 0 (omega arith) ∙ sym (linking.heads slot below);
-      inside = λ slot below. rw (linking.heads slot below) ((first-is streams slot 0 (omega arith)).within);
-    }
+all_linked slots streams later next known linking = grind (arith, first-again, first-is)
 
 -- a slot whose next request is taken
 pub next_linked : (slots : ℕ) (streams : List Stream) (later next : List ℕ) (slot : ℕ) (stream : Stream) → AreLinked slots streams later next → slot < slots
@@ -78,24 +42,7 @@ next_linked slots streams later next slot stream linked known at its_slot =
     let place = get_or next slot 0 in
     let inside = slice_get_within streams place stream at in
     let link : get_or later place 0 ≡ first_from streams slot (place + 1) = rw its_slot at (linked.links place stream at) in
-    let first = first-is streams slot (place + 1) (omega (arith, inside)) in
-    let here = get_or-set_same next slot (get_or later place 0) 0 (omega (arith, known, linked.all_slots)) in
-    record {
-      all_later = linked.all_later;
-      all_slots = length-set next slot (get_or later place 0) ∙ linked.all_slots;
-      known = linked.known;
-      links = linked.links;
-      heads = λ other below.
-          elim (cases_eq other slot) [
-            | inl same ↦ rw (same, here, link) (first-again streams slot (place + 1) (omega (arith, inside)))
-            | inr apart ↦ rw (get_or-set_other next slot other (get_or later place 0) 0 apart) (linked.heads other below)
-          ];
-      inside = λ other below.
-          elim (cases_eq other slot) [
-            | inl same ↦ rw (same, here, link) first.within
-            | inr apart ↦ rw (get_or-set_other next slot other (get_or later place 0) 0 apart) (linked.inside other below)
-          ];
-    }
+    grind (arith, first-is, get_or-set_same, length-set, first-again, get_or-set_other)
 
 -- the same, by the places that are read and written
 pub set_linked : (slots : ℕ) (streams : List Stream) (later next : List ℕ) (left place slot value : ℕ) (stream : Stream) → All (λ stream. stream.slot < slots) streams → IsLinking slots streams later next left
@@ -125,13 +72,7 @@ module _ (streams : List Stream) (later next : List ℕ) (slot place from after 
   after_is = read_at later place place after read refl (omega (arith, inside, linked.all_later))
 
   pub taken_linked : AreLinked (length (set next from after)) streams later (set next from after)
-  taken_linked =
-      let long = length-set next from after in
-      let at : slice_get streams (get_or next slot 0) ≡ Some there.stream = ap (slice_get streams) (sym here) ∙ there.at in
-      let all = next_linked (length next) streams later next slot there.stream linked known at there.its_slot in
-      rw (long, same, after_is, here) all
+  taken_linked = grind (arith, length-set, there, next_linked, after_is)
 
   pub next_is : get_or (set next from after) slot 0 ≡ first_from streams slot (place + 1)
-  next_is =
-      rw (same, get_or-set_same next slot after 0 known, after_is, linked.links place there.stream there.at)
-      (ap (λ s. first_from streams s (place + 1)) there.its_slot)
+  next_is = grind (arith, get_or-set_same, after_is, there)

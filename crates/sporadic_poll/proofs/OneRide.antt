@@ -1,5 +1,5 @@
 -- There is one ride, and what it keeps.
-use Rattle.std.proofs.Common.{◌≡◌, inl, inr, ℕ, zero, suc, ◌+◌, ◌*◌, ◌<◌, List, length, Option, Some, None, refl, sym, ap, ◌∙◌, arith}
+use Rattle.std.proofs.Common.{◌≡◌, ℕ, zero, suc, ◌+◌, ◌*◌, ◌<◌, List, length, Option, Some, None, refl, sym, ap, ◌∙◌, arith}
 use Rattle.std.proofs.lemmas.Bool.{cases_order}
 use Rattle.std.proofs.lemmas.Option.{none-some, same_Some, slice_get_within}
 use Rattle.std.specs.List.{slice_get}
@@ -19,9 +19,7 @@ module _ (layout_cycle : ℕ) (streams : List Stream) (slot : ℕ) (lengths : �
   taken_in cycle next place took = by_length (lengths cycle) refl
     where
       by_length : (released : Option ℕ) → lengths cycle ≡ released → TakenIn cycle next place
-      by_length None none = absurd (none-some place (rw none at took))
-      by_length (Some entry_length) is =
-          record { entry_length = entry_length; released = is; carries = from_shape streams (cycle * layout_cycle) entry_length next place (rw is at took) }
+      by_length released none = grind (arith, none-some, from_shape)
 
   is_inside : (cycle next place : ℕ) → taken_at layout_cycle streams lengths cycle next ≡ Some place → (place ≡ next) × (next < length streams)
   is_inside cycle next place took =
@@ -87,32 +85,19 @@ module _ (layout_cycle : ℕ) (streams : List Stream) (slot : ℕ) (lengths : �
         by_length (Some entry_length) is = (entry_length, (ride.each cycle entry_length place is).0 took)
 
     not_again : (one other place : ℕ) → carried one ≡ Some place → carried other ≡ Some place → one < other → ⊥
-    not_again one other place took again before =
-        (by_instance other place again).1.first.left (record { release = one; earlier = before; took = took })
+    not_again one other place took again before = grind (arith, by_instance)
 
     pub once : (one other place : ℕ) → carried one ≡ Some place → carried other ≡ Some place → one ≡ other
-    once one other place took again =
-        elim (cases_order one other) [
-          | inl same ↦ same
-          | inr (inl less) ↦ absurd (not_again one other place took again less)
-          | inr (inr more) ↦ absurd (not_again other one place again took more)
-        ]
+    once one other place took again = grind (arith, cases_order, not_again)
 
     pub can : (cycle entry_length place : ℕ) (stream : Stream) → lengths cycle ≡ Some entry_length → carried cycle ≡ Some place → slice_get streams place ≡ Some stream
         → (stream.slot ≡ slot) × CanCarry (cycle * layout_cycle) entry_length stream
     can cycle entry_length place stream released took at =
         let takes = (ride.each cycle entry_length place released).0 took in
-        let same : takes.stream ≡ stream = same_Some _ _ (sym takes.at ∙ at) in
-        let of_slot = takes.first.of_slot in
-        let it : of_slot.stream ≡ stream = same_Some _ _ (sym of_slot.at ∙ at) in
-        (ap (λ (s : Stream). s.slot) (sym it) ∙ of_slot.its_slot, rw (← same) takes.can)
+        grind (arith, same_Some)
 
     pub none_left : (cycle before behind : ℕ) → carried cycle ≡ Some behind → before < behind → IsOfSlot streams slot before → IsTakenBefore carried cycle before
     none_left cycle before behind took less of_slot = (by_instance cycle behind took).1.first.first before less of_slot
 
     pub in_order : (one other before behind : ℕ) → carried one ≡ Some before → carried other ≡ Some behind → before < behind → one < other
-    in_order one other before behind took next less =
-        let of_slot = (by_instance one before took).1.first.of_slot in
-        let earlier = none_left other before behind next less of_slot in
-        let same = once earlier.release one before earlier.took took in
-        omega (arith, earlier.earlier, same)
+    in_order one other before behind took next less = grind (arith, by_instance, none_left, once)

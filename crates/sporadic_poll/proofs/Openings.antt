@@ -1,5 +1,5 @@
 -- *Ride* over openings, one by one.
-use Rattle.std.proofs.Common.{◌≡◌, ◌≢◌, inl, inr, ℕ, zero, suc, ◌==◌, Bool, true, false, List, [], ◌∷◌, Contains, find, Option, Some, option_and_then, refl, sym, ap, ◌∙◌, ◌⊎◌, arith}
+use Rattle.std.proofs.Common.{◌≡◌, ◌≢◌, ℕ, zero, suc, ◌==◌, Bool, false, List, [], ◌∷◌, Contains, find, Option, Some, option_and_then, refl, sym, ap, ◌∙◌, ◌⊎◌, arith}
 use Rattle.std.proofs.lemmas.Bool.{eq-eqb, ne_eqb}
 use Rattle.requirement_table.specs.Opening.{Opening}
 use Rattle.cycle_engine.specs.Offered.{AreOfDistinctCycles}
@@ -10,12 +10,7 @@ use Rattle.sporadic_poll.specs.Rides.{AreRidesAt}
 
 -- an element of a list is its first one or one of the others
 pub Contains-cases : {X : Type 0} (x : X) (xs : List X) (y : X) → Contains (x ∷ xs) y → (x ≡ y) ⊎ Contains xs y
-Contains-cases x xs y (zero, within, is) = inl is
-Contains-cases x xs y (suc k, within, is) = inr (k, omega arith, is)
-
--- what is found where the first one passes the test, and where it doesn't
-find-here : (one : Opening) (openings : List Opening) (test : Opening → Bool) → test one ≡ true → find test (one ∷ openings) ≡ Some one
-find-here one openings test is = rw is refl
+Contains-cases x xs y h0 = grind arith
 
 find-later : (one : Opening) (openings : List Opening) (test : Opening → Bool) → test one ≡ false → find test (one ∷ openings) ≡ find test openings
 find-later one openings test is = rw is refl
@@ -24,8 +19,7 @@ find-later one openings test is = rw is refl
 found : (openings : List Opening) (opening : Opening) → AreOfDistinctCycles openings → Contains openings opening
     → find (λ other. other.cycle == opening.cycle) openings ≡ Some opening
 found [] opening distinct (k, within, is) = absurd (omega (arith, within))
-found (one ∷ openings) opening distinct (zero, within, is) =
-    find-here one openings (λ other. other.cycle == opening.cycle) (eq-eqb one.cycle opening.cycle (ap (λ (o : Opening). o.cycle) is)) ∙ ap Some is
+found (one ∷ openings) opening distinct (zero, within, is) = grind (arith, eq-eqb)
 found (one ∷ openings) opening distinct (suc k, within, is) =
     let apart : one.cycle ≢ opening.cycle = λ same. distinct 0 (suc k) opening (omega arith) within (same ∙ ap (λ (o : Opening). o.cycle) (sym is)) in
     find-later one openings (λ other. other.cycle == opening.cycle) (ne_eqb one.cycle opening.cycle apart)

@@ -1,7 +1,7 @@
 -- A cycle of nodes with polled slots, by the cycle that the nodes run without requests.
-use Rattle.std.proofs.Common.{◌≡◌, ℕ, ◌+◌, ◌*◌, ◌<◌, ◌≤◌, true, List, [], ◌∷◌, ◌++◌, All, Option, Some, None, IsSome, is_some, refl, sym, ap, subst, ◌∙◌, arith}
+use Rattle.std.proofs.Common.{◌≡◌, ℕ, ◌+◌, ◌*◌, ◌<◌, ◌≤◌, true, List, [], ◌∷◌, ◌++◌, All, Option, Some, IsSome, is_some, sym, subst, arith}
 use Rattle.std.proofs.Math.Nat.{add-mul}
-use Rattle.std.proofs.lemmas.List.Elements.{All-append, All-cons, All-contains}
+use Rattle.std.proofs.lemmas.List.Elements.{All-append, All-cons}
 use Rattle.can_frame.specs.declared.data_frame.TimedFrame.{TimedFrame}
 use Rattle.cycle_layout.specs.Layout.{CycleLayout}
 use Rattle.requirement_table.specs.declared.entries.Order.{Order}
@@ -11,7 +11,6 @@ use Rattle.requirement_table.specs.Opening.{Opening}
 use Rattle.requirement_table.specs.Table.{instance_in}
 use Rattle.bus_line.specs.Trace.{Follows, Offers}
 use Rattle.node_model.specs.Node.{NodeState}
-use Rattle.node_model.specs.Own.{StandsOnBus}
 use Rattle.node_model.proofs.Shared.{instance-of_all}
 use Rattle.cycle_engine.specs.Cycle.{FitsWindow}
 use Rattle.cycle_engine.specs.Nodes.{IsBefore, IsBus, IsSlotKnown, heard_by, learnt_by, opening_of, states_of}
@@ -22,17 +21,12 @@ use Rattle.cycle_engine.specs.Joint.{known_by}
 use Rattle.sporadic_poll.specs.Rides.{AreFates, AreRidesAt, HaveRidden, IsPlainCycle, Riding}
 
 some-of : (o : Option Instance) → is_some o ≡ true → (i : Instance) × (o ≡ Some i)
-some-of (Some i) is = (i, refl)
-some-of None is = absurd (cc)
+some-of o is = grind arith
 
 -- an instance that a node knows is one of the list
 known-found : (layout : CycleLayout) (placed : List Placed) (past : List TimedFrame) (next slot : ℕ) (nodes : List NodeState)
     → IsBus layout [] [] placed past next nodes → IsSlotKnown nodes next slot → IsSome (instance_in placed slot next)
-known-found layout placed past next slot nodes bus (k, node, within, same, known) =
-    let stands = All-contains (StandsOnBus layout [] [] placed past next) nodes node bus.stand (k, within, same) in
-    let found = some-of (instance_in node.entries slot next) known in
-    let own = ap (λ entries. instance_in entries slot next) (sym stands.own_entries) ∙ found.1 in
-    ap is_some (instance-of_all node.number placed slot next found.0 bus.well_placed own).0
+known-found layout placed past next slot nodes bus h1 = grind (arith, some-of, is_some, instance-of_all)
 
 -- the flagged slots of an order fit into the largest window
 pub fits-window : (layout : CycleLayout) (placed : List Placed) (past : List TimedFrame) (order : Order) (nodes : List NodeState) → order.l ≤ layout.window

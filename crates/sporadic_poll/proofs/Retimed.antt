@@ -1,6 +1,6 @@
 -- Frames of slots with other bytes, timed anew. Arbitration decides them where it decided the frames before, since in the
 -- synchronous window nothing is newly offered: which slot is sent next is a matter of what was sent before alone.
-use Rattle.std.proofs.Common.{◌≡◌, inl, inr, ℕ, ◌+◌, ◌<◌, ◌≤◌, true, List, [], ◌∷◌, ◌++◌, All, Contains, length, map, Option, Some, None, option_map, append_assoc, append-nil, refl, sym, ap, subst, ◌∙◌, arith}
+use Rattle.std.proofs.Common.{◌≡◌, inl, inr, ℕ, ◌+◌, ◌<◌, ◌≤◌, true, List, [], ◌∷◌, ◌++◌, All, Contains, map, Option, Some, None, option_map, append_assoc, append-nil, refl, sym, subst, ◌∙◌, arith}
 use Rattle.std.specs.Prelude.{◌↔◌}
 use Rattle.std.proofs.Math.Nat.{add-mul}
 use Rattle.std.proofs.Math.Seq.{drop-nil}
@@ -20,7 +20,6 @@ use Rattle.requirement_table.specs.Table.{instance_in}
 use Rattle.trigger_kind.specs.Kind.{greatest_trigger}
 use Rattle.trigger_codec.specs.Bytes.{triggers_with}
 use Rattle.trigger_codec.proofs.Shared.{low_ids}
-use Rattle.async_window.specs.Waiting.{frames_with, unsent_after}
 use Rattle.bus_line.specs.Trace.{Follows, IsLeastOffered, IsNext, NothingOffered, end_of}
 use Rattle.node_model.specs.Opening.{end_of_cycle, start_of, window_start}
 use Rattle.node_model.specs.Offered.{HasNotStarted, IsUnsent, OffersRequest, OffersSlot, OffersTrigger, bytes_sent}
@@ -35,10 +34,7 @@ low slots cycle l mask frame has = All-contains (λ f. f.identifier ≤ greatest
 
 -- where there are no requests, none is offered
 pub no_request : (layout : CycleLayout) (opening : Opening) (past : List TimedFrame) (at : ℕ) (frame : DataFrame) → OffersRequest layout [] opening past at frame → ⊥
-no_request layout opening past at frame offers =
-    let inside = slice_get_within (unsent_after [] past frame.identifier) 0 offers.request offers.may_start.waiting.first in
-    let none : length (unsent_after [] past frame.identifier) ≡ 0 = ap length (drop-nil (frames_with past frame.identifier)) in
-    omega (arith, inside, none)
+no_request layout opening past at frame offers = grind (arith, slice_get_within, drop-nil)
 
 -- a frame is offered with an identifier
 pub record IsOfferedAs (layout : CycleLayout) (opening : Opening) (past : List TimedFrame) (at identifier : ℕ) : Type 0 where
@@ -129,15 +125,11 @@ module _ (layout : CycleLayout) (opening : Opening) (sends : Instance → List �
   -- in the window only slots are offered
   in_window : (past : List TimedFrame) (at : ℕ) (frame : DataFrame) → window_start layout opening ≤ at → offered_in sends layout [] opening past at frame
       → (slot : ℕ) × OffersSlot sends layout opening past at frame slot
-  in_window past at frame from (inl trigger) = absurd (omega (arith, late, from, trigger.within))
-  in_window past at frame from (inr (inl request)) = absurd (no_request layout opening past at frame request)
-  in_window past at frame from (inr (inr offers)) = offers
+  in_window past at frame from h1 = grind (arith, late, no_request)
 
   in_window_plain : (past : List TimedFrame) (at : ℕ) (frame : DataFrame) → window_start layout opening ≤ at → offered_in bytes_of layout [] opening past at frame
       → (slot : ℕ) × OffersSlot bytes_of layout opening past at frame slot
-  in_window_plain past at frame from (inl trigger) = absurd (omega (arith, late, from, trigger.within))
-  in_window_plain past at frame from (inr (inl request)) = absurd (no_request layout opening past at frame request)
-  in_window_plain past at frame from (inr (inr offers)) = offers
+  in_window_plain past at frame from h1 = grind (arith, late, no_request)
 
   -- once all were sent nothing is offered in the window
   none_left : (past others : List TimedFrame) (low high : ℕ) → AreAlike past others → AllSent past → window_start layout opening ≤ low
@@ -214,16 +206,7 @@ module _ (layout : CycleLayout) (opening : Opening) (sends : Instance → List �
           (alike-more past others sent new (sym one.1) after since alike)
           (subst AllSent (sym (append_assoc past (sent ∷ []) later)) all)
           (omega (arith, start)) (omega (arith, after)) (omega (arith, from)) (omega (arith, since)) follows in
-          rw (lt-ltb at (end_of_cycle layout opening) within) (
-            record {
-              when_free = omega arith;
-              within = within;
-              first = λ time frame low high. absurd (omega (arith, low, high));
-              least = one.0;
-              whole = refl;
-            },
-            rest,
-          )
+          rw (lt-ltb at (end_of_cycle layout opening) within) (grind (arith, low))
       | inr past_end ↦
           rw (le-ltb at (end_of_cycle layout opening) past_end) (λ time frame low high. absurd (omega (arith, low, high, past_end)))
     ]

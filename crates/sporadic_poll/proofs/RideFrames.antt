@@ -1,5 +1,5 @@
 -- A request that was sent has its frame in the trace.
-use Rattle.std.proofs.Common.{◌≡◌, ℕ, ◌+◌, ◌<◌, ◌≤◌, ◌==◌, true, false, if◌then◌else◌, List, [], ◌∷◌, ◌++◌, All, Contains, length, get_or, map, nat_lt, Option, Some, None, IfSome, option_map, option_and_then, refl, sym, ap, subst, ◌∙◌, arith}
+use Rattle.std.proofs.Common.{◌≡◌, ℕ, ◌+◌, ◌<◌, ◌≤◌, ◌==◌, true, false, if◌then◌else◌, List, [], ◌∷◌, ◌++◌, All, Contains, length, map, nat_lt, Option, Some, IfSome, option_map, option_and_then, refl, sym, ap, subst, ◌∙◌, arith}
 use Rattle.std.specs.List.{slice_get}
 use Rattle.std.proofs.lemmas.Bool.{lt-ltb, ne_eqb}
 use Rattle.std.proofs.lemmas.List.{get_or_default}
@@ -10,16 +10,15 @@ use Rattle.can_frame.specs.DataFrame.{DataFrame}
 use Rattle.can_frame.specs.declared.data_frame.TimedFrame.{TimedFrame}
 use Rattle.trigger_kind.specs.Kind.{greatest_trigger}
 use Rattle.cycle_layout.specs.Layout.{CycleLayout}
-use Rattle.requirement_table.specs.Instance.{Instance, MaySend, bytes_of, release_of}
-use Rattle.requirement_table.specs.Opening.{Opening, width_of}
+use Rattle.requirement_table.specs.Instance.{Instance, MaySend, release_of}
+use Rattle.requirement_table.specs.Opening.{Opening}
 use Rattle.bit_sets.specs.Sets.{most_slots}
 use Rattle.requirement_table.specs.Table.{instance_in}
 use Rattle.requirement_table.specs.declared.entries.Placed.{Placed}
 use Rattle.requirement_table.proofs.Shared.{instance_in-sound}
-use Rattle.node_model.specs.Offered.{trigger_frames}
 use Rattle.cycle_engine.specs.Cycle.{RunsCycle, RunsCycles, frames_in, of_slot}
 use Rattle.sporadic_poll.specs.declared.stream.Stream.{Stream}
-use Rattle.sporadic_poll.specs.Polled.{AreRides, is_polled, lengths_of, payload_at, payload_of, payload_taken, polled_bytes}
+use Rattle.sporadic_poll.specs.Polled.{AreRides, is_polled, lengths_of, polled_bytes}
 use Rattle.sporadic_poll.specs.Ride.{bytes_with}
 use Rattle.sporadic_poll.specs.Rides.{IsRidden, release_in}
 use Rattle.sporadic_poll.specs.RideFrames.{HasRideFrame, KeepLengths}
@@ -39,13 +38,7 @@ none-of_slot slot (sent ∷ frames) later all =
 -- so the frames of a slot in a cycle are those behind the trigger
 slots-behind : (sends : Instance → List ℕ) (layout : CycleLayout) (opening : Opening) (frames : List TimedFrame) (slot : ℕ)
     (runs : RunsCycle sends layout opening frames) → of_slot slot frames ≡ of_slot slot runs.later
-slots-behind sends layout opening frames slot runs =
-    let triggers : List TimedFrame = runs.trigger ∷ runs.second in
-    let are : All (λ frame. frame.identifier ≤ greatest_trigger) (trigger_frames layout opening) = λ k d within.
-    low layout.slots opening.cycle (width_of opening) opening.mask (get_or (trigger_frames layout opening) k d)
-    (k, within, get_or_default (trigger_frames layout opening) k (get_or (trigger_frames layout opening) k d) d within) in
-    ap (of_slot slot) runs.all_frames
-    ∙ none-of_slot slot triggers runs.later (subst (All (λ (frame : DataFrame). frame.identifier ≤ greatest_trigger)) (sym runs.are_triggers) are)
+slots-behind sends layout opening frames slot runs = grind (arith, low, get_or_default, none-of_slot)
 
 -- an instance that sends something is there, and it is the one that was released in the cycle
 record IsSender (sends : Instance → List ℕ) (placed : List Placed) (slot cycle release : ℕ) (bytes : List ℕ) : Type 0 where
@@ -65,29 +58,14 @@ sender sends placed slot cycle release bytes sent released =
         → option_map (λ i. release_of i.placed i.number) found ≡ Some release
         → IfSome found (λ i. Contains placed i.placed × (i.placed.entry.slot ≡ slot) × MaySend i.placed i.number cycle)
         → IsSender sends placed slot cycle release bytes
-    by_found None at sent released sound = absurd (none-some bytes sent)
-    by_found (Some i) at sent released sound = record {
-      instance = i;
-      found = at;
-      of_slot = sound.1;
-      released = same_Some _ _ released;
-      sent = same_Some _ _ sent;
-    }
+    by_found found at sent released sound = grind (arith, none-some, same_Some)
 
 -- the bytes of an instance of a polled slot that took a request for which there is room
 carried-bytes : (streams : List Stream) (carried : ℕ → ℕ → Option ℕ) (i : Instance) (place : ℕ) (request : Stream)
     → is_polled streams i.placed.entry.slot ≡ true → carried i.placed.entry.slot (release_of i.placed i.number) ≡ Some place
     → slice_get streams place ≡ Some request → length request.payload < i.placed.entry.length
     → polled_bytes streams carried i ≡ bytes_with i.placed.entry.length (Some request.payload)
-carried-bytes streams carried i place request polled took at room =
-    let n : ℕ = i.placed.entry.length in
-    let test : nat_lt (length request.payload) n ≡ true = lt-ltb (length request.payload) n room in
-    let taken : payload_taken streams carried i ≡ Some request.payload =
-    ap (option_and_then (payload_at streams n)) took
-    ∙ ap (option_and_then (payload_of n)) at
-    ∙ ap (λ b. if b then Some request.payload else None) test in
-    ap (λ b. if b then bytes_with n (payload_taken streams carried i) else bytes_of i) polled
-    ∙ ap (bytes_with n) taken
+carried-bytes streams carried i place request polled took at room = grind (arith, nat_lt, lt-ltb, option_and_then)
 
 module _ (layout : CycleLayout) (streams : List Stream) (openings : List Opening) (carried : ℕ → ℕ → Option ℕ) (trace : List TimedFrame)
     (place release cycle : ℕ) (known : All (λ stream. stream.slot < most_slots) streams)
@@ -109,10 +87,7 @@ module _ (layout : CycleLayout) (streams : List Stream) (openings : List Opening
       (ap (release_in o.placed slot) is.in_cycle ∙ is.released) in
       let i : Instance = it.instance in
       let entry_length : ℕ = i.placed.entry.length in
-      let lengths : lengths_of openings slot release ≡ Some entry_length =
-      ap (lengths_of openings slot) (sym it.released)
-      ∙ All-contains (λ (x : Opening). (s : ℕ) (j : Instance) → instance_in x.placed s x.cycle ≡ Some j
-      → lengths_of openings s (release_of j.placed j.number) ≡ Some j.placed.entry.length) openings o keep is.opened slot i it.found in
+      let lengths : lengths_of openings slot release ≡ Some entry_length = grind arith in
       let takes = ((rides slot few).each release entry_length place lengths).0 is.took in
       let same : takes.stream ≡ is.stream = same_Some _ _ (sym takes.at ∙ is.at) in
       let room : length is.stream.payload < entry_length =

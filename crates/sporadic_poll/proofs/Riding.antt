@@ -27,8 +27,7 @@ read-set_other (y ∷ xs) (suc i) (suc j) x apart = read-set_other xs i j x (λ 
 
 -- a request is of one slot
 pub one_slot : (streams : List Stream) (slot other place : ℕ) → IsOfSlot streams slot place → IsOfSlot streams other place → slot ≡ other
-one_slot streams slot other place one two =
-    sym one.its_slot ∙ ap (λ (s : Stream). s.slot) (same_Some _ _ (sym one.at ∙ two.at)) ∙ two.its_slot
+one_slot streams slot other place one two = grind (arith, same_Some)
 
 -- what is noted after a request that was taken
 pub taken-same : (fates : List Fate) (place : ℕ) (fate : Fate) → place < length fates → taken_in (set fates place fate) place ≡ release_noted fate
@@ -44,13 +43,7 @@ module _ (slot : ℕ) (carried : ℕ → Option ℕ) (old new : Queued) (streams
       → HasTaken old.streams slot carried (cycle + 1) (get_or new.next slot 0) → carried cycle ≡ None
       → HasRidden slot carried (cycle + 1) (record { queued = new; latest = latest; fates = fates })
   takes_none cycle latest fates ridden taken none =
-      let earlier : (place release : ℕ) → carried release ≡ Some place → release < cycle + 1 → release < cycle =
-      λ place release took before. elim (cases_lt release cycle) [
-        | inl less ↦ less
-        | inr past ↦
-            let same : release ≡ cycle = omega (arith, past, before) in
-            absurd (none-some place (sym none ∙ ap carried (sym same) ∙ took))
-      ] in
+      let earlier : (place release : ℕ) → carried release ≡ Some place → release < cycle + 1 → release < cycle = grind (arith, cases_lt, none-some) in
       record {
         taken = rw streams taken;
         noted = λ place release took before.
@@ -119,9 +112,7 @@ pub takes_elsewhere : (slot since : ℕ) (carried : ℕ → Option ℕ) (old new
 takes_elsewhere slot since carried old new streams next latest fates ridden =
     record {
       taken = rw (streams, next) ridden.taken;
-      noted = λ place release took before.
-          let it = ridden.noted place release took before in
-          record { of_slot = rw streams it.of_slot; noted = fates place it.of_slot ∙ it.noted };
+      noted = grind arith;
       only = λ place release is.
           let of_slot : IsOfSlot old.queued.streams slot place = rw streams at is.of_slot in
           ridden.only place release (record { of_slot = of_slot; noted = sym (fates place of_slot) ∙ is.noted });

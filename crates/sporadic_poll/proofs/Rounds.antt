@@ -1,5 +1,5 @@
 -- Steps of the loops over slots and over frames.
-use Rattle.std.proofs.Common.{◌≡◌, inl, inr, ℕ, zero, suc, ◌+◌, ◌*◌, ◌<◌, ◌≤◌, List, [], ◌∷◌, ◌++◌, length, map, take, drop, fold, Option, Some, option_and_then, append_assoc, append-nil, refl, sym, ap, subst, ◌∙◌, arith}
+use Rattle.std.proofs.Common.{◌≡◌, inl, inr, ℕ, zero, suc, ◌+◌, ◌*◌, ◌<◌, ◌≤◌, List, [], ◌∷◌, ◌++◌, length, map, take, drop, Option, Some, option_and_then, append_assoc, append-nil, refl, sym, subst, ◌∙◌, arith}
 use Rattle.std.proofs.lemmas.Bool.{cases_eq, le-ltb, lt-ltb}
 use Rattle.std.proofs.lemmas.List.Sums.{fold-append}
 use Rattle.std.proofs.lemmas.Option.{none-some, same_Some}
@@ -9,7 +9,7 @@ use Rattle.can_frame.specs.Wire.{wire_length}
 use Rattle.can_frame.specs.declared.data_frame.TimedFrame.{TimedFrame}
 use Rattle.requirement_table.specs.declared.entries.Placed.{Placed}
 use Rattle.bit_sets.specs.Sets.{most_slots}
-use Rattle.cycle_engine.specs.SyncWindow.{back_to_back, sent_at}
+use Rattle.cycle_engine.specs.SyncWindow.{back_to_back}
 use Rattle.sporadic_poll.specs.declared.fate.Fate.{Fate}
 use Rattle.sporadic_poll.specs.declared.stream.Stream.{Stream}
 use Rattle.sporadic_poll.specs.Ride.{IsRide, length_released}
@@ -91,12 +91,7 @@ noting-more cycle placed frames old now new count sent more noting queued notes 
   noted_so_far = λ carried ridden.
       let so_far = noting.noted_so_far carried ridden in
       let one = notes carried so_far.0 in
-      let streams = old.queued.streams in (
-        one.0,
-        one.1 ∙ ap (λ q. noted cycle now.fates (option_and_then (ride_sent q.streams carried placed cycle) (slot_sent sent.frame))) noting.queued
-            ∙ ap (λ f. step_of streams carried placed cycle f sent) so_far.1
-            ∙ sym (fold-append (step_of streams carried placed cycle) old.fates (take count frames) (sent ∷ [])) ∙ ap (fold (step_of streams carried placed cycle) old.fates) (sym more),
-      );
+      let streams = old.queued.streams in (grind (arith, option_and_then, fold-append));
 }
 
 -- Frames that are sent
@@ -126,26 +121,17 @@ pub sending-more : (cycle : ℕ) (placed : List Placed) (riding : Riding) (frame
     → ((carried : ℕ → ℕ → Option ℕ) → HaveRidden carried (cycle + 1) riding → frame ≡ polled_frame riding.queued.streams carried placed cycle sent.frame)
     → IsSending cycle placed riding frames until old from now at count
     → IsSending cycle placed riding frames until old from (now ++ record { start = at; len = len; frame = frame } ∷ []) (at + len) (count + 1)
-sending-more cycle placed riding frames until old from now at count sent frame len next within long is sending carried ridden =
-    let rest = drop (count + 1) frames in
-    let here : back_to_back (map (polled_of riding carried placed cycle) (sent ∷ rest)) at until ≡ sent_at at frame ∷ back_to_back (map (polled_of riding carried placed cycle) rest) (at + wire_length frame) until =
-    rw (lt-ltb at until within, ← is carried ridden) refl in
-    let put : now ++ record { start = at; len = len; frame = frame } ∷ [] ++ back_to_back (map (polled_of riding carried placed cycle) rest) (at + len) until ≡ now ++ back_to_back (map (polled_of riding carried placed cycle) (sent ∷ rest)) at until =
-    rw long (append_assoc now (sent_at at frame ∷ []) (back_to_back (map (polled_of riding carried placed cycle) rest) (at + wire_length frame) until) ∙ ap (λ more. now ++ more) (sym here)) in
-    put ∙ ap (λ left. now ++ back_to_back (map (polled_of riding carried placed cycle) left) at until) (sym next) ∙ sending carried ridden
+sending-more cycle placed riding frames until old from now at count sent frame len h0 h1 h2 h3 h4 = grind (arith, lt-ltb, append_assoc)
 
 pub sending-past : (cycle : ℕ) (placed : List Placed) (riding : Riding) (frames : List TimedFrame) (until : ℕ) (old : List TimedFrame) (from : ℕ) (now : List TimedFrame) (at count : ℕ) → until ≤ at
     → IsSending cycle placed riding frames until old from now at count → (carried : ℕ → ℕ → Option ℕ) → HaveRidden carried (cycle + 1) riding
     → now ≡ old ++ back_to_back (map (λ sent. polled_frame riding.queued.streams carried placed cycle sent.frame) frames) from until
-sending-past cycle placed riding frames until old from now at count past sending carried ridden =
-    sym (append-nil now) ∙ ap (λ more. now ++ more) (sym (back-past (map (λ sent. polled_frame riding.queued.streams carried placed cycle sent.frame) (drop count frames)) at until past))
-    ∙ sending carried ridden
+sending-past cycle placed riding frames until old from now at count past sending carried ridden = grind (arith, append-nil, back-past)
 
 -- what is sent anew, by the first frame
 pub anew_first : (polled : DataFrame → DataFrame) (until : ℕ) (window : List TimedFrame) (first : TimedFrame) → slice_get window 0 ≡ Some first
     → sent_anew polled until window ≡ back_to_back (map (λ it. polled it.frame) window) first.start until
-anew_first polled until [] first is = absurd (none-some first is)
-anew_first polled until (sent ∷ later) first is = ap (λ (it : TimedFrame). back_to_back (map (λ one. polled one.frame) (sent ∷ later)) it.start until) (same_Some _ _ is)
+anew_first polled until window first is = grind (arith, none-some, same_Some)
 
 drop-end : (frames : List TimedFrame) (count : ℕ) → length frames ≤ count → drop count frames ≡ []
 drop-end [] zero all = refl
@@ -156,5 +142,4 @@ drop-end (sent ∷ frames) (suc count) all = drop-end frames count (omega (arith
 pub sending-done : (cycle : ℕ) (placed : List Placed) (riding : Riding) (frames : List TimedFrame) (until : ℕ) (old : List TimedFrame) (from : ℕ) (now : List TimedFrame) (at count : ℕ)
     → length frames ≤ count → IsSending cycle placed riding frames until old from now at count → (carried : ℕ → ℕ → Option ℕ) → HaveRidden carried (cycle + 1) riding
     → now ≡ old ++ back_to_back (map (λ sent. polled_frame riding.queued.streams carried placed cycle sent.frame) frames) from until
-sending-done cycle placed riding frames until old from now at count all sending carried ridden =
-    sym (append-nil now) ∙ ap (λ left. now ++ back_to_back (map (polled_of riding carried placed cycle) left) at until) (sym (drop-end frames count all)) ∙ sending carried ridden
+sending-done cycle placed riding frames until old from now at count all sending carried ridden = grind (arith, append-nil, drop-end)

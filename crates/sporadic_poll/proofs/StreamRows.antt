@@ -1,5 +1,5 @@
 -- What a row means, fault by fault.
-use Rattle.std.proofs.Common.{◌≡◌, ◌≢◌, map, ℕ, ◌<◌, ◌≤◌, ◌==◌, true, false, List, length, Some, None, Ok, Err, nat_le, nat_lt, refl, arith}
+use Rattle.std.proofs.Common.{◌≡◌, ◌≢◌, map, ℕ, ◌<◌, ◌≤◌, ◌==◌, true, false, List, length, Some, None, Ok, Err, nat_lt, refl, arith}
 use Rattle.std.proofs.lemmas.List.{length-map}
 use Rattle.std.proofs.lemmas.Bool.Decides.{nat_tests}
 use Rattle.text_fields.specs.CsvRows.{trimmed}
@@ -17,14 +17,10 @@ other_than_three fields h = rw (length-map fields trimmed) (grind (arith, nat_te
 
 -- at most seven bytes, and more
 pub seven : (bytes : List ℕ) → length bytes ≤ 7 → seven_at_most bytes ≡ Some bytes
-seven bytes few =
-    let test : nat_le (length bytes) 7 ≡ true = grind (arith, nat_tests) in
-    rw test refl
+seven bytes few = grind (arith, nat_tests)
 
 pub eight : (bytes : List ℕ) → 7 < length bytes → seven_at_most bytes ≡ None
-eight bytes many =
-    let test : nat_le (length bytes) 7 ≡ false = grind (arith, nat_tests) in
-    rw test refl
+eight bytes many = grind (arith, nat_tests)
 
 module _ (slots : ℕ) (above : List Stream) (row : List (List ℕ)) where
   pub other_fields : (length row == 3) ≡ false → meaning slots above row ≡ Err Fields
@@ -41,38 +37,23 @@ module _ (slots : ℕ) (above : List Stream) (row : List (List ℕ)) where
 
   pub unknown : (at slot : ℕ) → (length row == 3) ≡ true → arrival_in row ≡ Some at → slot_in row ≡ Some slot → slots ≤ slot → meaning slots above row ≡ Err Slot
   unfolding meaning
-  unknown at slot three arrival number known =
-      let test : nat_lt slot slots ≡ false = grind (arith, nat_tests) in
-      rw (three, arrival, number, test) refl
+  unknown at slot three arrival number known = grind (arith, nat_lt, nat_tests)
 
   pub no_payload : (at slot : ℕ) → (length row == 3) ≡ true → arrival_in row ≡ Some at → slot_in row ≡ Some slot → slot < slots → payload_in row ≡ None → meaning slots above row ≡ Err Data
   unfolding meaning
-  no_payload at slot three arrival number known bytes =
-      let test : nat_lt slot slots ≡ true = grind (arith, nat_tests) in
-      rw (three, arrival, number, test, bytes) refl
+  no_payload at slot three arrival number known bytes = grind (arith, nat_lt, nat_tests)
 
   pub falls : (at slot : ℕ) (payload : List ℕ) → (length row == 3) ≡ true → arrival_in row ≡ Some at → slot_in row ≡ Some slot → slot < slots → payload_in row ≡ Some payload
       → at < arrival_above above → meaning slots above row ≡ Err Order
   unfolding meaning
-  falls at slot payload three arrival number known bytes order =
-      let test : nat_lt slot slots ≡ true = grind (arith, nat_tests) in
-      let less : nat_le (arrival_above above) at ≡ false = grind (arith, nat_tests) in
-      rw (three, arrival, number, test, bytes, less) refl
+  falls at slot payload three arrival number known bytes order = grind (arith, nat_lt, nat_tests)
 
   pub too_many : (at slot : ℕ) (payload : List ℕ) → (length row == 3) ≡ true → arrival_in row ≡ Some at → slot_in row ≡ Some slot → slot < slots → payload_in row ≡ Some payload
       → arrival_above above ≤ at → 10000 ≤ length above → meaning slots above row ≡ Err Many
   unfolding meaning
-  too_many at slot payload three arrival number known bytes order many =
-      let test : nat_lt slot slots ≡ true = grind (arith, nat_tests) in
-      let later : nat_le (arrival_above above) at ≡ true = grind (arith, nat_tests) in
-      let room : nat_lt (length above) 10000 ≡ false = grind (arith, nat_tests) in
-      rw (three, arrival, number, test, bytes, later, room) refl
+  too_many at slot payload three arrival number known bytes order many = grind (arith, nat_lt, nat_tests)
 
   pub asks : (at slot : ℕ) (payload : List ℕ) → (length row == 3) ≡ true → arrival_in row ≡ Some at → slot_in row ≡ Some slot → slot < slots → payload_in row ≡ Some payload
       → arrival_above above ≤ at → length above < 10000 → meaning slots above row ≡ Ok (record { at = at; slot = slot; payload = payload })
   unfolding meaning
-  asks at slot payload three arrival number known bytes order few =
-      let test : nat_lt slot slots ≡ true = grind (arith, nat_tests) in
-      let later : nat_le (arrival_above above) at ≡ true = grind (arith, nat_tests) in
-      let room : nat_lt (length above) 10000 ≡ true = grind (arith, nat_tests) in
-      rw (three, arrival, number, test, bytes, later, room) refl
+  asks at slot payload three arrival number known bytes order few = grind (arith, nat_lt, nat_tests)

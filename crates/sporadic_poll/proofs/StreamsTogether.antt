@@ -1,5 +1,5 @@
 -- The requests of rows, one row after the other.
-use Rattle.std.proofs.Common.{◌≡◌, inl, inr, ℕ, ◌-◌, ◌<◌, ◌≤◌, List, [], ◌∷◌, ◌++◌, length, length-append, get_or, AllPairs, refl, arith, lit≤}
+use Rattle.std.proofs.Common.{◌≡◌, ℕ, ◌-◌, ◌<◌, ◌≤◌, List, [], ◌∷◌, ◌++◌, length, length-append, get_or, AllPairs, refl, arith, lit≤}
 use Rattle.std.proofs.lemmas.Bool.{cases_lt}
 use Rattle.std.proofs.lemmas.List.Elements.{All-nil, All-push}
 use Rattle.std.proofs.lemmas.List.Quantifiers.{all_pairs_push}
@@ -18,10 +18,7 @@ last_arrival above d some = rw (slice_get-get_or above (length above - 1) d (ome
 earlier_at : (above : List Stream) (at k : ℕ) (d : Stream) → AllPairs (λ earlier later. earlier.at ≤ later.at) above → arrival_above above ≤ at → k < length above → (get_or above k d).at ≤ at
 earlier_at above at k d pairs after inside =
     let last : (get_or above (length above - 1) d).at ≤ at = rw (last_arrival above d (omega arith)) at after in
-    elim (cases_lt k (length above - 1)) [
-      | inl before ↦ omega (arith, last, pairs k (length above - 1) d before (omega arith))
-      | inr same ↦ let at_end : k ≡ length above - 1 = omega arith in rw at_end last
-    ]
+    grind (arith, cases_lt)
 
 -- one more request
 pub more_legal : (slots : ℕ) (above : List Stream) (stream : Stream) → AreLegalStreams slots above → IsLegalStream slots stream → arrival_above above ≤ stream.at → length above < 10000

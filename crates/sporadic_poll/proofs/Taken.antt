@@ -1,5 +1,5 @@
 -- What was taken before a release, and what the instance takes then.
-use Rattle.std.proofs.Common.{◌≡◌, inl, inr, ℕ, ◌+◌, ◌*◌, ◌<◌, ◌≤◌, ◌&&◌, true, false, Bool, if◌then◌else◌, List, length, Option, Some, None, option_and_then, nat_lt, refl, sym, ap, ◌∙◌, arith}
+use Rattle.std.proofs.Common.{◌≡◌, inl, inr, ℕ, ◌+◌, ◌*◌, ◌<◌, ◌≤◌, ◌&&◌, Bool, if◌then◌else◌, List, length, Option, Some, None, option_and_then, nat_lt, refl, sym, ap, ◌∙◌, arith}
 use Rattle.std.proofs.lemmas.Bool.{and_from, and_left, and_parts, and_right, cases_lt, cases_order, le-ltb, lt-ltb, ltb-true}
 use Rattle.std.proofs.lemmas.Option.{none-some, same_Some, slice_get_cases, slice_get_past, slice_get_within}
 use Rattle.std.specs.List.{slice_get}
@@ -16,9 +16,7 @@ pub record Carries (streams : List Stream) (time entry_length next place : ℕ) 
   pub same : place ≡ next
 
 pub same_options : (one other : Option ℕ) → ((place : ℕ) → one ≡ Some place → other ≡ Some place) → ((place : ℕ) → other ≡ Some place → one ≡ Some place) → one ≡ other
-same_options None None there back = refl
-same_options None (Some place) there back = back place refl
-same_options (Some place) other there back = sym (there place refl)
+same_options one other there back = grind arith
 
 -- what is taken is the next request, and can be carried
 pub from_shape : (streams : List Stream) (time entry_length next place : ℕ) → taken_from streams time entry_length next ≡ Some place → Carries streams time entry_length next place
@@ -27,24 +25,18 @@ from_shape streams time entry_length next place took = of_found (slice_get strea
   where
     of_test : (stream : Stream) (test : Bool) → (nat_lt stream.at time && nat_lt (length stream.payload) entry_length) ≡ test → slice_get streams next ≡ Some stream
         → (if test then Some next else None) ≡ Some place → Carries streams time entry_length next place
-    of_test stream true is at took =
-        let parts = and_parts _ _ is in
-        record { stream = stream; at = at; can = record { arrived = ltb-true _ _ parts.0; short = ltb-true _ _ parts.1 }; same = sym (same_Some _ _ took) }
-    of_test stream false is at took = absurd (none-some place took)
+    of_test stream test is at took = grind (arith, and_parts, ltb-true, same_Some, none-some)
 
     of_found : (found : Option Stream) → slice_get streams next ≡ found
         → option_and_then (λ stream. if nat_lt stream.at time && nat_lt (length stream.payload) entry_length then Some next else None) found ≡ Some place
         → Carries streams time entry_length next place
-    of_found None is took = absurd (none-some place took)
-    of_found (Some stream) is took = of_test stream (nat_lt stream.at time && nat_lt (length stream.payload) entry_length) refl is took
+    of_found found is took = grind (arith, none-some, of_test, nat_lt)
 
 -- the next request is taken where it can be carried
 pub from_carry : (streams : List Stream) (time entry_length next : ℕ) (stream : Stream) → slice_get streams next ≡ Some stream → CanCarry time entry_length stream
     → taken_from streams time entry_length next ≡ Some next
 unfolding taken_from
-from_carry streams time entry_length next stream at can =
-    let test : (nat_lt stream.at time && nat_lt (length stream.payload) entry_length) ≡ true = and_from _ _ (lt-ltb _ _ can.arrived) (lt-ltb _ _ can.short) in
-    rw (at, test) refl
+from_carry streams time entry_length next stream at can = grind (arith, nat_lt, and_from, lt-ltb)
 
 -- none is taken after the end, nor before it arrived, nor where it is too long
 pub from_past : (streams : List Stream) (time entry_length next : ℕ) → length streams ≤ next → None ≡ taken_from streams time entry_length next
@@ -53,15 +45,11 @@ from_past streams time entry_length next past = rw (slice_get_past streams next 
 
 pub from_late : (streams : List Stream) (time entry_length next : ℕ) (stream : Stream) → slice_get streams next ≡ Some stream → time ≤ stream.at → None ≡ taken_from streams time entry_length next
 unfolding taken_from
-from_late streams time entry_length next stream at late =
-    let test : (nat_lt stream.at time && nat_lt (length stream.payload) entry_length) ≡ false = and_left _ _ (le-ltb _ _ late) in
-    rw (at, test) refl
+from_late streams time entry_length next stream at late = grind (arith, nat_lt, and_left, le-ltb)
 
 pub from_long : (streams : List Stream) (time entry_length next : ℕ) (stream : Stream) → slice_get streams next ≡ Some stream → entry_length ≤ length stream.payload → None ≡ taken_from streams time entry_length next
 unfolding taken_from
-from_long streams time entry_length next stream at long =
-    let test : (nat_lt stream.at time && nat_lt (length stream.payload) entry_length) ≡ false = and_right _ _ (le-ltb _ _ long) in
-    rw (at, test) refl
+from_long streams time entry_length next stream at long = grind (arith, nat_lt, and_right, le-ltb)
 
 -- what was taken before a cycle was taken before the next one
 later_too : (carried : ℕ → Option ℕ) (cycle place : ℕ) → IsTakenBefore carried cycle place → IsTakenBefore carried (cycle + 1) place
@@ -70,14 +58,7 @@ later_too carried cycle place taken = record { release = taken.release; earlier 
 module _ (streams : List Stream) (slot : ℕ) (carried : ℕ → Option ℕ) where
   -- before the first cycle nothing was taken
   pub none_taken : HasTaken streams slot carried 0 (first_from streams slot 0)
-  none_taken =
-      let first = first-is streams slot 0 (omega arith) in
-      record {
-        within = first.within;
-        stands = first.stands;
-        all = λ place before of_slot. absurd (first.none place (omega arith) before of_slot);
-        only = λ place taken. absurd (omega (arith, taken.earlier));
-      }
+  none_taken = grind (arith, first-is)
 
   -- an instance that takes none leaves all as it is
   pub still_taken : (cycle next : ℕ) → HasTaken streams slot carried cycle next → carried cycle ≡ None → HasTaken streams slot carried (cycle + 1) next
@@ -103,12 +84,7 @@ module _ (streams : List Stream) (slot : ℕ) (carried : ℕ → Option ℕ) whe
       record {
         within = first.within;
         stands = first.stands;
-        all = λ place before of_slot.
-            elim (cases_order place next) [
-              | inl same ↦ record { release = cycle; earlier = omega arith; took = took ∙ ap Some (sym same) }
-              | inr (inl less) ↦ later_too carried cycle place (taken.all place less of_slot)
-              | inr (inr more) ↦ absurd (first.none place (omega (arith, more)) before of_slot)
-            ];
+        all = grind (arith, cases_order, later_too);
         only = λ place by.
             elim (cases_lt by.release cycle) [
               | inl earlier ↦ omega (arith, first.from_on, taken.only place (record { release = by.release; earlier = earlier; took = by.took }))
@@ -177,17 +153,14 @@ module _ (streams : List Stream) (slot : ℕ) (carried : ℕ → Option ℕ) whe
     takes_at cycle next taken = by_length (lengths cycle) refl
       where
         by_length : (released : Option ℕ) → lengths cycle ≡ released → carried cycle ≡ taken_at layout_cycle streams lengths cycle next
-        by_length None none = rw none (ride.no_more cycle none)
-        by_length (Some entry_length) is = rw is (takes_by cycle next entry_length taken is)
+        by_length released none = grind (arith, takes_by)
 
   -- what was taken before the next cycle, where what the instance takes is the next request
   pub then_taken : (cycle next : ℕ) (answer : Option ℕ) → HasTaken streams slot carried cycle next → carried cycle ≡ answer
       → ((place : ℕ) → answer ≡ Some place → (place ≡ next) × (next < length streams))
       → HasTaken streams slot carried (cycle + 1) (next_after streams slot next answer)
   then_taken cycle next None taken is what = still_taken cycle next taken is
-  then_taken cycle next (Some place) taken is what =
-      let it = what place refl in
-      rw it.0 (more_taken cycle next taken it.1 (is ∙ ap Some it.0))
+  then_taken cycle next (Some place) taken is what = grind (arith, more_taken)
 
   -- an instance takes its request
   pub take_step : (layout_cycle : ℕ) (lengths : ℕ → Option ℕ) (cycle time next entry_length : ℕ) (answer : Option ℕ) → IsRide layout_cycle streams slot lengths carried

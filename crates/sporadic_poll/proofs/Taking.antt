@@ -1,6 +1,6 @@
 -- What the instance of a slot takes that is released in a cycle, by the instance that may be sent in it.
 use Rattle.std.proofs.Common.{◌≡◌, ◌≢◌, ℕ, ◌+◌, ◌*◌, if◌then◌else◌, List, Option, Some, None, IfSome, option_map, option_and_then, nat_eq, refl, sym, ap, ◌∙◌}
-use Rattle.std.proofs.lemmas.Bool.{eq-eqb, ne_eqb}
+use Rattle.std.proofs.lemmas.Bool.{ne_eqb}
 use Rattle.requirement_table.specs.declared.entries.Placed.{Placed}
 use Rattle.requirement_table.specs.Instance.{Instance}
 use Rattle.requirement_table.specs.Table.{instance_in}
@@ -20,10 +20,6 @@ length_by (Some i) cycle current is = rw is refl
 pub length_current : (placed : List Placed) (slot cycle : ℕ) (current : Option Current) → current ≡ option_map current_of (instance_in placed slot cycle)
     → length_released placed slot cycle ≡ option_and_then (λ it. if nat_eq it.release cycle then Some it.length else None) current
 length_current placed slot cycle current is = length_by (instance_in placed slot cycle) cycle current is
-
-pub length_now : (placed : List Placed) (slot cycle : ℕ) (current : Current) → Some current ≡ option_map current_of (instance_in placed slot cycle) → current.release ≡ cycle
-    → length_released placed slot cycle ≡ Some current.length
-length_now placed slot cycle current is now = length_current placed slot cycle (Some current) is ∙ (rw (eq-eqb current.release cycle now) refl)
 
 pub length_other : (placed : List Placed) (slot cycle : ℕ) (current : Current) → Some current ≡ option_map current_of (instance_in placed slot cycle) → current.release ≢ cycle
     → length_released placed slot cycle ≡ None

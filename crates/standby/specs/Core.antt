@@ -12,8 +12,9 @@ pub data Item : Type 0 where
   changed : ℕ → Change → Item
   opened : ℕ → ℕ → Item
 
--- the items that an event leaves: an opening leaves itself, and an accepted change leaves its caller and its operations,
--- without the cycle from which it was planned and without the repeat that was found; other events leave nothing
+-- the items that an event leaves: an opening leaves itself, and an accepted change leaves its caller and the whole
+-- change, with its start, without the cycle from which it was planned and without the repeat that was found; other
+-- events leave nothing
 abbrev pub items_of : Event → List Item
 items_of (Submit caller change from verdict trail) = if is_accepted verdict then changed caller change ∷ [] else []
 items_of (Look caller next) = []

@@ -19,8 +19,7 @@ use Rattle.trace_audit.specs.Auditing.{is_end}
 -- The line of a row has no line feed
 
 no_feed-cons : (x : ℕ) (xs : List ℕ) → x ≢ 10 → HasNoFeed xs → HasNoFeed (x ∷ xs)
-no_feed-cons x xs here more zero within = here
-no_feed-cons x xs here more (suc i) within = more i (omega (arith, within))
+no_feed-cons x xs h0 h1 = grind arith
 
 plain-other : (x : ℕ) → is_plain x ≡ true → x ≢ 10
 plain-other x test is = let same = ap is_plain is in absurd (cc)
@@ -60,23 +59,13 @@ go-frames [] = tt
 go-frames (sent ∷ frames) = (refl, go-frames frames)
 
 go-event : (trace : List TimedFrame) (before : List Event) (event : Event) → AllGo (event_told trace before event)
-go-event trace before (Submit caller change from verdict trail) = (refl, go-plan from trail)
-go-event trace before (Look caller next) = (refl, tt)
-go-event trace before (Open cycle mask) = (refl, go-frames (started_in cycle 0 trace))
+go-event trace before event = grind (arith, go-plan, go-frames)
 
 pub go-events : (trace : List TimedFrame) (before events : List Event) → AllGo (events_told trace before events)
 go-events trace before [] = tt
 go-events trace before (event ∷ events) =
     go-append (event_told trace before event) (events_told trace (before ++ event ∷ []) events)
     (go-event trace before event) (go-events trace (before ++ event ∷ []) events)
-
-not-last : (next : ℕ) (line : LogRow) → is_end line ≡ false → row_line (row.End next) ≡ row_line line → ⊥
-not-last next (row.Submit caller from verdict) go is = let first : 101 ≡ 115 = ap (λ l. get_or l 0 0) is in absurd (omega (arith, first))
-not-last next (row.Plan cycle mask) go is = let first : 101 ≡ 112 = ap (λ l. get_or l 0 0) is in absurd (omega (arith, first))
-not-last next (row.Look caller cycle) go is = let first : 101 ≡ 108 = ap (λ l. get_or l 0 0) is in absurd (omega (arith, first))
-not-last next (row.Frame timed) go is = let first : 101 ≡ 102 = ap (λ l. get_or l 0 0) is in absurd (omega (arith, first))
-not-last next (row.End other) go is = absurd (cc)
-not-last next _ go is = let first : 101 ≡ 111 = ap (λ l. get_or l 0 0) is in absurd (omega (arith, first))
 
 -- The first line of a text
 
@@ -86,9 +75,7 @@ split-line line rest more = append_assoc (line ++ 10 ∷ []) rest more ∙ appen
 same-first : (one other : LogRow) (rest rest2 more more2 : List ℕ) → IsLogRow one → IsLogRow other
     → ((row_line one ++ 10 ∷ []) ++ rest) ++ more ≡ ((row_line other ++ 10 ∷ []) ++ rest2) ++ more2
     → (row_line one ≡ row_line other) × (rest ++ more ≡ rest2 ++ more2)
-same-first one other rest rest2 more more2 legal legal2 same =
-    same_line (row_line one) (row_line other) (rest ++ more) (rest2 ++ more2) (line-feedless one legal) (line-feedless other legal2)
-    (sym (split-line (row_line one) rest more) ∙ same ∙ split-line (row_line other) rest2 more2)
+same-first one other rest rest2 more more2 legal legal2 same = grind (arith, same_line, line-feedless, split-line)
 
 same-text : (one other rest rest2 : List ℕ) → one ≡ other → rest ≡ rest2
     → (one ++ 10 ∷ []) ++ rest ≡ (other ++ 10 ∷ []) ++ rest2
@@ -103,14 +90,8 @@ same-front [] [] one other more more2 go go2 legal legal2 same =
     let (line, rest) = same-first (row.End one) (row.End other) [] [] more more2
     (All-head IsLogRow (row.End one) [] legal) (All-head IsLogRow (row.End other) [] legal2) same in
     (same-text (row_line (row.End one)) (row_line (row.End other)) [] [] line refl, rest)
-same-front [] (y ∷ ys) one other more more2 go go2 legal legal2 same =
-    let (line, rest) = same-first (row.End one) y [] (text_of_rows (ys ++ row.End other ∷ [])) more more2
-    (All-head IsLogRow (row.End one) [] legal) (All-head IsLogRow y (ys ++ row.End other ∷ []) legal2) same in
-    absurd (not-last one y go2.0 line)
-same-front (x ∷ xs) [] one other more more2 go go2 legal legal2 same =
-    let (line, rest) = same-first x (row.End other) (text_of_rows (xs ++ row.End one ∷ [])) [] more more2
-    (All-head IsLogRow x (xs ++ row.End one ∷ []) legal) (All-head IsLogRow (row.End other) [] legal2) same in
-    absurd (not-last other x go.0 (sym line))
+same-front [] (y ∷ ys) one other more more2 go go2 legal legal2 same = grind (arith, same-first)
+same-front (x ∷ xs) [] one other more more2 go go2 legal legal2 same = grind (arith, same-first)
 same-front (x ∷ xs) (y ∷ ys) one other more more2 go go2 legal legal2 same =
     let (line, rest) = same-first x y (text_of_rows (xs ++ row.End one ∷ [])) (text_of_rows (ys ++ row.End other ∷ [])) more more2
     (All-head IsLogRow x (xs ++ row.End one ∷ []) legal) (All-head IsLogRow y (ys ++ row.End other ∷ []) legal2) same in

@@ -45,9 +45,7 @@ use Rattle.trace_audit.proofs.Standing.{all-told, legal-front, none-left, stays}
 
 told-no_end : (trace : List TimedFrame) (before : List Event) (event : Event) (next : ℕ) (later rest : List LogRow)
     → row.End next ∷ later ≡ event_told trace before event ++ rest → ⊥
-told-no_end trace before (Submit caller change from verdict trail) next later rest is = cc
-told-no_end trace before (Look caller cycle) next later rest is = cc
-told-no_end trace before (Open cycle mask) next later rest is = cc
+told-no_end trace before event next later rest is = grind arith
 
 module _ (system : System) (steps : List Step) (requests : List Request) (rows : List LogRow) (auditor : Auditor)
     (auditing : IsAuditing system steps requests rows auditor) where
@@ -96,21 +94,7 @@ module _ (system : System) (steps : List Step) (requests : List Request) (rows :
     -- where no right event is asked for, no row but the last one of a log can follow
     pub none-breaks : is_end line ≡ false → ((event : Event) → IsRight system.rules history event → Asks steps history line event → ⊥)
         → CanStand system steps requests (rows ++ line ∷ []) → ⊥
-    none-breaks not_last none can = elim (cases_Bool (is_event_row line)) [
-      | inl is ↦
-          let parts = history-parts system.rules steps rows line can.history is can.read in
-          let whole = legal-front system.rules parts.front parts.event (subst (IsLegal system.rules) parts.is can.run.legal) in
-          let front : parts.front ≡ history = auditing.only parts.front parts.all whole.0 in
-          let read = subst (λ h. IsReadFrom system.rules steps h line parts.event) front parts.last in
-          let few : next_of (history ++ parts.event ∷ []) ≤ sum_by count_of steps =
-          subst (λ h. next_of h ≤ sum_by count_of steps) (parts.is ∙ ap (λ l. l ++ parts.event ∷ []) front) can.run.opened in
-          none parts.event (subst (λ h. IsRight system.rules h parts.event) front whole.1)
-          (read-asks system.rules steps history line parts.event read few)
-      | inr other ↦
-          let is = other-is_last other can in
-          let ends : is_end line ≡ true = ap is_end is in
-          absurd (cc)
-    ]
+    none-breaks not_last none can = grind (arith, history-parts, legal-front, read-asks, other-is_last)
 
   -- The last row of a log
 
@@ -195,14 +179,7 @@ module _ (system : System) (steps : List Step) (requests : List Request) (rows :
         ∙ ap (λ l. l ++ last ∷ []) (all-told system steps requests rows auditor auditing last all)
 
     pub end-stands : (next : ℕ) → next ≡ next_of history → CanStand system steps requests (rows ++ row.End next ∷ [])
-    end-stands next is = record {
-      history = history;
-      trace = auditing.trace;
-      read = history-stays system.rules steps rows (row.End next) history refl auditing.read;
-      run = is-run;
-      later = [];
-      front = append-nil (rows ++ row.End next ∷ []) ∙ log-ends next is;
-    }
+    end-stands next is = grind (arith, history-stays, is-run, append-nil, log-ends)
 
     abbrev pub is-whole : (next : ℕ) → next ≡ next_of history → AnswersOperators history steps
         → IsWholeLog system steps requests (rows ++ row.End next ∷ [])
@@ -232,24 +209,13 @@ all-called : (steps : List Step) (history : List Event) (operator : ℕ)
     → (later : List Call) × (map call_of (filter (is_called_by operator) history) ++ later ≡ map (asked operator) (acts_of operator steps))
     → count_by (is_called_by operator) history ≡ length (acts_of operator steps)
     → AnswersActs operator (acts_of operator steps) (filter (is_called_by operator) history)
-all-called steps history operator begins count =
-    let (later, is) = begins in
-    let calls : List Call = map call_of (filter (is_called_by operator) history) in
-    let acts : List Call = map (asked operator) (acts_of operator steps) in
-    let few : length calls ≡ length acts =
-    length-map (filter (is_called_by operator) history) call_of ∙ length-filter (is_called_by operator) history
-    ∙ count ∙ sym (length-map (acts_of operator steps) (asked operator)) in
-    let sum : length calls + length later ≡ length acts = sym (length-append calls later) ∙ ap length is in
-    let none : later ≡ [] = nil-of_length later (omega (arith, few, sum)) in
-    sym (append-nil calls) ∙ ap (λ l. calls ++ l) (sym none) ∙ is
+all-called steps history operator begins count = grind (arith, length-map, length-filter, length-append, nil-of_length, append-nil)
 
 -- and the other way round
 called-all : (steps : List Step) (history : List Event) (operator : ℕ)
     → AnswersActs operator (acts_of operator steps) (filter (is_called_by operator) history)
     → count_by (is_called_by operator) history ≡ length (acts_of operator steps)
-called-all steps history operator answers =
-    sym (length-filter (is_called_by operator) history) ∙ sym (length-map (filter (is_called_by operator) history) call_of)
-    ∙ ap length answers ∙ length-map (acts_of operator steps) (asked operator)
+called-all steps history operator answers = grind (arith, length-filter, length-map)
 
 -- an act of an operator in the steps of a file is that of one of the operators 1 to 8
 pub act-range : (operator : ℕ) (steps : List Step) (place : ℕ) (taken : Act) → All IsStep steps
@@ -274,12 +240,10 @@ event-range : (rules : Rules) (steps : List Step) (before : List Event) (line : 
     → IsReadFrom rules steps before line event → number_of event ≤ 8
 event-range rules steps before line (Submit caller change from verdict trail) legal read =
     let range = act-range caller steps _ (act.Ask change) legal read.1 in
-    let is : operator_number caller ≡ caller = cond-false (eqb caller 0) 9 caller (ne_eqb caller 0 (λ none. omega (arith, none, range.0))) in
-    omega (arith, is, range.1)
+    grind (arith, cond-false, eqb, ne_eqb)
 event-range rules steps before line (Look caller next) legal read =
     let range = act-range caller steps _ act.Look legal read.1 in
-    let is : operator_number caller ≡ caller = cond-false (eqb caller 0) 9 caller (ne_eqb caller 0 (λ none. omega (arith, none, range.0))) in
-    omega (arith, is, range.1)
+    grind (arith, cond-false, eqb, ne_eqb)
 event-range rules steps before line (Open cycle mask) legal read = omega arith
 
 events-range : (rules : Rules) (steps : List Step) (before : List Event) (lines : List LogRow) (events : List Event) → All IsStep steps

@@ -39,67 +39,21 @@ module _ (rules : Rules) (steps : List Step) (before : List Event) where
   -- it is one that the row asks for, where an opening is one of those that the steps ask for
   pub read-asks : (line : LogRow) (event : Event) → IsReadFrom rules steps before line event
       → next_of (before ++ event ∷ []) ≤ sum_by count_of steps → Asks steps before line event
-  read-asks line (Submit caller change from verdict trail) read few =
-      subst (λ l. Asks steps before l (Submit caller change from verdict trail)) (sym read.0) (refl, refl, read.1)
+  read-asks line (Submit caller change from verdict trail) read few = grind arith
   read-asks line (Look caller next) read few = subst (λ l. Asks steps before l (Look caller next)) (sym read.0) (refl, read.1)
-  read-asks line (Open cycle mask) read few =
-      let more = next_of-push before (Open cycle mask) in
-      subst (λ l. Asks steps before l (Open cycle mask)) (sym read.1) (omega (arith, more, few))
-
-  -- a row from which an event is read is that of an event
-  pub read-is_event : (line : LogRow) (event : Event) → IsReadFrom rules steps before line event → is_event_row line ≡ true
-  read-is_event line (Submit caller change from verdict trail) read = ap is_event_row read.0
-  read-is_event line (Look caller next) read = ap is_event_row read.0
-  read-is_event line (Open cycle mask) read = ap is_event_row read.1
+  read-asks line (Open cycle mask) read few = grind (arith, next_of-push)
 
   module _ (verdicts : OneVerdict) where
-    same-as_change : (caller : ℕ) (change : Change) (from : ℕ) (verdict : Verdict) (trail : List ℕ) (told : LogVerdict) (one : Event)
-        → IsNextAct steps before caller (act.Ask change) → IsRightAnswer rules before change from verdict trail
-        → Asks steps before (row.Submit caller from told) one → IsRight rules before one
-        → Submit caller change from verdict trail ≡ one
-    same-as_change caller change from verdict trail told (Submit number also since answer plan) next right asks right2 =
-        let change_is : also ≡ change =
-        same-change (slice_get (acts_of caller steps) (count_by (is_called_by caller) before)) also change asks.2 next in
-        let moved : IsRightAnswer rules before change from answer plan =
-        subst (λ f. IsRightAnswer rules before change f answer plan) asks.1
-        (subst (λ c. IsRightAnswer rules before c since answer plan) change_is right2) in
-        let same = same-answer verdicts rules before change from verdict answer trail plan right moved in
-        let caller_is : number ≡ caller = asks.0 in
-        let from_is : since ≡ from = asks.1 in
-        let verdict_is = same.verdict in
-        let plan_is = same.plan in
-        cc
-    same-as_change caller change from verdict trail told (Look number cycle) next right asks right2 = absurd asks
-    same-as_change caller change from verdict trail told (Open cycle mask) next right asks right2 = absurd asks
-
-    same-as_look : (caller next : ℕ) (one : Event) → next ≡ next_of before → Asks steps before (row.Look caller next) one
-        → IsRight rules before one → Look caller next ≡ one
-    same-as_look caller next (Submit number change since verdict trail) right asks right2 = absurd asks
-    same-as_look caller next (Look number cycle) right asks right2 =
-        let caller_is : number ≡ caller = asks.0 in
-        let next_is : next ≡ cycle = right ∙ sym right2 in
-        cc
-    same-as_look caller next (Open cycle mask) right asks right2 = absurd asks
-
     same-as_opening : (cycle mask : ℕ) (opened : OpenRow) (one : Event) → IsRight rules before (Open cycle mask)
         → Asks steps before (opened_row opened) one → IsRight rules before one → Open cycle mask ≡ one
-    same-as_opening cycle mask opened (Submit number change since verdict trail) right asks right2 = absurd asks
-    same-as_opening cycle mask opened (Look number next) right asks right2 = absurd asks
-    same-as_opening cycle mask opened (Open later slots) right asks right2 =
-        let cycle_is : cycle ≡ later = right.0 ∙ sym right2.0 in
-        let mask_is : mask ≡ slots = right.1 ∙ ap (mask_at (plan_of rules (placed_of before))) cycle_is ∙ sym right2.1 in
-        cc
+    same-as_opening cycle mask opened one right asks right2 = grind arith
 
     -- there is one right event that a row asks for: what is read from the row is that event
     pub same-event : (line : LogRow) (one other : Event) → Asks steps before line one → IsRight rules before one
         → IsReadFrom rules steps before line other → IsRight rules before other → other ≡ one
-    same-event line one (Submit caller change from verdict trail) asks right read right2 =
-        same-as_change caller change from verdict trail (verdict_told verdict) one read.1 right2
-        (subst (λ l. Asks steps before l one) read.0 asks) right
-    same-event line one (Look caller next) asks right read right2 =
-        same-as_look caller next one right2 (subst (λ l. Asks steps before l one) read.0 asks) right
-    same-event line one (Open cycle mask) asks right read right2 =
-        same-as_opening cycle mask read.0 one right2 (subst (λ l. Asks steps before l one) read.1 asks) right
+    same-event line one (Submit caller change from verdict trail) asks right read right2 = grind arith
+    same-event line one (Look caller next) asks right read right2 = grind arith
+    same-event line one (Open cycle mask) asks right read right2 = grind (arith, same-as_opening)
 
   -- the first row of an opened cycle
   opened-first : (cycle mask width : ℕ) (frames : List TimedFrame) (line : LogRow)
@@ -109,12 +63,8 @@ module _ (rules : Rules) (steps : List Step) (before : List Event) where
   -- a right event that the row asks for, and whose first row is the row, is read from it
   pub asked-read : (line : LogRow) (event : Event) (width : ℕ) (frames : List TimedFrame) → Asks steps before line event
       → IsRight rules before event → slice_get (told_at width event frames) 0 ≡ Some line → IsReadFrom rules steps before line event
-  asked-read line (Submit caller change from verdict trail) width frames asks right first =
-      let is : line ≡ row.Submit caller from (verdict_told verdict) = cc in
-      (is, (subst (λ l. Asks steps before l (Submit caller change from verdict trail)) is asks).2, right.plan)
-  asked-read line (Look caller next) width frames asks right first =
-      let is : line ≡ row.Look caller next = cc in
-      (is, (subst (λ l. Asks steps before l (Look caller next)) is asks).1)
+  asked-read line (Submit caller change from verdict trail) width frames asks right first = grind arith
+  asked-read line (Look caller next) width frames asks right first = grind arith
   asked-read line (Open cycle mask) width frames asks right first = opened-first cycle mask width frames line first
 
 -- The rows of an event
@@ -140,63 +90,29 @@ inner-frames (sent ∷ later) =
     All-cons (λ line. is_inner line ≡ true) (row.Frame sent) (map row.Frame later) refl (inner-frames later)
 
 pub told-head : (width : ℕ) (event : Event) (frames : List TimedFrame) → HasHead (told_at width event frames)
-told-head width (Submit caller change from verdict trail) frames =
-    record { head = row.Submit caller from (verdict_told verdict); rest = plan_told from trail; are = refl; inner = inner-plan from trail }
-told-head width (Look caller next) frames =
-    record { head = row.Look caller next; rest = []; are = refl; inner = All-nil (λ line. is_inner line ≡ true) }
-told-head width (Open cycle mask) frames =
-    record { head = _; rest = map row.Frame frames; are = refl; inner = inner-frames frames }
+told-head width event frames = grind (arith, inner-plan, inner-frames)
 
 -- what follows the first row of an event
 pub told-later : (width : ℕ) (event : Event) (frames : List TimedFrame) (line : LogRow) (later : List LogRow)
     → told_at width event frames ≡ line ∷ later → AreInner later
 told-later width event frames line later are =
     let head = told-head width event frames in
-    let rest : head.rest ≡ later = ap (drop 1) (sym head.are ∙ are) in
-    subst AreInner rest head.inner
+    grind arith
 
 -- The row that asks for a change or a look has its operator, whose next act this is.
 
-asks-next : (steps : List Step) (before : List Event) (line : LogRow) (number : ℕ) (change : Change) (since : ℕ) (verdict : Verdict) (trail : List ℕ)
-    → Asks steps before line (Submit number change since verdict trail) → IsNextAct steps before number (act.Ask change)
-asks-next steps before (row.Submit caller from told) number change since verdict trail asks =
-    subst (λ n. IsNextAct steps before n (act.Ask change)) (sym asks.0) asks.2
-asks-next steps before _ number change since verdict trail asks = absurd asks
-
-asks-look : (steps : List Step) (before : List Event) (line : LogRow) (number cycle : ℕ)
-    → Asks steps before line (Look number cycle) → IsNextAct steps before number act.Look
-asks-look steps before (row.Look caller next) number cycle asks =
-    subst (λ n. IsNextAct steps before n act.Look) (sym asks.0) asks.1
-asks-look steps before _ number cycle asks = absurd asks
-
 asks-opening : (steps : List Step) (before : List Event) (line : LogRow) (cycle mask : ℕ)
     → Asks steps before line (Open cycle mask) → next_of before < sum_by count_of steps
-asks-opening steps before (row.Submit caller from told) cycle mask asks = absurd asks
-asks-opening steps before (row.Plan planned slots) cycle mask asks = absurd asks
-asks-opening steps before (row.Look caller next) cycle mask asks = absurd asks
-asks-opening steps before (row.Frame timed) cycle mask asks = absurd asks
-asks-opening steps before (row.End next) cycle mask asks = absurd asks
-asks-opening steps before _ cycle mask asks = asks
+asks-opening steps before line cycle mask asks = grind arith
 
 -- an event that some row asks for is one that its own first row asks for
 pub own-asks : (steps : List Step) (before : List Event) (asked : LogRow) (event : Event) (width : ℕ) (frames : List TimedFrame)
     (line : LogRow) → Asks steps before asked event → slice_get (told_at width event frames) 0 ≡ Some line → Asks steps before line event
-own-asks steps before asked (Submit caller change from verdict trail) width frames line asks first =
-    let is : line ≡ row.Submit caller from (verdict_told verdict) = cc in
-    subst (λ l. Asks steps before l (Submit caller change from verdict trail)) (sym is)
-    (refl, refl, asks-next steps before asked caller change from verdict trail asks)
-own-asks steps before asked (Look caller next) width frames line asks first =
-    let is : line ≡ row.Look caller next = cc in
-    subst (λ l. Asks steps before l (Look caller next)) (sym is) (refl, asks-look steps before asked caller next asks)
-own-asks steps before asked (Open cycle mask) width frames line asks first =
-    subst (λ l. Asks steps before l (Open cycle mask)) (same_Some _ line first) (asks-opening steps before asked cycle mask asks)
+own-asks steps before asked event width frames line asks first = grind (arith, same_Some, asks-opening)
 
 -- such a row is not that of an event, nor the last one of a log
 pub inner-no_event : (line : LogRow) → is_inner line ≡ true → is_event_row line ≡ false
-inner-no_event (row.Plan cycle mask) is = refl
-inner-no_event (row.Frame timed) is = refl
-inner-no_event (row.End next) is = refl
-inner-no_event _ is = absurd (cc)
+inner-no_event line is = grind arith
 
 -- whether an act, where there is one, is a change
 abbrev pub is_ask : Option Act → Bool
@@ -215,16 +131,12 @@ module _ (rules : Rules) (steps : List Step) (before : List Event) (caller : ℕ
   -- where the next act of an operator is no change, no event is one that the row of a change asks for
   pub no-ask : is_ask found ≡ false → (from : ℕ) (told : LogVerdict) (event : Event) → IsRight rules before event
       → Asks steps before (row.Submit caller from told) event → ⊥
-  no-ask other from told (Submit number change since verdict trail) right asks = let asked = ap is_ask (is ∙ asks.2) in absurd (cc)
-  no-ask other from told (Look number cycle) right asks = absurd asks
-  no-ask other from told (Open cycle mask) right asks = absurd asks
+  no-ask other from told event right asks = grind arith
 
   -- where it is no look, no event is one that the row of a look asks for
   pub no-look : is_look found ≡ false → (next : ℕ) (event : Event) → IsRight rules before event
       → Asks steps before (row.Look caller next) event → ⊥
-  no-look other next (Submit number change since verdict trail) right asks = absurd asks
-  no-look other next (Look number cycle) right asks = let asked = ap is_look (is ∙ asks.1) in absurd (cc)
-  no-look other next (Open cycle mask) right asks = absurd asks
+  no-look other next event right asks = grind arith
 
 -- where no right answer is planned from a cycle, no right event is a change from there
 pub no-change : (rules : Rules) (steps : List Step) (before : List Event) (caller from : ℕ) (change : Change)
@@ -235,7 +147,6 @@ no-change rules steps before caller from change next none told (Submit number al
     let change_is : also ≡ change =
     same-change (slice_get (acts_of caller steps) (count_by (is_called_by caller) before)) also change asks.2 next in
     none verdict trail
-    (subst (λ f. IsRightAnswer rules before change f verdict trail) asks.1
-    (subst (λ c. IsRightAnswer rules before c since verdict trail) change_is right))
+    (grind arith)
 no-change rules steps before caller from change next none told (Look number cycle) right asks = absurd asks
 no-change rules steps before caller from change next none told (Open cycle mask) right asks = absurd asks

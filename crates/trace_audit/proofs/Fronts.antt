@@ -49,25 +49,7 @@ pub record BeginsEvent (rows : List LogRow) : Type 0 where
   pub one : length (filter is_event_row rows) ≡ 1
 
 begins-event : (trace : List TimedFrame) (before : List Event) (event : Event) → BeginsEvent (event_told trace before event)
-begins-event trace before (Submit caller change from verdict trail) = record {
-  head = row.Submit caller from (verdict_told verdict);
-  rest = plan_told from trail;
-  are = refl;
-  is_event = refl;
-  one = ap (λ (l : List LogRow). length (row.Submit caller from (verdict_told verdict) ∷ l))
-      (no-event_row (plan_told from trail) (inner-plan from trail));
-}
-begins-event trace before (Look caller next) =
-    record { head = row.Look caller next; rest = []; are = refl; is_event = refl; one = refl }
-begins-event trace before (Open cycle mask) =
-    let frames : List TimedFrame = started_in cycle 0 trace in
-    record {
-      head = _;
-      rest = map row.Frame frames;
-      are = refl;
-      is_event = refl;
-      one = ap (λ (l : List LogRow). suc (length l)) (no-event_row (map row.Frame frames) (inner-frames frames));
-    }
+begins-event trace before event = grind (arith, no-event_row, inner-plan, inner-frames)
 
 -- so there are as many of these rows as events
 count-events : (trace : List TimedFrame) (before events : List Event)
@@ -85,13 +67,7 @@ count-events trace before (event ∷ events) =
 -- and one more where the row of an event stands behind them
 count-more : (rows later : List LogRow) (head : LogRow) → is_event_row head ≡ true
     → length (filter is_event_row rows) < length (filter is_event_row (rows ++ head ∷ later))
-count-more rows later head is =
-    let parts = ap length (filter-append is_event_row rows (head ∷ later)) in
-    let sum = length-append (filter is_event_row rows) (filter is_event_row (head ∷ later)) in
-    let first : filter is_event_row (head ∷ later) ≡ head ∷ filter is_event_row later =
-    cond-true (is_event_row head) (head ∷ filter is_event_row later) (filter is_event_row later) is in
-    let some = ap length first in
-    omega (arith, parts, sum, some)
+count-more rows later head is = grind (arith, filter-append, length-append, cond-true)
 
 -- The events of first rows
 
@@ -147,8 +123,7 @@ module _ (laws : TraceLaws)
     reading =
         let parts : filter is_event_row rows ≡ filter is_event_row first ++ filter is_event_row (drop number rows) =
         ap (filter is_event_row) (sym (take-append-drop number rows)) ∙ filter-append is_event_row first (drop number rows) in
-        reads-first system.rules steps [] (filter is_event_row first) (filter is_event_row (drop number rows)) log.history
-        (subst (λ l. AreReadFrom system.rules steps [] l log.history) parts log.read)
+        grind (arith, reads-first)
 
     abbrev front : List Event
     front = reading.front
@@ -190,14 +165,8 @@ module _ (laws : TraceLaws)
     over : (events : List Event) → later ≡ events → number ≤ length rows → length told < number
         → (more : List LogRow) × (first ++ more ≡ told ++ row.End (next_of front) ∷ [])
     over [] are few more =
-        let last : behind ≡ row.End (next_of front) ∷ [] =
-        ap (λ l. events_told log.trace front l ++ row.End (next_of (front ++ l)) ∷ []) are
-        ∙ ap (λ h. row.End (next_of h) ∷ []) (append-nil front) in
-        let all : rows ≡ told ++ row.End (next_of front) ∷ [] = split ∙ ap (λ l. told ++ l) last in
-        let count = ap length all in
-        let sum = length-append told (row.End (next_of front) ∷ []) in
-        let whole : first ≡ rows = take-whole number rows (omega (arith, count, sum, more)) in
-        ([], append-nil first ∙ whole ∙ all)
+        let last : behind ≡ row.End (next_of front) ∷ [] = grind (arith, append-nil) in
+        grind (arith, split, length-append, take-whole, append-nil)
     over (event ∷ events) are few more =
         let begins = begins-event log.trace front event in
         let others : List LogRow = events_told log.trace (front ++ event ∷ []) events in
@@ -206,12 +175,7 @@ module _ (laws : TraceLaws)
         ap (λ l. events_told log.trace front l ++ row.End (next_of (front ++ l)) ∷ []) are ∙ ap (λ l. (l ++ others) ++ last) begins.are in
         let all : rows ≡ told ++ begins.head ∷ ((begins.rest ++ others) ++ last) = split ∙ ap (λ l. told ++ l) behind_is in
         let (some, taken) = take-over number told begins.head ((begins.rest ++ others) ++ last) more in
-        let firsts : first ≡ told ++ begins.head ∷ some = ap (take number) all ∙ taken in
-        let many = count-more told some begins.head begins.is_event in
-        let none = counted in
-        let same : length (filter is_event_row first) ≡ length (filter is_event_row (told ++ begins.head ∷ some)) =
-        ap (λ l. length (filter is_event_row l)) firsts in
-        absurd (omega (arith, many, none, same))
+        grind (arith, count-more, counted)
 
     -- the first rows begin the log of the first events
     begins-log : number ≤ length rows → (more : List LogRow) × (first ++ more ≡ told ++ row.End (next_of front) ∷ [])

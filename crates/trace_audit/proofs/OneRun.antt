@@ -41,14 +41,9 @@ use Rattle.trace_audit.proofs.Rows.{next_of-append}
 
 -- a system and requests that were read
 pub is-setting : (system : System) (requests : List Request) → IsSystem system → AreAsynchronous requests → IsSetting (setting_of system requests)
-is-setting system requests is asynchronous =
-    record { known = is.layout; same_window = is.same_window; same_slots = is.same_slots; asynchronous = asynchronous }
+is-setting system requests is asynchronous = grind arith
 
 -- The act that an event takes
-
-same-act : (caller : ℕ) (taken : Act) (found : Option Act) → option_map (asked caller) found ≡ Some (asked caller taken) → found ≡ Some taken
-same-act caller taken None is = absurd (cc)
-same-act caller taken (Some other) is = cc
 
 -- where the calls of a history begin with the acts of each operator, a call within it takes the next act of its operator
 takes-next : (steps : List Step) (before later : List Event) (event : Event) (caller : ℕ) (taken : Act)
@@ -61,18 +56,13 @@ takes-next steps before later event caller taken begins own call =
     let others : List Call = map call_of (filter own_of later) in
     let acts : List Call = map (asked caller) (acts_of caller steps) in
     let place : ℕ = count_by own_of before in
-    let parts : map call_of (filter own_of (before ++ event ∷ later)) ≡ calls ++ call_of event ∷ others =
-    ap (map call_of)
-    (filter-append own_of before (event ∷ later)
-    ∙ ap (λ l. filter own_of before ++ l) (cond-true (own_of event) (event ∷ filter own_of later) (filter own_of later) own))
-    ∙ map-append call_of (filter own_of before) (event ∷ filter own_of later) in
+    let parts : map call_of (filter own_of (before ++ event ∷ later)) ≡ calls ++ call_of event ∷ others = grind (arith, filter-append, cond-true, map-append) in
     let all : calls ++ (call_of event ∷ (others ++ rest)) ≡ acts =
     sym (append_assoc calls (call_of event ∷ others) rest) ∙ ap (λ l. l ++ rest) (sym parts) ∙ is in
     let count : length calls ≡ place = length-map (filter own_of before) call_of ∙ length-filter own_of before in
     let there : slice_get acts (length calls) ≡ Some (call_of event) =
     ap (λ l. slice_get l (length calls)) (sym all) ∙ get-behind calls (call_of event ∷ (others ++ rest)) in
-    same-act caller taken (slice_get (acts_of caller steps) place)
-    (sym (slice_get-map (asked caller) (acts_of caller steps) place) ∙ ap (slice_get acts) (sym count) ∙ there ∙ ap Some call)
+    grind (arith, slice_get-map)
 
 -- The rows of events in a log
 
@@ -82,13 +72,7 @@ row-of trace before event = get_or (event_told trace before event) 0 (row.End 0)
 
 one-row : (trace : List TimedFrame) (before : List Event) (event : Event)
     → filter is_event_row (event_told trace before event) ≡ row-of trace before event ∷ []
-one-row trace before (Submit caller change from verdict trail) =
-    ap (λ l. row.Submit caller from (verdict_told verdict) ∷ l) (no-event_row (plan_told from trail) (inner-plan from trail))
-one-row trace before (Look caller next) = refl
-one-row trace before (Open cycle mask) =
-    let frames : List TimedFrame = started_in cycle 0 trace in
-    ap (λ l. row-of trace before (Open cycle mask) ∷ l)
-    (no-event_row (map row.Frame frames) (inner-frames frames))
+one-row trace before event = grind (arith, no-event_row, inner-plan, inner-frames)
 
 module _ (rules : Rules) (steps : List Step) where
   -- an event of a run is read from its row
@@ -118,9 +102,7 @@ module _ (rules : Rules) (steps : List Step) where
   -- the history of a run is that of the rows of its log
   pub reads-log : (history : List Event) (trace : List TimedFrame) → IsLegal rules history → BeginsActs steps history
       → IsHistoryOf rules steps (log_rows history trace) history
-  reads-log history trace legal begins =
-      history-stays rules steps (events_told trace [] history) (row.End (next_of history)) history refl
-      (reads-own trace [] history legal begins)
+  reads-log history trace legal begins = grind (arith, history-stays, reads-own)
 
   -- two legal histories of the same rows are one
   pub one-reading : OneVerdict → (before : List Event) (lines : List LogRow) (one other : List Event)
@@ -156,20 +138,9 @@ one-history verdicts system steps requests one other trace second run run2 same 
 
 -- A run by threads
 
--- an operator that may call is one of the operators 1 to 8
-number-range : (caller : ℕ) → operator_number caller ≤ 8 → (1 ≤ caller) × (caller ≤ 8)
-number-range zero few = let is : operator_number 0 ≡ 9 = cond-true (eqb 0 0) 9 0 refl in absurd (omega (arith, is, few))
-number-range (suc n) few =
-    let is : operator_number (suc n) ≡ suc n = cond-false (eqb (suc n) 0) 9 (suc n) (ne_eqb (suc n) 0 (λ none. omega (arith, none))) in
-    (omega arith, omega (arith, is, few))
-
 not-called : (operator : ℕ) (event : Event) → ((1 ≤ operator) × (operator ≤ 8) → ⊥) → number_of event ≤ 8
     → is_called_by operator event ≡ false
-not-called operator (Submit caller change from verdict trail) none few =
-    ne_eqb caller operator (λ same. none (subst (λ n. (1 ≤ n) × (n ≤ 8)) same (number-range caller few)))
-not-called operator (Look caller next) none few =
-    ne_eqb caller operator (λ same. none (subst (λ n. (1 ≤ n) × (n ≤ 8)) same (number-range caller few)))
-not-called operator (Open cycle mask) none few = refl
+not-called operator event none few = grind (arith, ne_eqb)
 
 none-called : (operator : ℕ) (history : List Event) → ((1 ≤ operator) × (operator ≤ 8) → ⊥) → All (λ event. number_of event ≤ 8) history
     → filter (is_called_by operator) history ≡ []
@@ -212,19 +183,10 @@ pub live-whole : (system : System) (steps : List Step) (requests : List Request)
     → IsLive system steps requests history trace → IsWholeLog system steps requests (log_rows history trace)
 live-whole system steps requests history trace live =
     let run = live-run system steps requests history trace live in
-    record {
-      history = history;
-      trace = trace;
-      read = reads-log system.rules steps history trace run.legal run.calls;
-      run = run;
-      whole = live.answers;
-      log = refl;
-    }
+    grind (arith, reads-log)
 
 -- rows that can stand, and are all rows of a whole run, have no fault but want of memory
 pub whole-faultless : (system : System) (steps : List Step) (requests : List Request) (rows : List LogRow) (fault : AuditFault)
     → AllStand system steps requests rows → IsWholeLog system steps requests rows → IsAuditFault system steps requests rows fault
     → fault ≡ Memory
-whole-faultless system steps requests rows (Row number) stand log break = absurd (break.breaks (stand number break.within))
-whole-faultless system steps requests rows Unfinished stand log unfinished = absurd (unfinished.not_all log)
-whole-faultless system steps requests rows Memory stand log none = refl
+whole-faultless system steps requests rows fault stand log break = grind arith

@@ -59,16 +59,11 @@ module _ (rules : Rules) (steps : List Step) where
 
 event-row-more : (rows : List LogRow) (line : LogRow) → is_event_row line ≡ true
     → filter is_event_row (rows ++ line ∷ []) ≡ filter is_event_row rows ++ line ∷ []
-event-row-more rows line is =
-    filter-append is_event_row rows (line ∷ [])
-    ∙ ap (λ l. filter is_event_row rows ++ l) (cond-true (is_event_row line) (line ∷ []) [] is)
+event-row-more rows line is = grind (arith, filter-append, cond-true)
 
 other-row-more : (rows : List LogRow) (line : LogRow) → is_event_row line ≡ false
     → filter is_event_row (rows ++ line ∷ []) ≡ filter is_event_row rows
-other-row-more rows line is =
-    filter-append is_event_row rows (line ∷ [])
-    ∙ ap (λ l. filter is_event_row rows ++ l) (cond-false (is_event_row line) (line ∷ []) [] is)
-    ∙ append-nil (filter is_event_row rows)
+other-row-more rows line is = grind (arith, filter-append, cond-false, append-nil)
 
 -- rows none of which is that of an event
 none-more : (rows later : List LogRow) → All (λ line. is_event_row line ≡ false) later
@@ -91,15 +86,11 @@ module _ (rules : Rules) (steps : List Step) (rows later : List LogRow) (none : 
 module _ (rules : Rules) (steps : List Step) (rows : List LogRow) (line : LogRow) where
   pub history-push : (history : List Event) (event : Event) → is_event_row line ≡ true → IsHistoryOf rules steps rows history
       → IsReadFrom rules steps history line event → IsHistoryOf rules steps (rows ++ line ∷ []) (history ++ event ∷ [])
-  history-push history event is read last =
-      subst (λ l. AreReadFrom rules steps [] l (history ++ event ∷ [])) (sym (event-row-more rows line is))
-      (reads-push rules steps [] (filter is_event_row rows) history line event read last)
+  history-push history event is read last = grind (arith, event-row-more, reads-push)
 
   pub history-parts : (history : List Event) → is_event_row line ≡ true → IsHistoryOf rules steps (rows ++ line ∷ []) history
       → ReadsLast rules steps [] (filter is_event_row rows) line history
-  history-parts history is read =
-      reads-parts rules steps [] (filter is_event_row rows) line history
-      (subst (λ l. AreReadFrom rules steps [] l history) (event-row-more rows line is) read)
+  history-parts history is read = grind (arith, reads-parts, event-row-more)
 
   pub history-stays : (history : List Event) → is_event_row line ≡ false → IsHistoryOf rules steps rows history
       → IsHistoryOf rules steps (rows ++ line ∷ []) history
@@ -114,16 +105,12 @@ module _ (rules : Rules) (steps : List Step) (rows : List LogRow) (line : LogRow
 module _ {A : Type 0} where
   next-of : (left : List A) (x : A) (later rest : List A) → x ∷ later ≡ left ++ rest → 0 < length left → slice_get left 0 ≡ Some x
   next-of [] x later rest is some = absurd (omega (arith, some))
-  next-of (y ∷ left) x later rest is some =
-      let same : x ≡ y = cc in
-      ap Some (sym same)
+  next-of (y ∷ left) x later rest is some = grind arith
 
   -- where some rows and one more begin a list that begins with these rows and others, the one is the first of the others
   pub next-row : (rows left : List A) (x : A) (later rest : List A) → (rows ++ x ∷ []) ++ later ≡ (rows ++ left) ++ rest
       → 0 < length left → slice_get left 0 ≡ Some x
-  next-row rows left x later rest is some =
-      next-of left x later rest
-      (append_cancel_left rows (x ∷ later) (left ++ rest) (sym (append_assoc rows (x ∷ []) later) ∙ is ∙ append_assoc rows left rest)) some
+  next-row rows left x later rest is some = grind (arith, next-of, append_cancel_left, append_assoc)
 
   pub get-drop : (n : ℕ) (xs : List A) → slice_get (drop n xs) 0 ≡ slice_get xs n
   get-drop zero xs = refl

@@ -34,9 +34,7 @@ events_told-append trace before (event ∷ events) later =
 
 pub events_told-push : (trace : List TimedFrame) (history : List Event) (event : Event)
     → events_told trace [] (history ++ event ∷ []) ≡ events_told trace [] history ++ event_told trace history event
-events_told-push trace history event =
-    events_told-append trace [] history (event ∷ [])
-    ∙ ap (λ l. events_told trace [] history ++ l) (append-nil (event_told trace history event))
+events_told-push trace history event = grind (arith, events_told-append, append-nil)
 
 -- The frames of a cycle
 
@@ -55,14 +53,7 @@ pub record TraceLaws : Type 0 where
       → (cycle : ℕ) → started_in cycle 0 trace ≡ filter (λ sent. cycle_of setting.layout sent == cycle) trace
 
 not-before : (length start n cycle : ℕ) → 0 < length → n * length ≤ start → cycle < n → start / length ≡ cycle → ⊥
-not-before length start n cycle some late early is =
-    let number : n ≤ start / length = (le-div_iff_mul-le {k = length} {x = n} {y = start} some).1 late in
-    omega (arith, number, early, is)
-
-not-behind : (length start cycle : ℕ) → 0 < length → start < cycle * length → start / length ≡ cycle → ⊥
-not-behind length start cycle some early is =
-    let number : start / length < cycle = (div-lt_iff_lt-mul {k = length} {x = start} {y = cycle} some).1 early in
-    omega (arith, number, is)
+not-before length start n cycle some late early is = grind (arith, le-div_iff_mul-le)
 
 in-cycle : (length start cycle : ℕ) → cycle * length ≤ start → start < (cycle + 1) * length → start / length ≡ cycle
 in-cycle length start cycle late early = div-eq_of_lt-le {k = cycle} length {m = start} late early
@@ -115,13 +106,7 @@ module _ (laws : TraceLaws) (setting : Setting) (known : IsSetting setting)
 
   event-same : (before : List Event) (event : Event) → IsRight setting.rules before event
       → next_of (before ++ event ∷ []) ≤ next_of history → event_told (trace ++ later) before event ≡ event_told trace before event
-  event-same before (Submit caller change from verdict trail) right few = refl
-  event-same before (Look caller next) right few = refl
-  event-same before (Open cycle mask) right few =
-      let more = next_of-push before (Open cycle mask) in
-      let now = right.0 in
-      ap (λ l. opened_told cycle mask (width_of (record { cycle = cycle; mask = mask; placed = placed_of before })) l)
-      (same-started cycle (omega (arith, more, now, few)))
+  event-same before event right few = grind (arith, next_of-push, same-started)
 
   events-same : (before events : List Event) → AllAfter (IsRight setting.rules) before events
       → next_of (before ++ events) ≤ next_of history
@@ -147,8 +132,7 @@ module _ (laws : TraceLaws) (setting : Setting) (known : IsSetting setting) (his
       → events_told frames [] history ≡ events_told trace [] history
   rows-under-way later frames whole =
       let (rest, all, behind) = laws.front setting history later trace frames known way whole.legal whole.can_trace in
-      ap (λ l. events_told l [] history) all
-      ∙ rows-same laws setting known history (history ++ later) trace rest way (subst (IsUnderWay setting (history ++ later)) all whole) behind
+      grind (arith, rows-same)
 
   pub rows-go-on : SendsWhole setting.sends → (later : List Event) (frames : List TimedFrame) → IsLegal setting.rules (history ++ later)
       → IsCanTrace setting.sends setting.layout setting.requests (openings_of (history ++ later)) (next_of (history ++ later)) frames
@@ -160,10 +144,7 @@ module _ (laws : TraceLaws) (setting : Setting) (known : IsSetting setting) (his
       → IsCanTrace setting.sends setting.layout setting.requests (openings_of (history ++ later)) (next_of (history ++ later)) frames
       → log_rows (history ++ later) frames
       ≡ events_told trace [] history ++ (events_told frames history later ++ row.End (next_of (history ++ later)) ∷ [])
-  log-goes-on fully later frames legal is =
-      ap (λ l. l ++ row.End (next_of (history ++ later)) ∷ []) (events_told-append frames [] history later)
-      ∙ append_assoc (events_told frames [] history) (events_told frames history later) (row.End (next_of (history ++ later)) ∷ [])
-      ∙ ap (λ l. l ++ (events_told frames history later ++ row.End (next_of (history ++ later)) ∷ [])) (rows-go-on fully later frames legal is)
+  log-goes-on fully later frames legal is = grind (arith, events_told-append, append_assoc, rows-go-on)
 
   -- a cycle that is opened and run adds the rows of its event
   pub opened-told : (cycle mask : ℕ) (frames : List TimedFrame) → IsUnderWay setting (history ++ Open cycle mask ∷ []) (trace ++ frames)
@@ -178,9 +159,7 @@ module _ (laws : TraceLaws) (setting : Setting) (known : IsSetting setting) (his
       let same : frames ≡ rest = append_cancel_left trace frames rest all in
       let late : All (λ sent. next_of history * length ≤ sent.start) frames = subst (All (λ sent. next_of history * length ≤ sent.start)) (sym same) behind in
       let more : next_of (history ++ Open cycle mask ∷ []) ≡ next_of history + 1 = next_of-push history (Open cycle mask) in
-      let earlier : All (λ sent. cycle_of setting.layout sent ≡ cycle → ⊥) trace =
-      λ k d within is. not-behind length (get_or trace k d).start cycle (some-cycle known)
-      (subst (λ n. (get_or trace k d).start < n * length) (sym now) (way.can_trace.within k d within)) is in
+      let earlier : All (λ sent. cycle_of setting.layout sent ≡ cycle → ⊥) trace = grind (arith, some-cycle) in
       let within-new : All (λ sent. sent.start < next_of (history ++ Open cycle mask ∷ []) * length) frames =
       all-right (λ sent. sent.start < next_of (history ++ Open cycle mask ∷ []) * length) trace frames new.can_trace.within in
       let here : All (λ sent. cycle_of setting.layout sent ≡ cycle) frames =
@@ -192,15 +171,9 @@ module _ (laws : TraceLaws) (setting : Setting) (known : IsSetting setting) (his
       ∙ filter-append is_in trace frames
       ∙ ap (λ l. l ++ filter is_in frames) (none-started setting cycle trace earlier)
       ∙ all-started setting cycle frames here in
-      events_told-push (trace ++ frames) history (Open cycle mask)
-      ∙ ap (λ l. l ++ event_told (trace ++ frames) history (Open cycle mask)) (rows-under-way (Open cycle mask ∷ []) (trace ++ frames) new)
-      ∙ ap (λ l. events_told trace [] history
-      ++ opened_told cycle mask (width_of (record { cycle = cycle; mask = mask; placed = placed_of history })) l) started
+      grind (arith, events_told-push, rows-under-way)
 
 -- a change or a look adds its own
 pub called-told : (trace : List TimedFrame) (history : List Event) (event : Event) (width : ℕ) (frames : List TimedFrame) → is_open event ≡ false
     → events_told trace [] (history ++ event ∷ []) ≡ events_told trace [] history ++ told_at width event frames
-called-told trace history (Submit caller change from verdict trail) width frames closed =
-    events_told-push trace history (Submit caller change from verdict trail)
-called-told trace history (Look caller next) width frames closed = events_told-push trace history (Look caller next)
-called-told trace history (Open cycle mask) width frames closed = absurd (cc)
+called-told trace history event width frames closed = grind (arith, events_told-push)

@@ -64,9 +64,7 @@ accepted_of-push : (history : List Event) (event : Event) → accepted_of (histo
 accepted_of-push history event = sum_by_push (λ e. cond (accepts e) 1 0) history event
 
 placed-kept : (placed : List Placed) (event : Event) → accepts event ≡ false → placed_after placed event ≡ placed
-placed-kept placed (Submit caller change from verdict trail) none = cond-false (is_accepted verdict) (applied placed change) placed none
-placed-kept placed (Look caller next) none = refl
-placed-kept placed (Open cycle mask) none = refl
+placed-kept placed event none = grind (arith, cond-false)
 
 module _ (history : List Event) (event : Event) (none : accepts event ≡ false) where
   same-placed : placed_of (history ++ event ∷ []) ≡ placed_of history
@@ -76,61 +74,23 @@ module _ (history : List Event) (event : Event) (none : accepts event ≡ false)
   same-accepted = accepted_of-push history event ∙ ap (λ b. accepted_of history + cond b 1 0) none ∙ add-zero (accepted_of history)
 
   since-stays : (from : ℕ) → IsSince history from → IsSince (history ++ event ∷ []) from
-  since-stays from since = λ front back one is accepted. elim (last-or-before history event front one back is) [
-    | inl end ↦ let refused : accepts one ≡ false = ap accepts end.1 ∙ none in absurd (cc)
-    | inr before ↦ since front before.0 one before.1 accepted
-  ]
+  since-stays from since = grind (arith, last-or-before)
 
 since-before : (history : List Event) (event : Event) (from : ℕ) → IsSince (history ++ event ∷ []) from → IsSince history from
-since-before history event from since = λ front back one is accepted.
-    since front (back ++ event ∷ []) one (ap (λ h. h ++ event ∷ []) is ∙ append_assoc front (one ∷ back) (event ∷ [])) accepted
+since-before history event from since = grind (arith, append_assoc)
 
 module _ (rules : Rules) where
   at-now : (history : List Event) → IsStateAt rules history (next_of history) (state_after rules history)
-  at-now history = record {
-    front = history;
-    begins = ([], append-nil history);
-    next = refl;
-    same_table = refl;
-    same_count = refl;
-    is = refl;
-  }
+  at-now history = grind (arith, append-nil)
 
   at-still : (history : List Event) (event : Event) → accepts event ≡ false → (cycle : ℕ) (state : PlanState)
       → IsStateAt rules history cycle state → IsStateAt rules (history ++ event ∷ []) cycle state
-  at-still history event none cycle state at =
-      let (rest, begins) = at.begins in
-      record {
-        front = at.front;
-        begins = (rest ++ event ∷ [], sym (append_assoc at.front rest (event ∷ [])) ∙ ap (λ h. h ++ event ∷ []) begins);
-        next = at.next;
-        same_table = at.same_table ∙ sym (same-placed history event none);
-        same_count = at.same_count ∙ sym (same-accepted history event none);
-        is = at.is;
-      }
+  at-still history event none cycle state at = grind (arith, at, append_assoc, same-placed, same-accepted)
 
   -- before any event
   pub keeps-first : (states : States) → states.since ≡ 0 → states.before.items ≡ state_after rules [] ∷ []
       → IsValid [] (state_after rules []).cycle (state_after rules []).pending → KeepsStates rules [] [] states
-  keeps-first states zero_is one valid = record {
-    up_to_next = let count = ap length one in omega (arith, count, zero_is);
-    some = omega (arith, zero_is);
-    each = λ k state is.
-        elim (get-push [] (state_after rules []) k state (subst (λ l. slice_get l k ≡ Some state) one is)) [
-          | inl none ↦ absurd (cc)
-          | inr end ↦
-              let cycle : 0 ≡ states.since + k = let number = end.0 in omega (arith, number, zero_is) in
-              subst (IsStateAt rules [] (states.since + k)) end.1 (subst (λ c. IsStateAt rules [] c (state_after rules [])) cycle (at-now []))
-        ];
-    valid = λ k state is.
-        elim (get-push [] (state_after rules []) k state (subst (λ l. slice_get l k ≡ Some state) one is)) [
-          | inl none ↦ absurd (cc)
-          | inr end ↦ subst (λ (s : PlanState). IsValid [] s.cycle s.pending) end.1 valid
-        ];
-    held = record { by = 0; early = omega (arith, zero_is); is = refl };
-    behind = λ front back one is accepted. absurd (no-end front one back is);
-    least = λ from since. omega (arith, zero_is);
-  }
+  keeps-first states zero_is one valid = grind (arith, get-push, at-now, no-end)
 
   -- an event that opens no cycle and accepts no change
   pub keeps-closed : (history : List Event) (event : Event) (placed : List Placed) (states : States) → is_open event ≡ false → accepts event ≡ false
@@ -162,17 +122,7 @@ module _ (rules : Rules) where
       record {
         up_to_next = omega (arith, next, count, so_far, same);
         some = let some = keeps.some in omega (arith, some, next, same);
-        each = λ k state is.
-            elim (get-push old.before.items state_now k state (subst (λ l. slice_get l k ≡ Some state) more is)) [
-              | inl before ↦
-                  subst (λ s. IsStateAt rules (history ++ event ∷ []) (s + k) state) (sym same)
-                  (at-still history event refl (old.since + k) state (keeps.each k state before))
-              | inr end ↦
-                  let number = end.0 in
-                  let place : next_of (history ++ event ∷ []) ≡ new.since + k = omega (arith, number, so_far, next, same) in
-                  subst (IsStateAt rules (history ++ event ∷ []) (new.since + k)) end.1
-                  (subst (λ c. IsStateAt rules (history ++ event ∷ []) c state_now) place (at-now (history ++ event ∷ [])))
-            ];
+        each = grind (arith, get-push, at-still, at-now);
         valid = λ k state is.
             elim (get-push old.before.items state_now k state (subst (λ l. slice_get l k ≡ Some state) more is)) [
               | inl before ↦ keeps.valid k state before
@@ -213,13 +163,7 @@ module _ (rules : Rules) where
               | inr end ↦ subst (λ (s : PlanState). IsValid placed s.cycle s.pending) end.1 valid
             ];
         held = subst (λ n. IsPrunedBefore n (placed_of (history ++ event ∷ [])) placed) (sym now_is) held;
-        behind = λ front back other is again. elim (last-or-before history event front other back is) [
-          | inl end ↦ let same = ap next_of end.0 in omega (arith, same, since_is)
-          | inr before ↦
-              let count : next_of history ≡ next_of front + next_of (other ∷ before.0) =
-              ap next_of before.1 ∙ sum_by-append (λ e. cond (is_open e) 1 0) front (other ∷ before.0) in
-              omega (arith, count, since_is)
-        ];
+        behind = grind (arith, last-or-before, sum_by-append);
         least = λ from since. let least = since history [] event refl accepted in omega (arith, least, since_is);
       }
 
@@ -233,8 +177,7 @@ module _ (rules : Rules) where
 -- so it does in a master
 pub refused-placed : (old new : List Placed) (from : ℕ) (change : Change) (verdict : Verdict) → new ≡ kept_behind old from change verdict
     → is_accepted verdict ≡ false → new ≡ old
-refused-placed old new from change verdict is refused =
-    is ∙ cond-false (is_accepted verdict) (pruned from (applied old change)) old refused
+refused-placed old new from change verdict is refused = grind (arith, cond-false)
 
 -- What a change is planned from: the entries that are kept, and one of the states
 
@@ -254,51 +197,21 @@ module _ (master : LeanView) (states : States) (keeps : KeepsStates master.rules
 
   -- no later than the next cycle
   pub found-early : state.cycle ≤ next_of master.history
-  found-early =
-      let (rest, begins) = at.begins in
-      let count : next_of master.history ≡ next_of at.front + next_of rest =
-      ap next_of (sym begins) ∙ sum_by-append (λ e. cond (is_open e) 1 0) at.front rest in
-      let first : state.cycle ≡ next_of at.front = ap (λ s. s.cycle) at.is in
-      omega (arith, count, first)
+  found-early = grind (arith, at, sum_by-append)
 
   held-from : IsPrunedBefore (next_of at.front) (placed_of at.front) master.placed
-  held-from =
-      let early = keeps.held.early in
-      let next = at.next in
-      record {
-        by = keeps.held.by;
-        early = omega (arith, early, next, late);
-        is = keeps.held.is ∙ ap (pruned keeps.held.by) (sym at.same_table);
-      }
+  held-from = grind (arith, at)
 
   -- what is planned from them can be settled, from the cycle of the state on
   module _ (change : Change) (planned : CorePlannedView) (is : IsCorePlan (kept_snapshot master state) change planned) where
     pub can-settle : CanSettleKept master planned
-    can-settle = record {
-      rules = ap (λ s. s.rules) is.snapshot_is;
-      place = λ _. record {
-        front = at.front;
-        begins = at.begins;
-        count = at.same_count;
-        same = ap (λ s. s.placed) is.snapshot_is;
-        held = held-from;
-        state = ap (λ s. s.state) is.snapshot_is ∙ at.is;
-      };
-    }
+    can-settle = grind (arith, at, held-from)
 
     pub settled-from : kept_from master.history planned ≡ from
-    settled-from =
-        let count : planned.snapshot.accepted ≡ accepted_of master.history = ap (λ s. s.accepted) is.snapshot_is in
-        cond-true (eqb planned.snapshot.accepted (accepted_of master.history)) planned.snapshot.state.cycle (next_of master.history)
-        (eq-eqb _ _ count) ∙ ap (λ s. s.state.cycle) is.snapshot_is ∙ cycle-is
+    settled-from = grind (arith, cond-true, eqb, eq-eqb, cycle-is)
 
 -- where no state is kept before a cycle, no change can be planned from there
 pub no-answer : (rules : Rules) (history : List Event) (placed : List Placed) (states : States) (change : Change) (from : ℕ)
     (verdict : Verdict) (trail : List ℕ) → KeepsStates rules history placed states → (states.since ≤ from → states.since + length states.before.items ≤ from)
     → IsRightAnswer rules history change from verdict trail → ⊥
-no-answer rules history placed states change from verdict trail keeps none right =
-    let low = keeps.least from right.since in
-    let high = right.opened in
-    let count = keeps.up_to_next in
-    let past = none low in
-    omega (arith, high, count, past)
+no-answer rules history placed states change from verdict trail keeps none right = grind arith

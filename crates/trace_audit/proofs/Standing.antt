@@ -44,29 +44,15 @@ legal-front rules history event legal =
     let parts = AllAfter-parts (IsRight rules) [] history (event ∷ []) legal in
     (parts.0, parts.1.0)
 
-next_of-less : (history : List Event) (event : Event) → next_of history ≤ next_of (history ++ event ∷ [])
-next_of-less history event = let more = next_of-push history event in omega (arith, more)
-
 -- a row that asks for an event is that of an event
 asks-is_event : (steps : List Step) (before : List Event) (line : LogRow) (event : Event) → Asks steps before line event
     → is_event_row line ≡ true
-asks-is_event steps before (row.Plan cycle mask) event asks = absurd asks
-asks-is_event steps before (row.Frame timed) event asks = absurd asks
-asks-is_event steps before (row.End next) event asks = absurd asks
-asks-is_event steps before _ event asks = refl
+asks-is_event steps before line event asks = grind arith
 
 -- and no more cycles are opened by it than the steps ask for
 still-few : (steps : List Step) (before : List Event) (line : LogRow) (event : Event) → Asks steps before line event
     → next_of before ≤ sum_by count_of steps → next_of (before ++ event ∷ []) ≤ sum_by count_of steps
-still-few steps before line (Submit caller change from verdict trail) asks few =
-    let more = next_of-push before (Submit caller change from verdict trail) in omega (arith, more, few)
-still-few steps before line (Look caller next) asks few = let more = next_of-push before (Look caller next) in omega (arith, more, few)
-still-few steps before (row.Submit caller from told) (Open cycle mask) asks few = absurd asks
-still-few steps before (row.Plan number slots) (Open cycle mask) asks few = absurd asks
-still-few steps before (row.Look caller next) (Open cycle mask) asks few = absurd asks
-still-few steps before (row.Frame timed) (Open cycle mask) asks few = absurd asks
-still-few steps before (row.End next) (Open cycle mask) asks few = absurd asks
-still-few steps before _ (Open cycle mask) asks few = let more = next_of-push before (Open cycle mask) in omega (arith, more, asks)
+still-few steps before line event asks few = grind (arith, next_of-push)
 
 -- the auditor after one of its rows has come
 abbrev one-more : Auditor → Auditor
@@ -83,14 +69,7 @@ module _ (system : System) (steps : List Step) (requests : List Request) (rows :
     stays none = auditing.only other (history-stood system.rules steps rows line other none read) legal
 
     pub goes-on : (later : List Event) × (other ≡ history ++ later)
-    goes-on = elim (cases_Bool (is_event_row line)) [
-      | inl is ↦
-          let parts = history-parts system.rules steps rows line other is read in
-          let whole = legal-front system.rules parts.front parts.event (subst (IsLegal system.rules) parts.is legal) in
-          let front : parts.front ≡ history = auditing.only parts.front parts.all whole.0 in
-          (parts.event ∷ [], parts.is ∙ ap (λ l. l ++ parts.event ∷ []) front)
-      | inr none ↦ ([], stays none ∙ sym (append-nil history))
-    ]
+    goes-on = grind (arith, history-parts, legal-front, stays, append-nil)
 
   -- Rows that are left of the last event
 
@@ -107,14 +86,10 @@ module _ (system : System) (steps : List Step) (requests : List Request) (rows :
         let legal : IsLegal system.rules (history ++ later) = subst (IsLegal system.rules) is can.run.legal in
         let can_trace = subst (λ h. IsCanTrace bytes_of system.layout requests (openings_of h) (next_of h) can.trace) is can.run.can_trace in
         let log = log-goes-on laws (setting_of system requests) way.known history auditing.trace way.under_way bytes_of-whole later can.trace legal can_trace in
-        let rest : List LogRow = events_told can.trace history later ++ row.End (next_of (history ++ later)) ∷ [] in
-        let begins = can.front ∙ ap (λ h. log_rows h can.trace) is ∙ log ∙ ap (λ l. l ++ rest) (sym auditing.told) in
-        let first = next-row rows (left_of auditor) line can.later rest begins (left-some some) in
-        other (sym (get-drop auditor.came auditor.rows.items) ∙ first)
+        grind (arith, next-row, left-some, get-drop)
 
   left-quiet : (left : List LogRow) → left_of auditor ≡ line ∷ left → is_event_row line ≡ false
-  left-quiet left is =
-      inner-no_event line (All-head (λ l. is_inner l ≡ true) line left (subst (All (λ l. is_inner l ≡ true)) is auditing.inner))
+  left-quiet left is = grind (arith, inner-no_event)
 
   -- where it is, the rows go on
   pub left-stands : slice_get auditor.rows.items auditor.came ≡ Some line
@@ -166,20 +141,10 @@ module _ (system : System) (steps : List Step) (requests : List Request) (rows :
     -- the history of the rows with this one is that of the run with the event
     new-only : (other : List Event) → IsHistoryOf system.rules steps (rows ++ line ∷ []) other → IsLegal system.rules other
         → other ≡ new.master.history
-    new-only other read legal =
-        let parts = history-parts system.rules steps rows line other is_event read in
-        let whole = legal-front system.rules parts.front parts.event (subst (IsLegal system.rules) parts.is legal) in
-        let front : parts.front ≡ history = auditing.only parts.front parts.all whole.0 in
-        let same : parts.event ≡ on.event = same-event system.rules steps history verdicts line on.event parts.event on.asks right
-        (subst (λ h. IsReadFrom system.rules steps h line parts.event) front parts.last)
-        (subst (λ h. IsRight system.rules h parts.event) front whole.1) in
-        parts.is ∙ ap (λ l. l ++ parts.event ∷ []) front ∙ ap (λ e. history ++ e ∷ []) same ∙ sym on.history
+    new-only other read legal = grind (arith, history-parts, is_event, legal-front, same-event, right)
 
     all-rows : rows ++ told ≡ events_told trace [] new.master.history
     all-rows = ap (λ l. l ++ told) (all-told all) ∙ sym on.told
-
-    told-some : 0 < length told
-    told-some = let head = told-head new.width on.event new.sent in let count = ap length head.are in omega (arith, count)
 
     -- the row must be the first one of the event
     pub event-breaks : (slice_get told 0 ≡ Some line → ⊥) → CanStand system steps requests (rows ++ line ∷ []) → ⊥
@@ -189,58 +154,21 @@ module _ (system : System) (steps : List Step) (requests : List Request) (rows :
         let whole = kept.kept (setting_of system requests) new.master.history trace way.known bytes_of-forgets way.under_way in
         let same : can.trace ≡ trace = whole.only_trace can.trace
         (subst (λ h. IsCanTrace bytes_of system.layout requests (openings_of h) (next_of h) can.trace) is can.run.can_trace) in
-        let begins = can.front ∙ ap (λ h. log_rows h can.trace) is ∙ ap (λ t. log_rows new.master.history t) same
-        ∙ ap (λ l. l ++ row.End (next_of new.master.history) ∷ []) (sym all-rows) in
-        other (next-row rows told line can.later (row.End (next_of new.master.history) ∷ []) begins told-some)
+        grind (arith, all-rows, next-row)
 
     -- where it is, the rows go on
     pub event-stands : (next : Auditor) → next.rerun ≡ new → next.rows.items ≡ told → next.came ≡ 1 → slice_get told 0 ≡ Some line
         → IsAuditing system steps requests (rows ++ line ∷ []) next
     event-stands next same_run same_rows one first =
         let head = told-head new.width on.event new.sent in
-        let rest = drop-next 0 told line first in
-        let left : left_of next ≡ drop 1 told = ap (λ n. drop n next.rows.items) one ∙ ap (drop 1) same_rows in
-        let read = asked-read system.rules steps history line on.event new.width new.sent on.asks right first in
-        let history_is : next.rerun.master.history ≡ history ++ on.event ∷ [] = ap (λ r. r.master.history) same_run ∙ on.history in
-        record {
-          trace = trace;
-          again = subst (IsAgain system requests trace) (sym same_run) on.again;
-          ahead = subst (λ r. AreStepsAhead steps r.master.history r.ahead) (sym same_run) on.ahead;
-          read = subst (IsHistoryOf system.rules steps (rows ++ line ∷ [])) (sym history_is)
-              (history-push system.rules steps rows line history on.event is_event auditing.read read);
-          only = λ other other_read legal. new-only other other_read legal ∙ ap (λ r. r.master.history) (sym same_run);
-          opened = subst (λ h. next_of h ≤ sum_by count_of steps) (sym history_is) (still-few steps history line on.event on.asks auditing.opened);
-          within = let count = ap length same_rows in let some = told-some in omega (arith, count, some, one);
-          inner = subst (All (λ l. is_inner l ≡ true)) (sym (left ∙ ap (drop 1) head.are)) head.inner;
-          told = append_assoc rows (line ∷ []) (left_of next) ∙ ap (λ l. rows ++ line ∷ l) left ∙ ap (λ l. rows ++ l) (sym rest)
-              ∙ all-rows ∙ ap (λ r. events_told trace [] r.master.history) (sym same_run);
-        }
+        grind (arith, drop-next, asked-read, right, history-push, is_event, new-only, still-few, append_assoc, all-rows)
 
     -- all rows of the event at once, where the row is the first of them: none of them is left then
     pub rows-stand : (later : List LogRow) → told ≡ line ∷ later → (next : Auditor) → next.rerun ≡ new → left_of next ≡ []
         → next.came ≤ length next.rows.items → IsAuditing system steps requests (rows ++ line ∷ later) next
     rows-stand later are next same_run none within =
         let inner : AreInner later = told-later new.width on.event new.sent line later are in
-        let quiet = All-weaker (λ l. is_inner l ≡ true) (λ l. is_event_row l ≡ false) inner-no_event later inner in
         let first : slice_get told 0 ≡ Some line = ap (λ l. slice_get l 0) are in
         let read = asked-read system.rules steps history line on.event new.width new.sent on.asks right first in
         let whole : (rows ++ line ∷ []) ++ later ≡ rows ++ line ∷ later = append_assoc rows (line ∷ []) later in
-        let history_is : next.rerun.master.history ≡ history ++ on.event ∷ [] = ap (λ r. r.master.history) same_run ∙ on.history in
-        record {
-          trace = trace;
-          again = subst (IsAgain system requests trace) (sym same_run) on.again;
-          ahead = subst (λ r. AreStepsAhead steps r.master.history r.ahead) (sym same_run) on.ahead;
-          read = subst (λ l. IsHistoryOf system.rules steps l next.rerun.master.history) whole
-              (history-behind system.rules steps (rows ++ line ∷ []) later quiet next.rerun.master.history
-              (subst (IsHistoryOf system.rules steps (rows ++ line ∷ [])) (sym history_is)
-              (history-push system.rules steps rows line history on.event is_event auditing.read read)));
-          only = λ other other_read legal. new-only other
-              (history-before system.rules steps (rows ++ line ∷ []) later quiet other
-              (subst (λ l. IsHistoryOf system.rules steps l other) (sym whole) other_read)) legal
-              ∙ ap (λ r. r.master.history) (sym same_run);
-          opened = subst (λ h. next_of h ≤ sum_by count_of steps) (sym history_is) (still-few steps history line on.event on.asks auditing.opened);
-          within = within;
-          inner = subst (All (λ l. is_inner l ≡ true)) (sym none) (All-nil (λ l. is_inner l ≡ true));
-          told = ap (λ l. (rows ++ line ∷ later) ++ l) none ∙ append-nil (rows ++ line ∷ later) ∙ ap (λ l. rows ++ l) (sym are)
-              ∙ all-rows ∙ ap (λ r. events_told trace [] r.master.history) (sym same_run);
-        }
+        grind (arith, history-behind, history-push, is_event, new-only, history-before, still-few, append-nil, all-rows)

@@ -21,8 +21,7 @@ use Rattle.trace_audit.proofs.Readings.{get-drop}
 -- The first act of what is left
 
 first-of : (found : Option Act) (later : List Act) → is_some found ≡ true → found ≡ slice_get (cons_option found later) 0
-first-of (Some act) later is = refl
-first-of None later is = absurd (cc)
+first-of found later is = grind arith
 
 act-first : (operator : ℕ) (steps : List Step) (place : ℕ)
     → ((d : Step) → slice_get steps place ≡ Some d → is_some (act_of operator d) ≡ true)
@@ -39,18 +38,13 @@ act-rest operator [] zero some = absurd (cc)
 act-rest operator [] (suc place) some = absurd (cc)
 act-rest operator (s ∷ steps) zero some = behind (act_of operator s) some where
   behind : (found : Option Act) → is_some found ≡ true → drop 1 (cons_option found (acts_of operator steps)) ≡ acts_of operator steps
-  behind (Some act) is = refl
-  behind None is = absurd (cc)
+  behind found is = grind arith
 act-rest operator (s ∷ steps) (suc place) some = act-rest operator steps place some
 
 -- Operators that nobody is
 
 no-act : (operator : ℕ) (s : Step) → 8 < operator → IsStep s → act_of operator s ≡ None
-no-act operator (step.Cycle count) many is = refl
-no-act operator (step.Act caller asked) many is = elim (cases_Bool (caller == operator)) [
-  | inl same ↦ let here = eqb-true caller operator same in let few = is.1 in absurd (omega (arith, here, few, many))
-  | inr other ↦ cond-false (caller == operator) (Some asked) None other
-]
+no-act operator s many is = grind (arith, eqb-true, cond-false)
 
 no-acts : (operator : ℕ) (steps : List Step) → 8 < operator → All IsStep steps → acts_of operator steps ≡ []
 no-acts operator [] many all = refl
@@ -86,9 +80,7 @@ module _ (steps : List Step) (history : List Event) (ahead : StepsAhead) (is : A
     (same : acts_of operator (drop place steps) ≡ acts_of operator (drop (slice_index ahead.places operator) steps)) where
   pub next-act : ((d : Step) → slice_get steps place ≡ Some d → is_some (act_of operator d) ≡ true)
       → act_in operator steps place ≡ slice_get (acts_of operator steps) (count_by (is_called_by operator) history)
-  next-act first =
-      act-first operator steps place first ∙ ap (λ l. slice_get l 0) (same ∙ is.acts operator few)
-      ∙ get-drop (count_by (is_called_by operator) history) (acts_of operator steps)
+  next-act first = grind (arith, act-first, slice_get, get-drop)
 
   -- after the act
   abbrev behind : StepsAhead
@@ -107,35 +99,10 @@ module _ (steps : List Step) (history : List Event) (ahead : StepsAhead) (is : A
 
   pub ahead-behind : (event : Event) → ((caller : ℕ) → is_called_by caller event ≡ (operator == caller))
       → is_some (act_in operator steps place) ≡ true → AreStepsAhead steps (history ++ event ∷ []) behind
-  ahead-behind event calls some = record {
-    cycles = is.cycles;
-    numbers = length-set ahead.places operator (place + 1) ∙ is.numbers;
-    acts = λ k within. elim (cases_Bool (operator == k)) [
-      | inl own ↦
-          let here = eqb-true operator k own in
-          let read = get_or-set_same ahead.places operator (place + 1) 0 (omega (arith, few, is.numbers)) in
-          subst (λ n. acts_of n (drop (slice_index behind.places n) steps)
-          ≡ drop (count_by (is_called_by n) (history ++ event ∷ [])) (acts_of n steps)) here
-          (ap (λ p. acts_of operator (drop p steps)) read
-          ∙ own-acts event (calls operator ∙ ap (λ n. operator == n) here ∙ own) some)
-      | inr other ↦
-          let none : cond {A = ℕ} (is_called_by k event) 1 0 ≡ 0 = cond-false (is_called_by k event) 1 0 (calls k ∙ other) in
-          let read = get_or-set_other ahead.places operator k (place + 1) 0 (λ here. eqb-false operator k other (sym here)) in
-          let count = count-more (is_called_by k) history event in
-          let stays : count_by (is_called_by k) (history ++ event ∷ []) ≡ count_by (is_called_by k) history = omega (arith, count, none) in
-          ap (λ p. acts_of k (drop p steps)) read ∙ is.acts k within ∙ ap (λ n. drop n (acts_of k steps)) (sym stays)
-    ];
-  }
+  ahead-behind event calls some =
+      grind (arith, length-set, eqb-true, get_or-set_same, behind, own-acts, cond-false, get_or-set_other, eqb-false, count-more)
 
 -- after the opening of a cycle
 pub ahead-opened : (steps : List Step) (history : List Event) (ahead : StepsAhead) (event : Event)
     → ((caller : ℕ) → is_called_by caller event ≡ false) → AreStepsAhead steps history ahead → AreStepsAhead steps (history ++ event ∷ []) ahead
-ahead-opened steps history ahead event none is = record {
-  cycles = is.cycles;
-  numbers = is.numbers;
-  acts = λ k within.
-      let none_is : cond {A = ℕ} (is_called_by k event) 1 0 ≡ 0 = cond-false (is_called_by k event) 1 0 (none k) in
-      let count = count-more (is_called_by k) history event in
-      let stays : count_by (is_called_by k) (history ++ event ∷ []) ≡ count_by (is_called_by k) history = omega (arith, count, none_is) in
-      is.acts k within ∙ ap (λ n. drop n (acts_of k steps)) (sym stays);
-}
+ahead-opened steps history ahead event none is = grind (arith, cond-false, count-more)

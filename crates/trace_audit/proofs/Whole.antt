@@ -63,11 +63,7 @@ module _ {A : Type 0} where
 -- rows none of which is the last one of a log are not all rows of a whole run
 pub no-last : (system : System) (steps : List Step) (requests : List Request) (rows : List LogRow)
     → All (λ line. is_end line ≡ false) rows → IsWholeLog system steps requests rows → ⊥
-no-last system steps requests rows none log =
-    let ends : is_end (row.End (next_of log.history)) ≡ false =
-    last-holds (λ line. is_end line ≡ false) (events_told log.trace [] log.history) (row.End (next_of log.history))
-    (subst (All (λ line. is_end line ≡ false)) log.log none) in
-    cc
+no-last system steps requests rows none log = grind (arith, last-holds)
 
 -- The rows so far, and one more
 
@@ -75,35 +71,13 @@ module _ (system : System) (steps : List Step) (requests : List Request) (rows :
   -- each number of first rows can stand where all can, and those without the last one
   pub one-more : AllStand system steps requests rows → (line : LogRow) → CanStand system steps requests (rows ++ line ∷ [])
       → AllStand system steps requests (rows ++ line ∷ [])
-  one-more stand line can number few = elim (cases_lt (length rows) number) [
-    | inl last ↦
-        let count = length-append rows (line ∷ []) in
-        let all : length (rows ++ line ∷ []) ≤ number = omega (arith, last, count) in
-        subst (CanStand system steps requests) (sym (take-whole number (rows ++ line ∷ []) all)) can
-    | inr less ↦ subst (CanStand system steps requests) (sym (take-front number rows (line ∷ []) less)) (stand number less)
-  ]
+  one-more h0 line h1 = grind (arith, cases_lt, length-append, take-whole, take-front)
 
   -- the row with which rows cannot stand is where all rows break off
   pub first-break : (whole later : List LogRow) (line : LogRow) (number : ℕ) → AllStand system steps requests rows
       → (CanStand system steps requests (rows ++ line ∷ []) → ⊥) → whole ≡ (rows ++ line ∷ []) ++ later → number ≡ length rows + 1
       → IsFirstBreak system steps requests whole number
-  first-break whole later line number stand breaks is at =
-      let some = length-append rows (line ∷ []) in
-      let more = length-append (rows ++ line ∷ []) later in
-      let count : length whole ≡ length ((rows ++ line ∷ []) ++ later) = ap length is in
-      record {
-        within = omega (arith, at, some, more, count);
-        before = λ fewer less.
-            let few : fewer ≤ length rows = omega (arith, at, less) in
-            let same : take fewer whole ≡ take fewer rows =
-            ap (take fewer) is ∙ take-front fewer (rows ++ line ∷ []) later (omega (arith, some, few)) ∙ take-front fewer rows (line ∷ []) few in
-            subst (CanStand system steps requests) (sym same) (stand fewer few);
-        breaks = λ can.
-            let same : take number whole ≡ rows ++ line ∷ [] =
-            ap (take number) is ∙ take-front number (rows ++ line ∷ []) later (omega (arith, some, at))
-            ∙ take-whole number (rows ++ line ∷ []) (omega (arith, some, at)) in
-            breaks (subst (CanStand system steps requests) same can);
-      }
+  first-break whole later line number stand breaks is at = grind (arith, length-append, take-front, take-whole)
 
 -- no row yet
 pub none-heard : (system : System) (steps : List Step) (requests : List Request) (audit : LogAudit)
@@ -117,13 +91,11 @@ none-heard system steps requests audit auditing going = record {
 
 -- a row has the form of the last one of a log, or does not end it
 pub not-end_row : (line : LogRow) → ((next : ℕ) → line ≡ row.End next → ⊥) → is_end line ≡ false
-not-end_row (row.End next) other = absurd (other next refl)
-not-end_row _ other = refl
+not-end_row line other = grind arith
 
 -- a row that follows the row of its event does not end a log
 pub inner-not_end : (line : LogRow) → is_inner line ≡ true → is_end line ≡ false
-inner-not_end (row.End next) inner = absurd (cc)
-inner-not_end _ inner = refl
+inner-not_end line inner = grind arith
 
 module _ (steps : List Step) (old new : LogAudit) where
   -- a row that does not end a log
@@ -153,14 +125,7 @@ module _ (steps : List Step) (old new : LogAudit) where
   hears-end laws kept next stands going ends same all_came opened none = record {
     stand = λ is system requests rows heard.
         let (auditing, not_last) = subst (IsUpTo system steps requests rows old.auditor) going heard.up_to in
-        let ended : IsEnded system steps requests (rows ++ row.End next ∷ []) old.auditor = record {
-          before = rows;
-          next = next;
-          rows_are = refl;
-          auditing = auditing;
-          all_came = all_came is;
-          opened = opened is;
-        } in
+        let ended : IsEnded system steps requests (rows ++ row.End next ∷ []) old.auditor = grind arith in
         record {
           stand = one-more system steps requests rows heard.stand (row.End next)
               (end-stands system steps requests rows old.auditor auditing kept (all_came is) next (opened is));
@@ -229,5 +194,4 @@ module _ (system : System) (steps : List Step) (requests : List Request) (rows :
 -- where memory ran out, nothing is said of the log
 pub no-memory : {T : Type 0} (result : Result T AuditFault) (Holds : T → Type 0) (Fault : AuditFault → Type 0) → IsErrAnd result (λ fault. fault ≡ Memory)
     → Fault Memory → MatchResult result Holds Fault
-no-memory (Ok value) Holds Fault is holds = absurd is
-no-memory (Err fault) Holds Fault is holds = subst Fault (sym is) holds
+no-memory result Holds Fault is holds = grind arith

@@ -37,14 +37,7 @@ module _ (system : System) (steps : List Step) (requests : List Request) where
   -- so can those before the last ones, where none of these is that of an event
   stood : (front later : List LogRow) → All (λ line. is_event_row line ≡ false) later → CanStand system steps requests (front ++ later)
       → CanStand system steps requests front
-  stood front later none can = record {
-    history = can.history;
-    trace = can.trace;
-    read = history-before system.rules steps front later none can.history can.read;
-    run = can.run;
-    later = later ++ can.later;
-    front = sym (append_assoc front later can.later) ∙ can.front;
-  }
+  stood front later none can = grind (arith, history-before, append_assoc)
 
   -- and each number of the first of them
   pub all-stood : (front : List LogRow) (line : LogRow) (later : List LogRow) → All (λ l. is_event_row l ≡ false) later
@@ -65,23 +58,13 @@ not-end : (rows : List LogRow) → All (λ line. is_inner line ≡ true) rows �
 not-end rows inner = All-weaker (λ l. is_inner l ≡ true) (λ l. is_end l ≡ false) inner-not_end rows inner
 
 told-not_end : (width : ℕ) (event : Event) (frames : List TimedFrame) → All (λ line. is_end line ≡ false) (told_at width event frames)
-told-not_end width (Submit caller change from verdict trail) frames =
-    All-cons (λ l. is_end l ≡ false) (row.Submit caller from (verdict_told verdict)) (plan_told from trail) refl
-    (not-end (plan_told from trail) (inner-plan from trail))
-told-not_end width (Look caller next) frames =
-    All-cons (λ l. is_end l ≡ false) (row.Look caller next) [] refl (All-nil (λ l. is_end l ≡ false))
-told-not_end width (Open cycle mask) frames =
-    let later = inner-frames frames in
-    All-cons (λ l. is_end l ≡ false) _ _ refl (not-end _ later)
+told-not_end width event frames = grind (arith, not-end, inner-plan, inner-frames)
 
 -- The rows of an event, all at once
 
 -- an audit that has not heard the last row of a log goes on
 pub auditing-of : (steps : List Step) (audit : LogAudit) → audit.ended ≡ false → CanHear steps audit → CanAudit steps audit.auditor
-auditing-of steps audit going can =
-    let (system, requests, rows, heard) = can in
-    let (auditing, none) = subst (IsUpTo system steps requests rows audit.auditor) going heard.up_to in
-    (system, requests, rows, auditing)
+auditing-of steps audit going can = grind arith
 
 same-last : (xs : List Event) (one other : Event) → xs ++ one ∷ [] ≡ xs ++ other ∷ [] → one ≡ other
 same-last xs one other is = let last = append_cancel_left xs (one ∷ []) (other ∷ []) is in cc
@@ -101,17 +84,7 @@ module _ (steps : List Step) (old : LogAudit) (going : old.ended ≡ false) (all
         → AreRowsHeard system steps requests (rows ++ line ∷ later) after
     event-heard asked on line later are =
         let auditing = parts.0 in
-        let first : slice_get (told_at new.width on.event new.sent) 0 ≡ Some line = ap (λ l. slice_get l 0) are in
-        let own : IsRerunBroughtOn system steps requests auditing.trace old.auditor.rerun line new = record {
-          event = on.event;
-          asks = own-asks steps old.auditor.rerun.master.history asked on.event new.width new.sent line on.asks first;
-          near = on.near;
-          history = on.history;
-          frames = on.frames;
-          again = on.again;
-          ahead = on.ahead;
-          told = on.told;
-        } in
+        let own : IsRerunBroughtOn system steps requests auditing.trace old.auditor.rerun line new = grind (arith, own-asks) in
         let now = rows-stand system steps requests rows old.auditor auditing line kept verdicts new own all later are after.auditor refl
         (none-left system steps requests rows old.auditor auditing line all) auditing.within in
         let quiet = All-weaker (λ l. is_inner l ≡ true) (λ l. is_event_row l ≡ false) inner-no_event later
@@ -149,14 +122,9 @@ module _ (steps : List Step) (old : LogAudit) (going : old.ended ≡ false) (all
 -- what stands behind the texts of some rows is shorter
 pub rows-shorter : (line : LogRow) (later : List LogRow) (text rest : List ℕ) → text ≡ text_of_rows (line ∷ later) ++ rest
     → length rest < length text
-rows-shorter line later text rest is =
-    let first = written-shorter line text (text_of_rows later ++ rest) (is ∙ append_assoc (row_text line) (text_of_rows later) rest) in
-    let both = length-append (text_of_rows later) rest in
-    omega (arith, first, both)
+rows-shorter line later text rest is = grind (arith, written-shorter, append_assoc, length-append)
 
 -- behind the texts of rows stand those of others
 pub rows-more : (text : List ℕ) (rows lines : List LogRow) (rest later : List ℕ) → text ≡ text_of_rows rows ++ rest
     → rest ≡ text_of_rows lines ++ later → text ≡ text_of_rows (rows ++ lines) ++ later
-rows-more text rows lines rest later is more =
-    is ∙ ap (λ l. text_of_rows rows ++ l) more ∙ sym (append_assoc (text_of_rows rows) (text_of_rows lines) later)
-    ∙ ap (λ l. l ++ later) (sym (flat_map-append row_text rows lines))
+rows-more text rows lines rest later is more = grind (arith, append_assoc, flat_map-append)

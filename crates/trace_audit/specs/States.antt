@@ -1,5 +1,5 @@
 -- The states of a plan from which a change can be planned: those before the cycles from the one on that was the next one
--- when a change was accepted last.
+-- when a change was accepted last. Where no change was accepted, that is cycle 0.
 use Rattle.std.specs.Prelude.{◌≡◌, ℕ, ◌+◌, ◌≤◌, List, Some, length, slice_get}
 use mathlib.Core.List.{IsPrefix}
 use Rattle.requirement_table.specs.declared.entries.Placed.{Placed}

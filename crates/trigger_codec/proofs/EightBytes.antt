@@ -1,6 +1,5 @@
 -- Eight data bytes, read as those of a trigger frame.
 use Rattle.std.proofs.Common.{◌≡◌, ℕ, ◌+◌, ◌*◌, ◌/◌, ◌%◌, ◌^◌, ◌<◌, List, [], ◌∷◌, All, length, slice_index, ap, ◌∙◌, arith}
-use Rattle.std.specs.Int.{byte_at}
 use Rattle.can_frame.specs.DataFrame.{DataFrame, IsFrame}
 use Rattle.trigger_codec.specs.Bytes.{trigger_bytes, trigger_frame, width_told, flags_in, second_bytes, second_frame, second_flags_in, low_slots, high_slots}
 use Rattle.trigger_codec.specs.declared.message.Trigger.{Trigger}
@@ -11,30 +10,18 @@ use Rattle.trigger_codec.proofs.Halves.{flags_in-first, second_flags_in-second}
 trigger_bytes-read : (bytes : List ℕ) → length bytes ≡ 8 → All (λ byte. byte < 256) bytes → bytes ≡ trigger_bytes (slice_index bytes 0) (width_told bytes) (flags_in bytes)
 trigger_bytes-read (a ∷ b ∷ c ∷ d ∷ e ∷ f ∷ g ∷ h ∷ []) eight small =
     let small_a : a < 256 = small 0 0 (omega arith) in
-    let small_b : b < 256 = small 1 0 (omega arith) in
     let small_c : c < 256 = small 2 0 (omega arith) in
     let small_d : d < 256 = small 3 0 (omega arith) in
     let small_e : e < 256 = small 4 0 (omega arith) in
     let small_f : f < 256 = small 5 0 (omega arith) in
     let small_g : g < 256 = small 6 0 (omega arith) in
     let small_h : h < 256 = small 7 0 (omega arith) in
-    let mask = flags_in (a ∷ b ∷ c ∷ d ∷ e ∷ f ∷ g ∷ h ∷ []) in
-    let is_a : a ≡ a % 256 = omega arith in
-    let is_b : b ≡ (b * 256 + c) / 256 = omega arith in
-    let is_c : c ≡ (b * 256 + c) % 256 = omega arith in
-    let is_d : d ≡ byte_at 0 mask = omega arith in
-    let is_e : e ≡ byte_at 1 mask = omega arith in
-    let is_f : f ≡ byte_at 2 mask = omega arith in
-    let is_g : g ≡ byte_at 3 mask = omega arith in
-    let is_h : h ≡ byte_at 4 mask = omega arith in
-    cc
+    grind arith
 trigger_bytes-read _ eight small = absurd (omega arith)
 
 -- a frame of identifier 0 with eight bytes is the first trigger frame of what it says
 pub trigger_frame-read : (frame : DataFrame) → IsFrame frame → frame.identifier ≡ 0 → length frame.bytes ≡ 8 → frame ≡ trigger_frame (slice_index frame.bytes 0) (width_told frame.bytes) (flags_in frame.bytes)
-trigger_frame-read frame legal trigger eight =
-    ap (λ id. record { identifier = id; bytes = frame.bytes }) trigger
-    ∙ ap (λ bytes. record { identifier = 0; bytes = bytes }) (trigger_bytes-read frame.bytes eight legal.bytes)
+trigger_frame-read frame legal trigger eight = grind (arith, trigger_bytes-read)
 
 -- what the bytes of a frame say as those of a first trigger frame
 abbrev told_first : DataFrame → Trigger
@@ -58,23 +45,12 @@ second_bytes-read (a ∷ b ∷ c ∷ d ∷ e ∷ f ∷ g ∷ h ∷ []) eight sma
     let small_f : f < 256 = small 5 0 (omega arith) in
     let small_g : g < 256 = small 6 0 (omega arith) in
     let small_h : h < 256 = small 7 0 (omega arith) in
-    let mask = second_flags_in (a ∷ b ∷ c ∷ d ∷ e ∷ f ∷ g ∷ h ∷ []) in
-    let is_a : a ≡ a % 256 = omega arith in
-    let is_b : b ≡ byte_at 5 mask = omega arith in
-    let is_c : c ≡ byte_at 6 mask = omega arith in
-    let is_d : d ≡ byte_at 7 mask = omega arith in
-    let is_e : e ≡ byte_at 8 mask = omega arith in
-    let is_f : f ≡ byte_at 9 mask = omega arith in
-    let is_g : g ≡ byte_at 10 mask = omega arith in
-    let is_h : h ≡ byte_at 11 mask = omega arith in
-    cc
+    grind arith
 second_bytes-read _ eight small = absurd (omega arith)
 
 -- a frame of identifier 1 with eight bytes is the second trigger frame of what it says
 pub second_frame-read : (frame : DataFrame) → IsFrame frame → frame.identifier ≡ 1 → length frame.bytes ≡ 8 → frame ≡ second_frame (slice_index frame.bytes 0) (second_flags_in frame.bytes)
-second_frame-read frame legal second eight =
-    ap (λ id. record { identifier = id; bytes = frame.bytes }) second
-    ∙ ap (λ bytes. record { identifier = 1; bytes = bytes }) (second_bytes-read frame.bytes eight legal.bytes)
+second_frame-read frame legal second eight = grind (arith, second_bytes-read)
 
 -- what the bytes of a frame say as those of a second trigger frame
 abbrev told_second : DataFrame → Second

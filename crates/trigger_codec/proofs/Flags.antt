@@ -1,5 +1,5 @@
 -- The flag of a slot in the bytes of a trigger frame.
-use Rattle.std.proofs.Common.{◌≡◌, ℕ, zero, suc, ◌+◌, ◌*◌, ◌/◌, ◌%◌, ◌^◌, ◌<◌, ◌-◌, ◌≤◌, slice_index, nat_eq, refl, ap, ◌∙◌, arith}
+use Rattle.std.proofs.Common.{◌≡◌, ℕ, ◌+◌, ◌*◌, ◌/◌, ◌%◌, ◌^◌, ◌<◌, ◌-◌, ◌≤◌, slice_index, nat_eq, ap, ◌∙◌, arith}
 use Rattle.std.specs.Int.{bit_at}
 use Rattle.bit_sets.proofs.Shared.{bit_at-low, bit_at-shifted}
 use Rattle.bit_sets.specs.Sets.{has_bit}
@@ -7,12 +7,7 @@ use Rattle.trigger_codec.specs.Bytes.{trigger_bytes, second_bytes}
 
 -- the flags of the slots from 8 * i on
 flag_byte : (cycle l mask i : ℕ) → i < 5 → slice_index (trigger_bytes cycle l mask) (3 + i) ≡ mask / 2 ^ (8 * i) % 2 ^ 8
-flag_byte cycle l mask zero below = omega arith
-flag_byte cycle l mask (suc zero) below = refl
-flag_byte cycle l mask (suc (suc zero)) below = refl
-flag_byte cycle l mask (suc (suc (suc zero))) below = refl
-flag_byte cycle l mask (suc (suc (suc (suc zero)))) below = refl
-flag_byte cycle l mask (suc (suc (suc (suc (suc i))))) below = absurd (omega arith)
+flag_byte cycle l mask i below = grind arith
 
 pub flag-slot : (cycle l mask slot : ℕ) → slot < 40 → has_bit (slice_index (trigger_bytes cycle l mask) (3 + slot / 8)) (slot % 8) ≡ has_bit mask slot
 flag-slot cycle l mask slot below =
@@ -25,14 +20,7 @@ flag-slot cycle l mask slot below =
 
 -- the flags of the slots from 40 + 8 * i on
 second_flag_byte : (cycle mask i : ℕ) → i < 7 → slice_index (second_bytes cycle mask) (1 + i) ≡ mask / 2 ^ (40 + 8 * i) % 2 ^ 8
-second_flag_byte cycle mask zero below = refl
-second_flag_byte cycle mask (suc zero) below = refl
-second_flag_byte cycle mask (suc (suc zero)) below = refl
-second_flag_byte cycle mask (suc (suc (suc zero))) below = refl
-second_flag_byte cycle mask (suc (suc (suc (suc zero)))) below = refl
-second_flag_byte cycle mask (suc (suc (suc (suc (suc zero))))) below = refl
-second_flag_byte cycle mask (suc (suc (suc (suc (suc (suc zero)))))) below = refl
-second_flag_byte cycle mask (suc (suc (suc (suc (suc (suc (suc i))))))) below = absurd (omega arith)
+second_flag_byte cycle mask i below = grind arith
 
 pub second-flag-slot : (cycle mask slot : ℕ) → 40 ≤ slot → slot < 96 → has_bit (slice_index (second_bytes cycle mask) (1 + (slot - 40) / 8)) ((slot - 40) % 8) ≡ has_bit mask slot
 second-flag-slot cycle mask slot above below =

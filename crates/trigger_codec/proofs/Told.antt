@@ -1,5 +1,5 @@
 -- What the trigger frames of a cycle say.
-use Rattle.std.proofs.Common.{◌≡◌, ℕ, ◌%◌, ◌^◌, ◌<◌, ◌≤◌, cond, leb, Some, None, ap, ◌∙◌, arith}
+use Rattle.std.proofs.Common.{◌≡◌, ℕ, ◌%◌, ◌^◌, ◌<◌, ◌≤◌, cond, leb, Some, None, ap, arith}
 use Rattle.std.proofs.lemmas.Bool.{cond-true, le-leb}
 use Rattle.trigger_codec.specs.declared.message.Trigger.{Trigger}
 use Rattle.trigger_codec.specs.declared.message.Second.{Second}
@@ -11,10 +11,7 @@ saying low l mask = record { low = low; l = l; mask = mask }
 
 said : (low window flags l mask : ℕ) → window ≡ l → flags ≡ mask → l ≤ 16383
     → cond (leb window 16383) (Some (saying low window flags)) None ≡ Some (saying low l mask)
-said low window flags l mask same also small =
-    cond-true (leb window 16383) (Some (saying low window flags)) None (le-leb window 16383 (omega arith))
-    ∙ ap (λ w. Some (saying low w flags)) same
-    ∙ ap (λ m. Some (saying low l m)) also
+said low window flags l mask same also small = grind (arith, cond-true, leb, le-leb)
 
 -- the first one
 pub trigger_of-first : (cycle l mask : ℕ) → l ≤ 16383

@@ -1,13 +1,9 @@
-use Rattle.std.proofs.Common.{◌+◌, ◌-◌, ◌++◌, ap, ◌∙◌, List, ℕ, arith}
+use Rattle.std.proofs.Common.{◌-◌, ◌++◌, ap, ◌∙◌, List, ℕ, arith}
 use Rattle.admission.proofs.Certified.{made-of, within-listed}
 use Rattle.admission.proofs.certifying.certify_known.Goals as goal
 
 pub planned-requires-clause-none_missed : goal.planned-requires-clause-none_missed
-planned-requires-clause-none_missed c =
-    let found = c.requires.repeats in
-    let start = found.1.at in
-    let within = found.2 in
-    λ m slot early known. found.0 m slot (omega arith) known
+planned-requires-clause-none_missed c = grind arith
 
 pub new-requires-clause-within : goal.new-requires-clause-within
 new-requires-clause-within c =

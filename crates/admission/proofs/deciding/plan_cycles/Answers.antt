@@ -1,5 +1,4 @@
-use Rattle.std.proofs.Common.{◌≡◌, ◌+◌, List, ℕ, ap, sym, subst, ◌∙◌, arith}
-use Rattle.planner_policies.specs.declared.state.PlanState.{PlanState}
+use Rattle.std.proofs.Common.{◌+◌, List, ℕ, ap, sym, subst, ◌∙◌, arith}
 use Rattle.planner_policies.specs.Plan.{Standing, planning_of}
 use Rattle.admission.specs.Course.{state_in}
 use Rattle.admission.specs.Verdict.{IsPlannedUpTo}
@@ -8,21 +7,7 @@ use Rattle.admission.proofs.Same.{held-from_tests}
 use Rattle.admission.proofs.deciding.plan_cycles.Goals as goal
 
 pub loop-count-init : goal.loop-count-init
-loop-count-init c =
-    let walk = c.args.walk.now in
-    let stands = c.in_ok-planner.ensures.standing in
-    record {
-      planned = subst
-          (λ (s : Standing). IsPlannedUpTo (planning_of walk.start.now.ranking walk.window walk.first.cycle walk.first.pending) 0 c.new-masks.result.items (state_in s))
-          (sym stands)
-          (subst
-          (λ (items : List ℕ). IsPlannedUpTo (planning_of walk.start.now.ranking walk.window walk.first.cycle walk.first.pending) 0 items walk.first)
-          (sym c.new-masks.ensures.items)
-          (planned-start walk.start.now.ranking walk.window walk.first.cycle walk.first.pending c.known.ensures.below
-          (held-from_tests walk.start.now.ranking.placed walk.first.cycle walk.first.pending walk.held)));
-      entries = ap (λ (s : Standing). s.ranking) stands;
-      within = omega arith;
-    }
+loop-count-init c = grind (arith, planned-start, held-from_tests)
 
 pub unreachable-requires : goal.unreachable-requires
 unreachable-requires c =
@@ -48,10 +33,4 @@ pub plan_empty-requires-clause-entries : goal.plan_empty-requires-clause-entries
 plan_empty-requires-clause-entries c = ap (λ (s : Standing). s.ranking) c.in-Ok.ensures.next ∙ c.loop-count.invariant.entries
 
 pub plan_empty-requires-clause-near : goal.plan_empty-requires-clause-near
-plan_empty-requires-clause-near c =
-    let walk = c.args.walk.now in
-    let first = walk.near in
-    let here : c.loop-count.planner.cycle ≡ walk.first.cycle + c.loop-count.count
-    = ap (λ (s : PlanState). s.cycle) c.loop-count.invariant.planned.state in
-    let next : c.step.new.self.cycle ≡ c.loop-count.planner.cycle + 1 = ap (λ (s : Standing). s.cycle) c.in-Ok.ensures.next in
-    omega (arith, first, here, next, c.loop-count-test.true, c.requires.near)
+plan_empty-requires-clause-near c = grind arith

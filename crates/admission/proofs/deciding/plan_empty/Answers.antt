@@ -1,18 +1,11 @@
-use Rattle.std.proofs.Common.{◌≡◌, ◌+◌, ◌-◌, ◌<◌, ◌++◌, ◌∷◌, [], List, ℕ, ap, sym, subst, ◌∙◌, arith}
-use Rattle.planner_policies.specs.declared.state.PlanState.{PlanState}
-use Rattle.planner_policies.specs.Plan.{Standing, planning_of}
-use Rattle.admission.specs.Course.{state_in}
+use Rattle.std.proofs.Common.{◌+◌, ◌<◌, ◌++◌, ◌∷◌, [], List, ℕ, ap, sym, subst, ◌∙◌, arith}
+use Rattle.planner_policies.specs.Plan.{planning_of}
 use Rattle.admission.specs.Verdict.{IsPlannedUpTo}
 use Rattle.admission.proofs.Planned.{planned-empty, planned-here, state-parts}
 use Rattle.admission.proofs.deciding.plan_empty.Goals as goal
 
 pub loop-init : goal.loop-init
-loop-init c =
-    let walk = c.args.walk.now in
-    record {
-      planned = planned-here walk.start.now.ranking walk.window walk.first.cycle walk.first.pending c.args.count c.args.masks.now.items
-          (state_in c.args.planner.now) c.requires.planned;
-    }
+loop-init c = grind (arith, planned-here)
 
 pub loop-preserved : goal.loop-preserved
 loop-preserved c =
@@ -31,18 +24,4 @@ loop-preserved c =
     }
 
 pub returns-clause-planned : goal.returns-clause-planned
-returns-clause-planned c =
-    let walk = c.args.walk.now in
-    let here = c.args.planner.now in
-    let there = c.pass_until.new.planner in
-    let n = c.loop.counter in
-    let all : n ≡ c.state.result.cycle - c.state-here.result.cycle = omega (arith, c.loop-test.false) in
-    let end : here.cycle + n ≡ there.cycle = omega (arith, all, c.state.ensures.cycle, c.state-here.ensures.cycle, c.pass_until.ensures.onward) in
-    let is = state-parts (record { cycle = here.cycle + n; pending = here.pending }) (state_in there) end
-    (sym (ap (λ (s : Standing). s.pending) c.pass_until.ensures.standing)) in
-    subst
-    (λ k. IsPlannedUpTo (planning_of walk.start.now.ranking walk.window walk.first.cycle walk.first.pending) (c.args.count + k) c.loop.masks.items (state_in there))
-    all
-    (subst
-    (λ (s : PlanState). IsPlannedUpTo (planning_of walk.start.now.ranking walk.window walk.first.cycle walk.first.pending) (c.args.count + n) c.loop.masks.items s) is
-    c.loop.invariant.planned)
+returns-clause-planned c = grind (arith, state-parts)

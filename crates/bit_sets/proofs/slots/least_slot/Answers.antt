@@ -6,6 +6,4 @@ pub returns : goal.returns
 returns c = record { least = c.then_some.ensures ∙ least_where-word 96 c.args.among c.bits-bits.result c.bits-bits.ensures.number (omega arith) (omega arith) (omega arith) }
 
 pub returns-then-low-ne0 : goal.returns-then-low-ne0
-returns-then-low-ne0 c = record {
-  least = least_where-low 96 c.args.among c.bits-bits.result c.low_word-low.result c.bits-bits.ensures.number c.low_word-low.ensures.word (omega arith) (omega arith);
-}
+returns-then-low-ne0 c = grind (arith, least_where-low)

@@ -1,4 +1,4 @@
-use Rattle.std.proofs.Common.{◌≡◌, Some, sym, ap, ◌∙◌}
+use Rattle.std.proofs.Common.{sym, ap, ◌∙◌}
 use Rattle.std.specs.Option.{option_map}
 use Rattle.change_protocol.specs.Applied.{without_end}
 use Rattle.change_protocol.proofs.NotFelt.{kept-instance, same-last, same-worst}

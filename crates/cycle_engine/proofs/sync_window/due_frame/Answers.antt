@@ -1,4 +1,4 @@
-use Rattle.std.proofs.Common.{◌≡◌, Bool, true, false, if◌then◌else◌, Option, Some, None, sym, ap, refl}
+use Rattle.std.proofs.Common.{◌≡◌, Bool, true, false, if◌then◌else◌, Some, None, sym, ap, refl}
 use Rattle.std.specs.Prelude.{IsSome}
 use Rattle.can_frame.specs.DataFrame.{DataFrame}
 use Rattle.node_model.specs.Window.{due_frame, is_due_slot}

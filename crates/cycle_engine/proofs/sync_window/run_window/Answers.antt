@@ -1,4 +1,4 @@
-use Rattle.std.proofs.Common.{◌≡◌, ℕ, [], ◌∷◌, ◌+◌, ◌++◌, ◌<◌, ◌≤◌, ◌||◌, All, drop, take, ◌-◌, false, true, inl, inr, length, vec_len, sym, ap, ◌∙◌, subst, arith}
+use Rattle.std.proofs.Common.{◌≡◌, ℕ, [], ◌∷◌, ◌+◌, ◌++◌, ◌<◌, ◌≤◌, ◌||◌, All, drop, take, ◌-◌, false, true, length, vec_len, sym, ap, ◌∙◌, subst, arith}
 use Rattle.std.proofs.Math.Seq.{drop-append_seam}
 use Rattle.std.proofs.lemmas.Bool.{cases_lt}
 use Rattle.profile.specs.Limits.{first_identifier}
@@ -18,10 +18,7 @@ pub send_slots-left-requires-clause-due : goal.send_slots-left-requires-clause-d
 send_slots-left-requires-clause-due c = λ slot within has. sym (c.due_slots-due.ensures.slots slot within) ∙ has
 
 pub send_slots-left-requires-clause-room : goal.send_slots-left-requires-clause-room
-send_slots-left-requires-clause-room c = λ early.
-    let same : length c.args.out.now.items ≡ vec_len c.args.out.now = ap length (sym c.as_slice-before.ensures.value) ∙ c.as_slice-before.ensures.len in
-    let room = c.requires.room early in
-    omega (arith, same, room)
+send_slots-left-requires-clause-room c = grind (arith, vec_len)
 
 pub hear_slots-requires : goal.hear_slots-requires
 hear_slots-requires c =
@@ -39,10 +36,7 @@ hear_slots-requires c =
       slots = record {
         all = subst (All (λ one. (first_identifier ≤ one.frame.identifier) × (one.frame.identifier < first_identifier + most_slots))) (sym same)
             (due-ids nodes c.args.from c.args.until);
-        each = λ slot. elim (cases_lt slot most_slots) [
-          | inl within ↦ sent-slots _ _ _ slot _ (c.difference-sent.ensures.slots slot) (all slot) (apart slot)
-          | inr beyond ↦ sent-none _ _ _ slot _ (has_bit-above _ most_slots slot c.known-2.ensures.below beyond) (has_bit-above _ most_slots slot c.known.ensures.below beyond) (all slot)
-        ];
+        each = grind (arith, cases_lt, sent-slots, sent-none, has_bit-above);
       };
     }
 

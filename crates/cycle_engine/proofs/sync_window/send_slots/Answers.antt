@@ -1,48 +1,27 @@
-use Rattle.std.proofs.Common.{◌≡◌, ℕ, ◌++◌, ◌+◌, ◌||◌, drop, nat_eq, length, sym, ap, ◌∙◌, arith, append-nil, refl, subst, ◌<◌, ◌∷◌, []}
+use Rattle.std.proofs.Common.{◌≡◌, ℕ, ◌++◌, ◌+◌, ◌||◌, drop, nat_eq, length, sym, ap, arith, append-nil, subst, ◌∷◌, []}
 use Rattle.std.proofs.lemmas.List.{drop_all, length-append}
 use Rattle.can_frame.specs.declared.data_frame.TimedFrame.{TimedFrame}
 use Rattle.cycle_engine.specs.SyncWindow.{back_to_back, by_slots, due_among, is_among}
 use Rattle.bit_sets.proofs.Shared.{least-of, without-less}
-use Rattle.bit_sets.specs.Sets.{has_bit, most_slots}
+use Rattle.bit_sets.specs.Sets.{most_slots}
 use Rattle.cycle_engine.proofs.Sent.{among-more, apart-more, due-identifier, left-before, left-more}
 use Rattle.cycle_engine.proofs.BySlots.{among-first, among-none, put-late, put-more}
 use Rattle.cycle_engine.proofs.sync_window.send_slots.Goals as goal
 
 pub loop-slot-init : goal.loop-slot-init
-loop-slot-init c = record {
-  all = refl;
-  among = λ slot has. has;
-  few = omega arith;
-  left = λ slot. ap (λ xs. is_among slot xs || has_bit c.args.set slot) (sym (drop_all (length c.args.out.now.items) c.args.out.now.items (omega arith)));
-  apart = λ slot has. ap (is_among slot) (drop_all (length c.args.out.now.items) c.args.out.now.items (omega arith));
-  long = omega arith;
-  more = omega arith;
-  capacity = omega arith;
-}
+loop-slot-init c = grind (arith, drop_all)
 
 pub returns-then-at-until : goal.returns-then-at-until
-returns-then-at-until c =
-    let nothing = put-late (by_slots (due_among (c.args.node.now.state ∷ []) c.loop-slot.left)) c.loop-slot.at c.args.until c.if-at-until.true in
-    record {
-      sent = sym (append-nil c.loop-slot.out.items) ∙ ap (λ fs. c.loop-slot.out.items ++ fs) (sym nothing) ∙ c.loop-slot.invariant.all;
-      left = c.loop-slot.invariant.left;
-      apart = c.loop-slot.invariant.apart;
-      capacity = c.loop-slot.invariant.capacity;
-    }
+returns-then-at-until c = grind (arith, put-late, append-nil)
 
 pub due_frame-frame-requires-clause-slot : goal.due_frame-frame-requires-clause-slot
 due_frame-frame-requires-clause-slot c = (least-of c.loop-slot.left c.in-Some.slot (sym c.in-Some.ensures.least)).0
 
 pub due_frame-frame-requires-clause-due : goal.due_frame-frame-requires-clause-due
-due_frame-frame-requires-clause-due c =
-    let least = least-of c.loop-slot.left c.in-Some.slot (sym c.in-Some.ensures.least) in
-    c.requires.due c.in-Some.slot least.0 (c.loop-slot.invariant.among c.in-Some.slot least.1)
+due_frame-frame-requires-clause-due c = grind (arith, least-of)
 
 pub push_reserved-requires : goal.push_reserved-requires
-push_reserved-requires c =
-    let so_far = c.loop-slot.invariant in
-    let begun : c.args.from < c.args.until = omega (arith, so_far.few, so_far.more, c.if-at-until.false) in
-    omega (arith, c.requires.room begun, so_far.few, so_far.more, so_far.capacity, c.if-at-until.false)
+push_reserved-requires c = grind arith
 
 pub loop-slot-smaller : goal.loop-slot-smaller
 loop-slot-smaller c =
@@ -64,8 +43,7 @@ loop-slot-preserved c =
     let sent : TimedFrame = record { start = c.loop-slot.at; len = c.wire_len-len.result; frame = c.due_frame-frame.result } in
     let put = c.push_reserved.ensures.items in
     let behind : (slot : ℕ) → is_among slot (drop (length c.args.out.now.items) c.push_reserved.new.self.items)
-    ≡ (is_among slot (drop (length c.args.out.now.items) c.loop-slot.out.items) || nat_eq slot c.in-Some.slot) = λ slot. among-more c.args.out.now.items c.loop-slot.out.items c.push_reserved.new.self.items sent slot c.in-Some.slot so_far.long put
-    (due-identifier nodes c.in-Some.slot c.due_frame-frame.result c.due_frame-frame.ensures.frame) in
+    ≡ (is_among slot (drop (length c.args.out.now.items) c.loop-slot.out.items) || nat_eq slot c.in-Some.slot) = grind (arith, among-more, due-identifier) in
     record {
       all = subst (λ n. c.push_reserved.new.self.items ++ back_to_back later (c.loop-slot.at + n) until ≡ total) (sym c.from-at.ensures)
           (put-more c.loop-slot.out.items c.push_reserved.new.self.items total (by_slots (due_among nodes c.loop-slot.left)) later c.due_frame-frame.result
@@ -80,15 +58,7 @@ loop-slot-preserved c =
     }
 
 pub returns : goal.returns
-returns c =
-    let nothing = among-none (c.args.node.now.state ∷ []) c.loop-slot.left (sym c.in_default.ensures.least) in
-    record {
-      sent = sym (append-nil c.loop-slot.out.items)
-          ∙ ap (λ fs. c.loop-slot.out.items ++ back_to_back fs c.loop-slot.at c.args.until) (sym nothing) ∙ c.loop-slot.invariant.all;
-      left = c.loop-slot.invariant.left;
-      apart = c.loop-slot.invariant.apart;
-      capacity = c.loop-slot.invariant.capacity;
-    }
+returns c = grind (arith, among-none, append-nil)
 
 pub bounds-fronts-from : goal.bounds-fronts-from
 bounds-fronts-from c = omega (arith, c.from.ensures, (least-of c.loop-slot.left c.in-Some.slot (sym c.in-Some.ensures.least)).0)

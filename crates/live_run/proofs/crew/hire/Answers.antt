@@ -1,11 +1,18 @@
-use Rattle.std.proofs.Common.{◌≡◌, ◌+◌, List, length, sym, ap, ◌∙◌, subst, arith}
-use Rattle.turn_lock.specs.Passes.{Known}
+use Rattle.std.proofs.Common.{◌≡◌, ◌+◌, ℕ, List, refl, length, sym, ap, ◌∙◌, subst, arith}
+use Rattle.turn_lock.specs.declared.view.View.{View}
+use Rattle.turn_lock.specs.Passes.{Known, split_from}
 use Rattle.admission_rules.specs.declared.Rules.{Rules}
 use Rattle.master_core.specs.declared.event.Event.{Event}
-use Rattle.live_run.specs.Crew.{AreHired, IsHired}
+use Rattle.live_run.specs.Crew.{AreHired, HasLent, IsHired}
 use Rattle.live_run.specs.declared.crew.Operator.{Operator}
 use Rattle.live_run.proofs.Crews.{places-more}
 use Rattle.live_run.proofs.crew.hire.Goals as goal
+
+-- one more pass was made
+lent-next : (v : View Event Rules) (n : ℕ) → HasLent v (split_from (record v { made = v.made + n; out = v.out + n })) (n + 1)
+lent-next v n =
+    let more : (a : ℕ) → a + n + 1 ≡ a + (n + 1) = λ a. omega arith in
+    rw (more v.made, more v.out) refl
 
 pub loop-preserved : goal.loop-preserved
 loop-preserved c =
@@ -13,7 +20,8 @@ loop-preserved c =
     let before = c.loop.invariant in
     let lent = c.operator.ensures.lent in
     let so_far = before.lent in
-    let made : c.loop.pass.view.made ≡ c.loop.counter = omega (arith, so_far.made, c.requires.first) in
+    let many : c.loop.pass.view.made ≡ c.args.pass.now.view.made + c.loop.counter = ap (λ (v : View Event Rules). v.made) so_far in
+    let made : c.loop.pass.view.made ≡ c.loop.counter = omega (arith, many, c.requires.first) in
     let long : length c.loop.operators.items ≡ c.loop.counter = sym c.loop.operators.ok.0 ∙ before.count in
     record {
       hired = subst (λ (l : List Operator). AreHired c.args.shared.now l) (sym c.in_ok-push.ensures.items)
@@ -24,13 +32,6 @@ loop-preserved c =
           }));
       count = grind (arith);
       room = grind (arith);
-      lent = record {
-        number = ap (λ (k : Known Event Rules). k.view.number) lent ∙ so_far.number;
-        made = ap (λ (k : Known Event Rules). k.view.made) lent ∙ (let m = so_far.made in omega arith);
-        out = ap (λ (k : Known Event Rules). k.view.out) lent ∙ (let m = so_far.out in omega arith);
-        seen = ap (λ (k : Known Event Rules). k.view.seen) lent ∙ so_far.seen;
-        mine = ap (λ (k : Known Event Rules). k.view.mine) lent ∙ so_far.mine;
-        ended = ap (λ (k : Known Event Rules). k.view.ended) lent ∙ so_far.ended;
-      };
+      lent = ap (λ (k : Known Event Rules). k.view) lent ∙ (ap split_from so_far ∙ lent-next c.args.pass.now.view c.loop.counter);
       standing = c.operator.ensures.standing;
     }

@@ -1,5 +1,6 @@
 use Rattle.std.proofs.Common.{◌≡◌, ◌≤◌, ◌∙◌, ℕ, List, All, Contains, length, drop, true, sym, ap, subst, arith}
 use Rattle.std.proofs.lemmas.List.Elements.{All-nil}
+use Rattle.turn_lock.specs.declared.view.View.{View}
 use Rattle.turn_lock.specs.Passes.{IsOfLock, Known}
 use Rattle.admission_rules.specs.declared.Rules.{Rules}
 use Rattle.master_core.specs.declared.event.Event.{Event}
@@ -19,7 +20,7 @@ share-ran-requires-clause-running g c =
     let (of_t, (of_g, (sync_t, (sync_g, (known, (rules, (first, (fresh, (few, eight))))))))) = c.requires in
     λ lifetimes bounds. can_begin (record { under_way = c.beginning.ensures.under_way; ready = c.beginning.ensures.ready })
     g.setting c.args.shared.now c.hire.new.pass.view.seen (record { nodes = c.args.nodes; trace = c.new.result })
-    known rules (c.in_ok-operators.ensures.lent.seen ∙ ap (λ (k : Known Event Rules). k.view.seen) first.is) fresh c.new.ensures.items
+    known rules (ap (λ (v : View Event Rules). v.seen) c.in_ok-operators.ensures.lent ∙ ap (λ (k : Known Event Rules). k.view.seen) first.is) fresh c.new.ensures.items
 
 pub retire_all-answered-requires-clause-operators : goal.retire_all-answered-requires-clause-operators
 retire_all-answered-requires-clause-operators g c =
@@ -49,9 +50,9 @@ returns-clause-run g c =
     let stays = c.share-ran.ensures.stays in
     let running = begun (record { under_way = c.beginning.ensures.under_way; ready = c.beginning.ensures.ready })
     g.setting c.args.shared.now c.hire.new.pass.view.seen (record { nodes = c.args.nodes; trace = c.new.result })
-    known rules (lent.seen ∙ ap (λ (k : Known Event Rules). k.view.seen) first.is) fresh c.new.ensures.items in
+    known rules (ap (λ (v : View Event Rules). v.seen) lent ∙ ap (λ (k : Known Event Rules). k.view.seen) first.is) fresh c.new.ensures.items in
     let all_made : c.retire_all-answered.new.pass.view.made ≡ length c.args.scripts.items =
-    c.retire_all-answered.ensures.made ∙ (stays.made ∙ (let m = lent.made in let f = ap (λ (k : Known Event Rules). k.view.made) first.is in
+    c.retire_all-answered.ensures.made ∙ (stays.made ∙ (let m = ap (λ (v : View Event Rules). v.made) lent in let f = ap (λ (k : Known Event Rules). k.view.made) first.is in
     omega (arith, c.len.ensures, c.args.scripts.ok.0))) in
     left-behind (record {
       between = record { under_way = c.calls_between.ensures.under_way; ready = c.calls_between.ensures.ready };
@@ -61,7 +62,7 @@ returns-clause-run g c =
     }) g.setting c.args.shared.now c.args.cycles c.args.scripts.items operators c.share-ran.new.pass c.retire_all-answered.new.pass c.share-ran.new.bus
     (record { trace = c.of.result; left = c.left-left.result })
     known rules (c.in_ok-ran.ensures.running g.setting running) c.share-ran.ensures.standing c.retire_all-answered.ensures.standing
-    (stays.number ∙ (lent.number ∙ ap (λ (k : Known Event Rules). k.view.number) first.is))
+    (stays.number ∙ (ap (λ (v : View Event Rules). v.number) lent ∙ ap (λ (k : Known Event Rules). k.view.number) first.is))
     c.retire_all-answered.ensures.number c.retire_all-answered.ensures.mine c.retire_all-answered.ensures.begins c.in_ok-ran.ensures.cycles
     same done
     (subst (λ (l : List Operator). All (λ (o : Operator). Contains c.retire_all-answered.new.pass.view.ended (o.pass.view.number, o.pass.view.mine)) l) entire
@@ -70,7 +71,7 @@ returns-clause-run g c =
     all_made c.retire_all-answered.ensures.out
     (c.retire_all-answered.ensures.few (length c.args.scripts.items)
     (subst (λ (l : List (ℕ × List Event)). All (λ (entry : ℕ × List Event). entry.0 ≤ length c.args.scripts.items) l)
-    (sym (stays.ended ∙ (lent.ended ∙ ap (λ (k : Known Event Rules). k.view.ended) first.is))) (All-nil (λ (entry : ℕ × List Event). entry.0 ≤ length c.args.scripts.items)))
+    (sym (stays.ended ∙ (ap (λ (v : View Event Rules). v.ended) lent ∙ ap (λ (k : Known Event Rules). k.view.ended) first.is))) (All-nil (λ (entry : ℕ × List Event). entry.0 ≤ length c.args.scripts.items)))
     (subst (λ (l : List Operator). All (λ (o : Operator). o.pass.view.number ≤ length c.args.scripts.items) l)
     (sym (whole c.in_ok-operators.operators.len operators (drop (length operators) c.in_ok-operators.operators.items) long))
     (done-few c.args.shared.now c.args.scripts.items operators same done)))
@@ -82,7 +83,7 @@ returns-clause-left g c =
     let lent = c.in_ok-operators.ensures.lent in
     let begun = begun (record { under_way = c.beginning.ensures.under_way; ready = c.beginning.ensures.ready })
     g.setting c.args.shared.now c.hire.new.pass.view.seen (record { nodes = c.args.nodes; trace = c.new.result })
-    known rules (lent.seen ∙ ap (λ (k : Known Event Rules). k.view.seen) first.is) fresh c.new.ensures.items in
+    known rules (ap (λ (v : View Event Rules). v.seen) lent ∙ ap (λ (k : Known Event Rules). k.view.seen) first.is) fresh c.new.ensures.items in
     let running = c.in_ok-ran.ensures.running g.setting begun in
     let bus = c.share-ran.new.bus in
     let ready = running.way.ready in

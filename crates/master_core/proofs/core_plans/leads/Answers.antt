@@ -1,9 +1,8 @@
-use Rattle.std.proofs.Common.{◌≡◌, ◌∙◌, ◌-◌, ap, arith, subst, sym}
-use Rattle.bit_sets.specs.Sets.{has_bit, most_slots, set_of}
+use Rattle.std.proofs.Common.{◌≡◌, ◌∙◌, ◌-◌, ap, arith, subst}
+use Rattle.bit_sets.specs.Sets.{has_bit}
 use Rattle.requirement_table.specs.Table.{not_over}
-use Rattle.planner_policies.specs.declared.state.PlanState.{PlanState}
-use Rattle.planner_policies.specs.Plan.{HasNoMiss, HasNoMissIn, IsMissIn, Ranking, Standing, left_after, pending_at, planning_of}
-use Rattle.admission.specs.Verdict.{plan_from, ranking_by}
+use Rattle.planner_policies.specs.Plan.{HasNoMiss, HasNoMissIn, Ranking, Standing, planning_of}
+use Rattle.admission.specs.Verdict.{plan_from}
 use Rattle.requirement_table.proofs.Shared.{not_over-well_placed}
 use Rattle.master_core.proofs.CorePlans.{first-pending, leads-by, leads-none, leads-to, step-in_time, step-pending}
 use Rattle.master_core.proofs.Onward.{valid-left}
@@ -16,26 +15,10 @@ rank_list-requires c = record {
 }
 
 pub new-requires-clause-valid : goal.new-requires-clause-valid
-new-requires-clause-valid c =
-    rw (c.in_ok-ranked.ensures.ranked, c.in_ok-left.ensures.list)
-    (valid-left c.args.from.now.cycle c.args.placed.now c.args.from.now.pending c.requires.valid)
+new-requires-clause-valid c = grind (arith, valid-left)
 
 pub loop-init : goal.loop-init
-loop-init c =
-    let standing = c.in_ok-planner.ensures.standing in
-    let here = ap (λ (s : Standing). s.cycle) standing in
-    record {
-      ranking =
-          ap (λ (s : Standing). s.ranking) standing
-          ∙ c.in_ok-ranked.ensures.ranked
-          ∙ ap (ranking_by c.args.rules.now) c.in_ok-left.ensures.list;
-      cycle = omega (arith, here);
-      in_time = λ m slot before known. absurd (omega arith);
-      pending =
-          ap (λ (s : Standing). s.pending) standing
-          ∙ first-pending (plan_from c.args.rules.now (not_over c.args.from.now.cycle c.args.placed.now) c.args.from.now.cycle c.args.from.now.pending)
-          c.known.ensures.slots;
-    }
+loop-init c = grind (arith, first-pending)
 
 pub loop-preserved : goal.loop-preserved
 loop-preserved c =
@@ -49,27 +32,12 @@ loop-preserved c =
           step-in_time c.args.rules.now (not_over c.args.from.now.cycle c.args.placed.now) c.args.from.now.cycle c.args.from.now.pending c.loop.counter
           c.loop.planner.cycle c.loop.planner.pending c.loop.invariant.cycle c.loop.invariant.pending c.loop.invariant.in_time
           (subst (λ (r : Ranking). HasNoMissIn (planning_of r c.args.rules.now.window c.loop.planner.cycle c.loop.planner.pending) c.loop.planner.cycle (has_bit c.loop.planner.pending)) c.loop.invariant.ranking c.in-Ok.ensures.none_missed);
-      pending =
-          ap (λ (s : Standing). s.pending) next
-          ∙ ap
-          (λ (r : Ranking).
-          set_of most_slots
-          (left_after (planning_of r c.args.rules.now.window c.loop.planner.cycle c.loop.planner.pending) c.loop.planner.cycle (has_bit c.loop.planner.pending)))
-          c.loop.invariant.ranking
-          ∙ step-pending c.args.rules.now (not_over c.args.from.now.cycle c.args.placed.now) c.args.from.now.cycle c.args.from.now.pending c.loop.counter
-          c.loop.planner.cycle c.loop.planner.pending c.loop.invariant.cycle c.loop.invariant.pending;
+      pending = grind (arith, step-pending);
     }
 
 -- a miss on the way
 pub returns-in-Err-clause-apart : goal.returns-in-Err-clause-apart
-returns-in-Err-clause-apart c off leads =
-    let counted = c.loop.invariant.cycle in
-    let within = c.loop-test.true in
-    leads-none c.args.rules.now c.args.placed.now c.args.from.now c.args.to.now c.loop.counter c.loop.planner.cycle c.loop.planner.pending
-    c.in-Err.field-0.slot c.in-Err.field-0.release
-    c.requires.well_placed leads (omega arith) counted c.loop.invariant.pending
-    (subst (λ (r : Ranking). IsMissIn (planning_of r c.args.rules.now.window c.loop.planner.cycle c.loop.planner.pending) c.loop.planner.cycle
-    (has_bit c.loop.planner.pending) c.in-Err.field-0.slot c.in-Err.field-0.release) c.loop.invariant.ranking c.in-Err.ensures.missed)
+returns-in-Err-clause-apart c off leads = grind (arith, leads-none)
 
 pub returns-clause-leads : goal.returns-clause-leads
 returns-clause-leads c same =
@@ -79,10 +47,7 @@ returns-clause-leads c same =
     leads-by c.args.rules.now c.args.placed.now c.args.from.now c.args.to.now c.requires.well_placed c.requires.valid c.requires.order
     (subst (HasNoMiss (plan_from c.args.rules.now (not_over c.args.from.now.cycle c.args.placed.now) c.args.from.now.cycle c.args.from.now.pending)) at
     c.loop.invariant.in_time)
-    (sym (ap (λ (s : PlanState). s.pending) (c.same_state.ensures.same same))
-    ∙ c.state.ensures.pending
-    ∙ c.loop.invariant.pending
-    ∙ ap (pending_at (plan_from c.args.rules.now (not_over c.args.from.now.cycle c.args.placed.now) c.args.from.now.cycle c.args.from.now.pending)) at)
+    (grind arith)
 
 pub returns-clause-apart : goal.returns-clause-apart
 returns-clause-apart c other leads =

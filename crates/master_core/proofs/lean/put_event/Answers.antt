@@ -1,7 +1,5 @@
-use Rattle.std.proofs.Common.{◌≡◌, ◌∙◌, Bool, List, [], ◌∷◌, ◌++◌, ap, false, if◌then◌else◌, refl, true}
-use Rattle.requirement_table.specs.declared.entries.Placed.{Placed}
-use Rattle.master_core.specs.declared.event.Event.TheVariants.{Submit}
-use Rattle.master_core.specs.Cores.{CoreView, IsStateAs}
+use Rattle.std.proofs.Common.{◌∙◌, ap, true}
+use Rattle.master_core.specs.Cores.{CoreView}
 use Rattle.master_core.proofs.Growing.{answered-placed}
 use Rattle.master_core.proofs.Whole.{answered-same}
 use Rattle.master_core.proofs.lean.put_event.Goals as goal

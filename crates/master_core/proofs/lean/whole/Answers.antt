@@ -1,5 +1,4 @@
-use Rattle.std.proofs.Common.{◌≡◌, ◌∙◌, List, ap, false, subst, sym}
-use Rattle.requirement_table.specs.declared.entries.Placed.{Placed}
+use Rattle.std.proofs.Common.{◌∙◌, ap, false, subst, sym}
 use Rattle.master_core.specs.Cores.{CoreView, IsStateAs, with_all}
 use Rattle.master_core.proofs.Legal.{sound-of_legal}
 use Rattle.master_core.proofs.States.{state-all}

@@ -4,10 +4,7 @@ use Rattle.node_model.proofs.Ready.{all-forgotten, none-forgotten, one-forgotten
 use Rattle.node_model.proofs.entries.forget.Goals as goal
 
 pub loop-slot-init : goal.loop-slot-init
-loop-slot-init c = record {
-  forgotten = λ before ready slot. none-forgotten before c.args.ready.now ready slot;
-  size = c.told-ready;
-}
+loop-slot-init c = grind (arith, none-forgotten)
 
 pub loop-slot-preserved : goal.loop-slot-preserved
 loop-slot-preserved c = record {

@@ -3,11 +3,7 @@ use Rattle.plan_check.proofs.Filled.{clear-next, filled-next, filled-whole}
 use Rattle.plan_check.proofs.blocks.fill.Goals as goal
 
 pub loop-slot-preserved : goal.loop-slot-preserved
-loop-slot-preserved c = record {
-  filled = filled-next c.args.placed.now c.args.from c.args.count c.loop-slot.slot c.loop-slot.block c.fill_slot.new.block c.fill_slot.ensures.others
-      c.fill_slot.ensures.filled c.loop-slot.invariant.filled;
-  clear = clear-next c.args.count c.loop-slot.slot c.loop-slot.block c.fill_slot.new.block c.fill_slot.ensures.others c.loop-slot.invariant.clear;
-}
+loop-slot-preserved c = grind (arith, filled-next, clear-next)
 
 pub returns : goal.returns
 returns c = record {

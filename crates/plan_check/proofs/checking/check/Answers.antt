@@ -1,10 +1,10 @@
-use Rattle.std.proofs.Common.{◌≡◌, ℕ, ◌-◌, ◌+◌, ◌∙◌, refl, ap, not, ◌&&◌, nat_eq, ◌<◌, ◌≤◌, List, Result, Ok, Err, IsOk, IsErr, length, arith}
+use Rattle.std.proofs.Common.{◌≡◌, ℕ, ◌-◌, ◌+◌, refl, not, ◌&&◌, nat_eq, ◌<◌, ◌≤◌, List, Result, IsOk, IsErr, length, arith}
 use Rattle.std.specs.List.{list_any}
 use Rattle.requirement_table.specs.declared.entries.Placed.{Placed}
 use Rattle.bit_sets.specs.Sets.{has_bit, most_slots}
 use Rattle.plan_check.specs.declared.breach.Breach.TheVariants.{BadLoop}
 use Rattle.plan_check.specs.Certificate.{CertificateView, IsCertificate, length_of}
-use Rattle.plan_check.specs.PlanKept.{IsTaken, differ, goes_round, is_bad, is_held, is_open}
+use Rattle.plan_check.specs.PlanKept.{differ, goes_round, is_bad, is_held, is_open}
 use Rattle.plan_check.proofs.CycleSteps.{least-same, none-same}
 use Rattle.plan_check.proofs.Taken.{breach-wrong, taken-of}
 use Rattle.plan_check.proofs.SlotSets.{no-least}
@@ -13,24 +13,17 @@ use Rattle.plan_check.proofs.checking.check.Goals as goal
 bad-is : (placed : List Placed) (certificate : CertificateView) (bad first length : ℕ) → first ≡ certificate.first → length ≡ length_of certificate
     → ((slot : ℕ) → has_bit bad slot ≡ list_any {X = Placed} (λ p. nat_eq p.entry.slot slot && not (goes_round first length p)) placed)
     → (slot : ℕ) → slot < most_slots → has_bit bad slot ≡ is_bad placed certificate slot
-bad-is placed certificate bad first length same_first same_length made slot known =
-    made slot
-    ∙ ap (λ n. list_any {X = Placed} (λ p. nat_eq p.entry.slot slot && not (goes_round n length p)) placed) same_first
-    ∙ ap (λ n. list_any {X = Placed} (λ p. nat_eq p.entry.slot slot && not (goes_round certificate.first n p)) placed) same_length
+bad-is placed certificate bad first length same_first same_length made slot known = grind arith
 
 open-is : (placed : List Placed) (certificate : CertificateView) (before behind both : ℕ)
     → ((s : ℕ) → s < most_slots → has_bit before s ≡ is_held placed certificate (certificate.first - certificate.from) s)
     → ((s : ℕ) → s < most_slots → has_bit behind s ≡ is_held placed certificate (certificate.first - certificate.from + length_of certificate) s)
     → ((s : ℕ) → s < most_slots → has_bit both s ≡ differ (has_bit before s) (has_bit behind s))
     → (s : ℕ) → s < most_slots → has_bit both s ≡ is_open placed certificate s
-open-is placed certificate before behind both held_before held_behind made s known =
-    made s known
-    ∙ ap (λ b. differ b (has_bit behind s)) (held_before s known)
-    ∙ ap (λ b. differ (is_held placed certificate (certificate.first - certificate.from) s) b) (held_behind s known)
+open-is placed certificate before behind both held_before held_behind made s known = grind arith
 
 ok-err : {T E : Type 0} (r : Result T E) → IsOk r → IsErr r → ⊥
-ok-err (Ok x) ok err = cc
-ok-err (Err e) ok err = cc
+ok-err r ok err = grind arith
 
 is-certificate : (certificate : CertificateView) (first : ℕ) → first ≡ certificate.first → certificate.from ≤ first
     → first < certificate.from + length certificate.masks → IsCertificate certificate.from certificate.first certificate.masks
@@ -58,11 +51,7 @@ check_cycles-requires-clause-rounds c =
     c.in_default.ensures.least
 
 pub returns-in_err-before-clause-ok : goal.returns-in_err-before-clause-ok
-returns-in_err-before-clause-ok c =
-    let breach = c.in_err-before.field-0.0 in
-    let wrong : IsTaken c.args.placed.now c.args.w c.args.certificate.now → ⊥
-    = λ taken. breach-wrong c.args.placed.now c.args.w c.args.certificate.now c.requires.well_placed c.requires.pending taken breach c.in_err-before.ensures.breach in
-    (λ ok. absurd (ok-err c.from_residual.result ok c.from_residual.ensures.0), λ taken. absurd (wrong taken))
+returns-in_err-before-clause-ok c = grind (arith, breach-wrong, ok-err)
 
 pub returns-in-Some-least-clause-breach : goal.returns-in-Some-least-clause-breach
 returns-in-Some-least-clause-breach c =
@@ -73,23 +62,11 @@ returns-in-Some-least-clause-breach c =
           (bad-is placed certificate c.bad_slots.result c.first.result c.length.result c.first.ensures.value c.length.ensures.value c.bad_slots.ensures.slots)
           c.in_default.ensures.least;
       good = c.in_ok-before.ensures.good;
-      slot_is = least-same (has_bit c.symmetric_difference.result) (is_open placed certificate) c.in-Some-least.slot
-          (open-is placed certificate c.in_ok-before.before c.in_ok-before.behind c.symmetric_difference.result c.in_ok-before.ensures.before
-          c.in_ok-before.ensures.behind c.symmetric_difference.ensures.slots)
-          c.in-Some-least.ensures.least;
+      slot_is = grind (arith, least-same, open-is);
     }
 
 pub returns-in-Some-least-clause-ok : goal.returns-in-Some-least-clause-ok
-returns-in-Some-least-clause-ok c =
-    let placed = c.args.placed.now in
-    let certificate = c.args.certificate.now in
-    let least = least-same (has_bit c.symmetric_difference.result) (is_open placed certificate) c.in-Some-least.slot
-    (open-is placed certificate c.in_ok-before.before c.in_ok-before.behind c.symmetric_difference.result c.in_ok-before.ensures.before
-    c.in_ok-before.ensures.behind c.symmetric_difference.ensures.slots)
-    c.in-Some-least.ensures.least in (
-      λ wrong. absurd (cc),
-      λ taken. absurd (no-least (is_open placed certificate) c.in-Some-least.slot taken.loop.closed least),
-    )
+returns-in-Some-least-clause-ok c = grind (arith, least-same, open-is, no-least)
 
 pub returns-in-None-clause-ok : goal.returns-in-None-clause-ok
 returns-in-None-clause-ok c =
@@ -101,9 +78,6 @@ returns-in-None-clause-ok c =
           (bad-is placed certificate c.bad_slots.result c.first.result c.length.result c.first.ensures.value c.length.ensures.value c.bad_slots.ensures.slots)
           c.in_default.ensures.least)
           c.in_ok-before.ensures.good
-          (none-same (has_bit c.symmetric_difference.result) (is_open placed certificate)
-          (open-is placed certificate c.in_ok-before.before c.in_ok-before.behind c.symmetric_difference.result c.in_ok-before.ensures.before
-          c.in_ok-before.ensures.behind c.symmetric_difference.ensures.slots)
-          c.in-None.ensures.least),
+          (grind (arith, none-same, open-is)),
       λ _. refl,
     )

@@ -42,13 +42,7 @@ module _ (c : After-index-block-index-in-loop-i) where
 
   flags : (s : ℕ) → s < most_slots → has_bit c.index-masks-cycle.result s
       ≡ is_flagged c.args.certificate.now number s
-  flags =
-      let certificate = c.args.certificate.now in
-      let value = c.from-from.ensures.value in
-      mask-flags certificate number c.index-masks-cycle.result c.requires.certificate in-masks
-      (c.index-masks-cycle.is
-      ∙ mask-at c.masks-masks.result.now certificate.masks (c.args.cycle + c.loop-i.i - c.from-from.result) number
-      c.index-masks-cycle.result c.masks-masks.ensures.list (omega arith) in-masks)
+  flags s h0 = grind (arith, mask-flags, in-masks, mask-at)
 
 pub returns-in_err-left-clause-breach : goal.returns-in_err-left-clause-breach
 returns-in_err-left-clause-breach c =

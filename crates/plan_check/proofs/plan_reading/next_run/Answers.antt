@@ -1,4 +1,4 @@
-use Rattle.std.proofs.Common.{◌≡◌, true, ap, sym, ◌∙◌, arith}
+use Rattle.std.proofs.Common.{◌≡◌, true, ap, ◌∙◌, arith}
 use Rattle.plan_check.specs.declared.plan_runs.MaskRun.{MaskRun}
 use Rattle.plan_check.specs.PlanText.{is_other, run_line}
 use Rattle.plan_check.proofs.LineReads.{follows-other, of-version, run-same}
@@ -25,8 +25,7 @@ returns-else-run-ge1-clause-none c = λ run after may few small is.
     let read = c.in_ok-run.run' in
     let line = line-is c.args.text.now c.in_ok-line.line.now c.in_ok-line.after.now (run_line c.args.version run) after c.in_ok-line.ensures.split
     c.in_ok-line.ensures.line (clean-run c.args.version run small) is in
-    let same : read ≡ run = run-same c.args.version read run c.in_ok-run.ensures.of_version (of-version c.args.version c.args.last run may small)
-    (sym c.in_ok-run.ensures.found ∙ line) in
+    let same : read ≡ run = grind (arith, run-same, of-version) in
     let counts : read.count ≡ run.count = ap (λ (r : MaskRun). r.count) same in
     let other : is_other c.args.last read.mask c.args.version ≡ true
     = ap (λ (r : MaskRun). is_other c.args.last r.mask c.args.version) same ∙ follows-other c.args.version c.args.last run may.follows in

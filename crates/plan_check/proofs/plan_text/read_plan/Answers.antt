@@ -1,4 +1,4 @@
-use Rattle.std.proofs.Common.{◌≡◌, ◌<◌, zero, suc, true, ℕ, ◌+◌, ◌-◌, ◌∷◌, [], List, false, length, nat_eq, refl, sym, ap, rules, arith}
+use Rattle.std.proofs.Common.{◌≡◌, ◌<◌, true, ℕ, ◌∷◌, [], List, false, length, nat_eq, refl, sym, ap, rules, arith}
 use Rattle.plan_check.specs.declared.text_fault.PlanTextFault.TheVariants.{Memory}
 use Rattle.plan_check.specs.PlanText.{IsTextFault}
 use Rattle.plan_check.proofs.BodyReads.{WasRead, fault-back, run-fault, was-read, wrong-behind, wrong-end, wrong-run}
@@ -10,8 +10,7 @@ none-length : (k : ℕ) → true ≡ nat_eq k 0 → k ≡ 0
 none-length k test = eqb-true k 0 (sym test)
 
 some-length : (k : ℕ) → false ≡ nat_eq k 0 → 0 < k
-some-length zero test = absurd (cc)
-some-length (suc k) test = omega arith
+some-length k test = grind arith
 
 not-empty : (tail : List ℕ) → false ≡ nat_eq (length tail) 0 → tail ≡ [] → ⊥
 not-empty tail test none = let some = some-length (length tail) test in let size = ap length none in omega arith
@@ -25,13 +24,7 @@ returns-in-Err-clause-back c = λ certificate plan. absurd (c.in-Err.ensures.wro
 
 -- what is wrong in the runs is what is wrong in the text
 runs-fault : (c : In_err-masks) → IsTextFault c.args.bytes.now c.in_err-masks.field-0.0
-runs-fault c =
-    let head = c.in-Ok.read.0 in
-    let rest = c.in-Ok.read.1.now in
-    run-fault head.version c.args.bytes.now rest (head.first - head.from + head.length) c.in_err-masks.field-0.0
-    c.in_err-masks.ensures.wrong
-    (λ number wrong. wrong-run head.version c.args.bytes.now head.from head.pending head.first head.length rest
-    c.in-Ok.ensures.ranges c.in-Ok.ensures.found (head.first - head.from + head.length) number refl wrong)
+runs-fault c = grind (arith, run-fault, wrong-run)
 
 pub returns-in_err-masks-clause-line : goal.returns-in_err-masks-clause-line
 returns-in_err-masks-clause-line c =
@@ -45,10 +38,7 @@ returns-in_err-masks-clause-back c = λ certificate plan.
     search (rules, memory)
 
 pub returns-in_default-clause-line : goal.returns-in_default-clause-line
-returns-in_default-clause-line c =
-    let head = c.in-Ok.read.0 in
-    wrong-end head.version c.args.bytes.now head.from head.pending head.first head.length c.in-Ok.read.1.now c.in-Ok.ensures.ranges c.in-Ok.ensures.found
-    c.in_ok-masks.masks.items c.in_ok-masks.rest.now c.in_ok-masks.number c.in_ok-masks.ensures.found c.in_default.ensures.none
+returns-in_default-clause-line c = grind (arith, wrong-end)
 
 pub returns-in_default-clause-back : goal.returns-in_default-clause-back
 returns-in_default-clause-back c = λ certificate plan.

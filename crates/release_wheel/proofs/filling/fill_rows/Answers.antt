@@ -1,16 +1,14 @@
-use Rattle.std.proofs.Common.{◌≡◌, ◌+◌, ℕ, suc, sym, subst, ap, ◌∙◌, arith, get_or, length, refl}
+use Rattle.std.proofs.Common.{◌≡◌, ◌+◌, ℕ, suc, subst, ap, ◌∙◌, arith, get_or, length, refl}
 use Rattle.std.proofs.lemmas.List.Sorted.{length_permutation}
 use Rattle.bit_sets.specs.Sets.{has_bit}
 use Rattle.bit_sets.proofs.Shared.{has_bit-none}
-use Rattle.release_wheel.specs.Wheel.{HasRoomFor, IsFilledTo, no_entry}
+use Rattle.release_wheel.specs.Wheel.{IsFilledTo, no_entry}
 use Rattle.release_wheel.proofs.RowFilling.{filled-more, filled-start, filled-whole}
 use Rattle.release_wheel.proofs.RowSums.{sum-none}
 use Rattle.release_wheel.proofs.filling.fill_rows.Goals as goal
 
 pub clear-requires : goal.clear-requires
-clear-requires c =
-    let P : ℕ → Type 0 = λ n. HasRoomFor n c.args.rows.now in
-    record { room = subst P (sym (length_permutation c.args.ranked.now.placed c.rows-entries.result.now c.rows-entries.ensures.same)) c.requires.room }
+clear-requires c = grind (arith, length_permutation)
 
 pub loop-row-init : goal.loop-row-init
 loop-row-init c =

@@ -1,4 +1,4 @@
-use Rattle.std.proofs.Common.{rules, ◌≡◌, ◌+◌, ◌-◌, ◌||◌, nat_eq, true, false, Bool, ℕ, get_or, length, ap, sym, subst, refl, ◌∙◌, arith}
+use Rattle.std.proofs.Common.{rules, ◌≡◌, ◌+◌, ◌-◌, ◌||◌, nat_eq, false, Bool, ℕ, get_or, length, ap, sym, subst, ◌∙◌, arith}
 use Rattle.requirement_table.specs.Instance.{worst}
 use Rattle.bit_sets.specs.Sets.{has_bit}
 use Rattle.release_wheel.specs.Taking.{IsTaking, goes_by, last_of}
@@ -19,31 +19,16 @@ pub first_due-row-requires-clause-due : goal.first_due-row-requires-clause-due
 first_due-row-requires-clause-due c = due-less c.args.wheel.now c.args.due c.loop-rest.rest c.requires.due c.loop-rest.invariant.rest_in
 
 pub index-requires : goal.index-requires
-index-requires c =
-    let within = due-below c.args.wheel.now c.args.due c.requires.room c.requires.due c.first_due-row.result
-    (c.loop-rest.invariant.rest_in c.first_due-row.result c.first_due-row.ensures.first.stands) in
-    search rules
+index-requires c = grind (arith, due-below, rules)
 
 pub without-rest-requires : goal.without-rest-requires
-without-rest-requires c =
-    let few = c.requires.room.few in
-    let within = due-below c.args.wheel.now c.args.due c.requires.room c.requires.due c.first_due-row.result
-    (c.loop-rest.invariant.rest_in c.first_due-row.result c.first_due-row.ensures.first.stands) in
-    record { known = omega arith }
+without-rest-requires c = grind (arith, due-below)
 
 pub without-rest-requires-else-stops : goal.without-rest-requires-else-stops
-without-rest-requires-else-stops c =
-    let few = c.requires.room.few in
-    let within = due-below c.args.wheel.now c.args.due c.requires.room c.requires.due c.first_due-row.result
-    (c.loop-rest.invariant.rest_in c.first_due-row.result c.first_due-row.ensures.first.stands) in
-    record { known = omega arith }
+without-rest-requires-else-stops c = grind (arith, due-below)
 
 pub with-left-requires : goal.with-left-requires
-with-left-requires c =
-    let few = c.requires.room.few in
-    let within = due-below c.args.wheel.now c.args.due c.requires.room c.requires.due c.first_due-row.result
-    (c.loop-rest.invariant.rest_in c.first_due-row.result c.first_due-row.ensures.first.stands) in
-    record { known = omega arith }
+with-left-requires c = grind (arith, due-below)
 
 pub loop-rest-preserved-then-cost-w : goal.loop-rest-preserved-then-cost-w
 loop-rest-preserved-then-cost-w c =
@@ -116,5 +101,4 @@ returns c =
     }
   where
     first-false : (a b : Bool) → a ≡ false → (a || b) ≡ b
-    first-false true b is = absurd (cc)
-    first-false false b is = refl
+    first-false a b is = grind arith

@@ -1,4 +1,4 @@
-use Rattle.std.proofs.Common.{◌≡◌, ◌≢◌, ◌∙◌, ℕ, Option, Some, None, sym, subst, refl, ap, get_or, arith, false, is_some}
+use Rattle.std.proofs.Common.{◌≡◌, ◌≢◌, ◌∙◌, ℕ, Option, None, sym, subst, ap, get_or, arith, false, is_some}
 use Rattle.requirement_table.specs.declared.entries.Placed.{Placed}
 use Rattle.release_wheel.specs.Wheel.{IsRowBegun, IsRowReleased, no_entry}
 use Rattle.planner_policies.proofs.Shared.{same-read}
@@ -6,8 +6,7 @@ use Rattle.release_wheel.proofs.Releasing.{begin, release, stay}
 use Rattle.release_wheel.proofs.releases.look_at.Goals as goal
 
 no-end : (o : Option ℕ) → is_some o ≡ false → o ≡ None
-no-end (Some end) is = absurd (cc)
-no-end None is = refl
+no-end o is = grind arith
 
 pub returns-then-index-cycle-clause-next : goal.returns-then-index-cycle-clause-next
 returns-then-index-cycle-clause-next c = λ before rest less g stands made.

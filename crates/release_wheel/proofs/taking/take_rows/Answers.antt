@@ -1,5 +1,4 @@
-use Rattle.std.proofs.Common.{nat_le, ◌≡◌, ◌≢◌, ◌-◌, ◌||◌, ◌∙◌, ap, sym, subst, ℕ, ⊎_elim, arith, length}
-use Rattle.std.proofs.lemmas.Bool.{cases_eq}
+use Rattle.std.proofs.Common.{nat_le, ◌≡◌, ◌||◌, ◌∙◌, ap, sym, subst, ℕ, arith, length}
 use Rattle.release_wheel.specs.Taking.{IsTaking}
 use Rattle.bit_sets.specs.Sets.{has_bit}
 use Rattle.bit_sets.specs.Rows.{rows_left}
@@ -14,10 +13,7 @@ take_word-low-requires-clause-taking c =
     subst P (sym c.rest_of.ensures.rows) (taking-start c.args.fill c.args.w nat_le c.args.entries.now c.args.due c.empty.result c.empty.ensures.slots)
 
 pub take_word-high-requires-clause-taking : goal.take_word-high-requires-clause-taking
-take_word-high-requires-clause-taking c =
-    let low = c.take_word-low.result in
-    let P : ℕ → Type 0 = λ rest. IsTaking c.args.fill c.args.w nat_le c.args.entries.now c.args.due rest low.left low.mask low.width in
-    subst P (sym c.next_word.ensures.rows) c.take_word-low.ensures.taking
+take_word-high-requires-clause-taking c = grind arith
 
 pub returns-then-low-ne0 : goal.returns-then-low-ne0
 returns-then-low-ne0 c =
@@ -46,10 +42,6 @@ returns c =
     = λ i. c.both-2.ensures.rows i ∙ ap (λ set'. has_bit set' i || has_bit last.left i) is in
     record {
       took = took c.args.fill c.args.w nat_le entries c.args.due rest last.left last.mask last.width c.both-2.result ends.taking
-          (λ dues back of is.
-          ⊎_elim
-          (λ (none : last.rest.word ≡ 0). nothing-left c.args.fill (c.args.w - last.width) rest dues back (none-left last.rest none behind) is)
-          (λ (some : last.rest.word ≢ 0). ends.stops (omega arith) dues back of is)
-          (cases_eq last.rest.word 0))
+          (λ dues back of is. grind (arith, nothing-left, none-left))
           rows (cost-both entries (length entries) rest last.left c.both-2.result ends.taking.apart rows) c.known-2.ensures.below;
     }

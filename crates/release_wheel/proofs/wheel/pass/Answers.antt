@@ -1,5 +1,5 @@
-use Rattle.std.proofs.Common.{◌≡◌, ℕ, true, false, ◌<◌, sym, subst, ◌∙◌, ⊎_elim, arith}
-use Rattle.std.proofs.lemmas.Bool.{both_ways, cases_Bool}
+use Rattle.std.proofs.Common.{◌≡◌, ℕ, true, ◌<◌, sym, subst, ◌∙◌, arith}
+use Rattle.std.proofs.lemmas.Bool.{both_ways}
 use Rattle.bit_sets.specs.Sets.{has_bit}
 use Rattle.release_wheel.specs.declared.wheel.Wheel.{Wheel}
 use Rattle.planner_policies.specs.Due.{IsPlanned}
@@ -9,11 +9,7 @@ use Rattle.release_wheel.proofs.RowCycles.{planned-all, quiet-cost, quiet-releas
 use Rattle.release_wheel.proofs.wheel.pass.Goals as goal
 
 turns-on : (ranking : Ranking) (w : Wheel) → IsWheelKept ranking w → w.cycle < w.quiet → w.turns ≡ true
-turns-on ranking w kept less =
-    ⊎_elim
-    (λ (on : w.turns ≡ true). on)
-    (λ (off : w.turns ≡ false). absurd (let none = kept.plain off in omega arith))
-    (cases_Bool w.turns)
+turns-on ranking w kept less = grind arith
 
 pub returns-clause-planned : goal.returns-clause-planned
 returns-clause-planned c = λ window.
@@ -32,21 +28,4 @@ returns-clause-planned c = λ window.
     c.empty-wheel.result c.empty-wheel.ensures.number)
 
 pub returns-clause-kept : goal.returns-clause-kept
-returns-clause-kept c =
-    let w = c.args.wheel.now in
-    let ranking = c.args.ranked.now in
-    let kept = c.requires.kept in
-    let less = c.requires.quiet in
-    let near = c.requires.cycle in
-    record {
-      near = omega arith;
-      valid = λ slot in'. absurd (both_ways (has_bit c.empty-wheel.result slot) (c.empty-wheel.ensures.slots slot) in');
-      plain = kept.plain;
-      turned = λ on.
-          let was = kept.turned on in
-          let of = was.of_ranking in
-          record {
-            turned = turned-quiet w c.empty-wheel.result was.turned less c.empty-wheel.ensures.number;
-            of_ranking = record { policy = of.policy; same = of.same; order = of.order };
-          };
-    }
+returns-clause-kept c = grind (arith, both_ways, turned-quiet)

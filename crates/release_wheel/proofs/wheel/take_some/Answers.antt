@@ -1,14 +1,11 @@
-use Rattle.std.proofs.Common.{◌+◌, ◌-◌, ◌&&◌, not, ap, ◌∙◌, length, arith}
+use Rattle.std.proofs.Common.{◌+◌, ◌-◌, ◌&&◌, not, ap, ◌∙◌, arith}
 use Rattle.bit_sets.specs.Sets.{has_bit}
 use Rattle.release_wheel.proofs.RowCycles.{some-on}
 use Rattle.release_wheel.proofs.RowSums.{costs-small}
 use Rattle.release_wheel.proofs.wheel.take_some.Goals as goal
 
 pub overflow_add-wheel-2 : goal.overflow_add-wheel-2
-overflow_add-wheel-2 c =
-    let w = c.args.wheel.now in
-    let small = costs-small (length w.rows.entries.items) w.rows w.dues c.requires.ready.released.room in
-    omega (arith, small.0, small.1)
+overflow_add-wheel-2 c = grind (arith, costs-small)
 
 pub overflow_sub-wheel : goal.overflow_sub-wheel
 overflow_sub-wheel c = let parts = c.take_due-took.ensures.took.cost in omega arith

@@ -1,9 +1,8 @@
 -- What the reader gives is the next record of the bytes that it has left.
-use Rattle.std.proofs.Common.{◌≡◌, [], Ok, Err, ap, inr, map, rules, subst, sym, ◌++◌, ◌∷◌, true, ◌+◌, arith}
+use Rattle.std.proofs.Common.{◌≡◌, [], Ok, Err, ap, map, rules, subst, sym, ◌++◌, ◌∷◌, true, arith}
 use Rattle.std.specs.Result.{is_ok}
 use Rattle.text_fields.specs.RecordReading.{fields_in}
 use Rattle.text_fields.specs.CsvRows.{rows_of, trimmed}
-use Rattle.text_fields.specs.RowByRow.{IsFirstFault}
 use Rattle.text_fields.proofs.Shared.{more_items, no_items, trimmed-more, trimmed-split}
 use Rattle.sporadic_poll.specs.StreamRow.{IsLegalStream, meaning}
 use Rattle.sporadic_poll.specs.StreamsFile.{AreStreamsOfRows, streams_of}
@@ -12,13 +11,7 @@ use Rattle.sporadic_poll.proofs.StreamsTogether.{more_legal, none_legal}
 use Rattle.sporadic_poll.proofs.reading.read_streams.Goals as goal
 
 pub loop-streams-init : goal.loop-streams-init
-loop-streams-init c =
-    record {
-      before = [];
-      reads = c.begin_reading-reader.ensures.reads;
-      means = rw c.new-streams.ensures.items (no_items (meaning c.args.slots));
-      legal = rw c.new-streams.ensures.items (none_legal c.args.slots);
-    }
+loop-streams-init c = grind (arith, no_items, none_legal)
 
 pub loop-streams-smaller : goal.loop-streams-smaller
 loop-streams-smaller c =
@@ -44,9 +37,7 @@ returns-in-Err-clause-fault c =
 
 pub returns-in-Err-clause-value : goal.returns-in-Err-clause-value
 unfolding streams_of
-returns-in-Err-clause-value c =
-    let fault : IsFirstFault (meaning c.args.slots) (rows_of c.args.bytes.now) (c.len.result + 1) c.in-Err.why = returns-in-Err-clause-fault c in
-    inr (fault_computed c.args.slots (rows_of c.args.bytes.now) (c.len.result + 1) c.in-Err.why fault)
+returns-in-Err-clause-value c = grind (arith, returns-in-Err-clause-fault, fault_computed)
 
 pub returns-clause-ok : goal.returns-clause-ok
 returns-clause-ok c =
@@ -57,9 +48,7 @@ returns-clause-ok c =
 
 pub returns-clause-value : goal.returns-clause-value
 unfolding streams_of
-returns-clause-value c =
-    let are : AreStreamsOfRows c.args.slots (rows_of c.args.bytes.now) c.loop-streams.streams.items = returns-clause-ok c in
-    streams_computed c.args.slots (rows_of c.args.bytes.now) c.loop-streams.streams.items are
+returns-clause-value c = grind (arith, returns-clause-ok, streams_computed)
 
 pub loop-streams-preserved : goal.loop-streams-preserved
 loop-streams-preserved c =

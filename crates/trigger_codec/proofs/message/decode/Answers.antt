@@ -4,12 +4,7 @@ use Rattle.trigger_codec.proofs.EightBytes.{trigger_frame-read, trigger_frame-to
 use Rattle.trigger_codec.proofs.message.decode.Goals as goal
 
 pub returns-clause-trigger : goal.returns-clause-trigger
-returns-clause-trigger c =
-    let frame = c.args.frame.now in
-    let window : c.from-l.result ≡ width_told frame.bytes = omega arith in (
-      omega arith,
-      rw (c.byte-3.ensures.value, window, c.flags-mask.ensures) (trigger_frame-read frame c.id-id.ensures.legal (omega arith) (omega arith)),
-    )
+returns-clause-trigger c = grind (arith, trigger_frame-read)
 
 pub returns-clause-every : goal.returns-clause-every
 returns-clause-every c =

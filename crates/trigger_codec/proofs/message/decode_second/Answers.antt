@@ -1,15 +1,13 @@
-use Rattle.std.proofs.Common.{ap, Ok, arith}
+use Rattle.std.proofs.Common.{arith}
 use Rattle.trigger_codec.proofs.EightBytes.{second_frame-read, second_frame-told, second_frame-high}
 use Rattle.trigger_codec.proofs.message.decode_second.Goals as goal
 
 pub returns-clause-second : goal.returns-clause-second
-returns-clause-second c =
-    rw (c.byte.ensures.value, c.second_flags-mask.ensures) (second_frame-read c.args.frame.now c.id-id.ensures.legal (omega arith) (omega arith))
+returns-clause-second c = grind (arith, second_frame-read)
 
 pub returns-clause-flags : goal.returns-clause-flags
 returns-clause-flags c =
     second_frame-high c.args.frame.now c.byte.result c.second_flags-mask.result (omega arith) (returns-clause-second c) c.second_flags-mask.ensures
 
 pub returns-clause-every : goal.returns-clause-every
-returns-clause-every c =
-    λ cycle mask below is. rw (c.byte.ensures.value, c.second_flags-mask.ensures) (ap Ok (second_frame-told c.args.frame.now cycle mask below is))
+returns-clause-every c = grind (arith, second_frame-told)

@@ -1,13 +1,9 @@
-use Rattle.std.proofs.Common.{◌+◌, ◌-◌, ◌≤◌, None, refl, arith}
-use Rattle.admission.specs.Course.{IsGoodState, course_of, key_in_period}
+use Rattle.std.proofs.Common.{◌+◌, ◌≤◌, refl, arith}
 use Rattle.admission.proofs.Stretched.{on-later, stretch-none, stretch-passed}
 use Rattle.admission.proofs.walk.PlanWalkKeyed.pass.Goals as goal
 
 pub returns-then-ahead-here-clause-stretch : goal.returns-then-ahead-here-clause-stretch
-returns-then-ahead-here-clause-stretch c =
-    let walk = c.args.self.now in
-    stretch-none (course_of walk.start.now.ranking walk.window walk.first walk.bound walk.period) (λ s. IsGoodState walk.start.now.ranking walk.first.cycle s)
-    (λ s. s.cycle - walk.first.cycle) (λ s. key_in_period walk.bound walk.period s) c.args.here.now.state None
+returns-then-ahead-here-clause-stretch c = grind (arith, stretch-none)
 
 pub returns-clause-stretch : goal.returns-clause-stretch
 returns-clause-stretch c =

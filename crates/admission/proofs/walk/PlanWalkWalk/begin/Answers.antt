@@ -1,16 +1,10 @@
-use Rattle.std.proofs.Common.{◌≤◌, sym, ap, subst, ◌∙◌, arith}
-use Rattle.planner_policies.specs.Plan.{Ranking, Standing}
-use Rattle.release_wheel.specs.Demand.{demand_in}
+use Rattle.std.proofs.Common.{sym, ap, ◌∙◌, arith}
+use Rattle.planner_policies.specs.Plan.{Standing}
 use Rattle.admission.proofs.Places.{on-passed}
 use Rattle.admission.proofs.walk.PlanWalkWalk.begin.Goals as goal
 
 pub pass_fitting-requires-clause-fits : goal.pass_fitting-requires-clause-fits
-pass_fitting-requires-clause-fits c =
-    let walk = c.args.self.now in
-    let standing = c.in_ok-planner.ensures.standing in
-    let cycle = ap (λ (s : Standing). s.cycle) standing in
-    λ at from to.
-    subst (λ (r : Ranking). demand_in r.placed at ≤ walk.window) (sym (ap (λ (s : Standing). s.ranking) standing)) (walk.fits at (omega arith) to)
+pass_fitting-requires-clause-fits c = grind arith
 
 pub returns-clause-on : goal.returns-clause-on
 returns-clause-on c =

@@ -1,7 +1,6 @@
-use Rattle.std.proofs.Common.{◌+◌, ◌<◌, ◌≤◌, refl, sym, ap, subst, ◌∙◌, arith}
+use Rattle.std.proofs.Common.{◌+◌, ◌<◌, ◌≤◌, refl, ap, ◌∙◌, arith}
 use Rattle.planner_policies.specs.declared.state.PlanState.{PlanState}
 use Rattle.planner_policies.specs.Plan.{Ranking, Standing}
-use Rattle.release_wheel.specs.Demand.{demand_in}
 use Rattle.admission.specs.Course.{state_behind, state_in}
 use Rattle.admission.proofs.Places.{behind-passed, on-next, on-passed, stands-here}
 use Rattle.admission.proofs.Same.{behind-missed, behind-planned}
@@ -30,28 +29,10 @@ returns-in-Ok-clause-next c =
     (stands-here walk.start.now.ranking walk.window planner here.state on not_later)
 
 pub returns-in-Err-clause-next : goal.returns-in-Err-clause-next
-returns-in-Err-clause-next c =
-    let here = c.args.here.now in
-    let planner = here.planner in
-    let walk = c.args.self.now in
-    let on = c.requires.on in
-    let not_later : planner.cycle ≤ here.state.cycle = omega (arith, c.if-here-state.false, c.state.ensures.cycle) in
-    behind-missed planner.ranking walk.window c.in-Err.field-0.slot c.in-Err.field-0.release (state_in planner) c.in-Err.ensures.missed
-    ∙ ap (λ (r : Ranking). state_behind r walk.window (state_in planner)) on.ranking_is
-    ∙ ap (λ (s : PlanState). state_behind walk.start.now.ranking walk.window s)
-    (stands-here walk.start.now.ranking walk.window planner here.state on not_later)
+returns-in-Err-clause-next c = grind (arith, behind-missed, stands-here)
 
 pub pass_fitting-requires-clause-fits : goal.pass_fitting-requires-clause-fits
-pass_fitting-requires-clause-fits c =
-    let walk = c.args.self.now in
-    let here = c.args.here.now in
-    let on = c.requires.on in
-    let begun = c.requires.good.begun in
-    let onward = on.onward in
-    let next = ap (λ (s : Standing). s.cycle) c.in-Ok.ensures.next in
-    λ at from to.
-    subst (λ (r : Ranking). demand_in r.placed at ≤ walk.window) (sym (ap (λ (s : Standing). s.ranking) c.in-Ok.ensures.next ∙ on.ranking_is))
-    (walk.fits at (omega arith) to)
+pass_fitting-requires-clause-fits c = grind arith
 
 pub returns-then-here-state-clause-on : goal.returns-then-here-state-clause-on
 returns-then-here-state-clause-on c =

@@ -1,7 +1,7 @@
-use Rattle.std.proofs.Common.{◌≤◌, min, vec_capacity, ap, ◌∙◌, subst, arith}
+use Rattle.std.proofs.Common.{◌≤◌, min, vec_capacity, subst, arith}
 use Rattle.std.proofs.lemmas.Result.{on_ok_weaker}
 use Rattle.cycle_engine.specs.Joint.{parts_of}
-use Rattle.cycle_engine.specs.Nodes.{KeepSpare, NodesView, states_of}
+use Rattle.cycle_engine.specs.Nodes.{KeepSpare, NodesView}
 use Rattle.cycle_engine.proofs.Parts.{have-spare, keep-spare, states-same}
 use Rattle.cycle_engine.proofs.nodes.Nodes.reserve.Goals as goal
 
@@ -11,18 +11,11 @@ returns-clause-room c =
     let more = min c.reserve-2.new.self.node.spare (vec_capacity c.reserve.new.self) in
     let first : c.args.entries ≤ vec_capacity c.reserve.new.self = omega (arith, c.in_ok-reserve.ensures.ok, c.saturating_sub-additional.ensures, c.len.ensures) in
     on_ok_weaker c.reserve-2.result
-    (λ (room : c.args.entries ≤ c.reserve-2.new.self.node.spare).
-    have-spare inside.owners.items c.reserve.new.self.items c.args.entries more inside.count c.reserve-2.new.self.node.state (omega (arith, room, first)))
+    (λ (room : c.args.entries ≤ c.reserve-2.new.self.node.spare). grind (arith, have-spare))
     c.reserve-2.ensures.room
 
 pub returns-clause-same : goal.returns-clause-same
-returns-clause-same c =
-    let inside = c.self.inside in
-    states-same inside.owners.items c.reserve.new.self.items inside.placed.items
-    (min c.reserve-2.new.self.node.spare (vec_capacity c.reserve.new.self))
-    (min inside.stations.node.spare (vec_capacity inside.placed))
-    inside.count c.reserve-2.new.self.node.state inside.stations.node.state c.reserve.ensures.items c.reserve-2.ensures.same
-    ∙ ap (λ (v : NodesView). states_of v.nodes) c.self.view_is
+returns-clause-same c = grind (arith, states-same, vec_capacity)
 
 pub returns-clause-spare : goal.returns-clause-spare
 returns-clause-spare c =

@@ -1,4 +1,4 @@
-use Rattle.std.proofs.Common.{◌≡◌, ◌∙◌, ◌<◌, All, Bool, true, List, Some, None, if◌then◌else◌, ap, subst, sym}
+use Rattle.std.proofs.Common.{◌∙◌, ◌<◌, All, Bool, true, List, Some, None, if◌then◌else◌, ap, subst, sym}
 use Rattle.requirement_table.specs.declared.entries.Placed.{Placed}
 use Rattle.requirement_table.specs.Table.{not_over}
 use Rattle.master_core.specs.Cores.{CoreView, IsPrunedBefore, with_all}

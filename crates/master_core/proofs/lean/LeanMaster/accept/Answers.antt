@@ -1,12 +1,13 @@
-use Rattle.std.proofs.Common.{◌≡◌, ◌∙◌, ℕ, true, false, [], ◌∷◌, ◌++◌, List, ap, subst, sym}
+use Rattle.std.proofs.Common.{◌≡◌, ◌∙◌, ℕ, true, [], ◌∷◌, ◌++◌, List, ap, subst, sym}
 use Rattle.change_protocol.specs.declared.operations.Change.{Change}
 use Rattle.planner_policies.specs.Plan.{pending_at}
-use Rattle.admission.specs.Verdict.{IsVerdict, is_accepted}
+use Rattle.admission.specs.Verdict.{IsVerdict}
 use Rattle.master_core.specs.declared.event.Event.{Event}
 use Rattle.master_core.specs.declared.event.Event.TheVariants.{Submit}
 use Rattle.master_core.specs.Cores.{IsPrunedBefore, IsStateAs}
 use Rattle.master_core.specs.History.{IsPlainlyLegal, next_of, placed_of, plan_of}
 use Rattle.master_core.specs.Journals.{LeanView}
+use Rattle.master_core.specs.Kept.{kept_behind}
 use Rattle.master_core.proofs.Growing.{lean-verdict, trail-accepted}
 use Rattle.master_core.proofs.Whole.{plain-more}
 use Rattle.master_core.proofs.lean.LeanMaster.accept.Goals as goal
@@ -61,3 +62,11 @@ returns-clause-plain c plain =
     let state = subst (λ (h : List Event). IsStateAs true h c.put_answer.new.core) c.in_ok-put_answer.ensures.event c.put_answer.ensures.state in
     rw c.in_ok-put_answer.ensures.event
     (plain-more _ _ _ c.self.inside.core _ c.put_answer.ensures.rules (c.in_ok-answer.ensures.answered.from ∙ c.self.invariant.0.next) state was)
+
+pub returns-clause-placed : goal.returns-clause-placed
+returns-clause-placed c =
+    let here : c.in_ok-answer.answer.from ≡ next_of c.self.inside.journal.history = c.in_ok-answer.ensures.answered.from ∙ c.self.invariant.0.next in
+    subst (λ (v : LeanView). c.put_answer.new.core.placed ≡ kept_behind v.placed (next_of v.history) c.args.change.now c.in_ok-answer.answer.verdict) c.self.view_is
+    (c.in_ok-put_answer.ensures.placed
+    ∙ ap (λ (ch : Change). kept_behind c.self.inside.core.placed c.in_ok-answer.answer.from ch c.in_ok-answer.answer.verdict) c.in_ok-answer.ensures.change
+    ∙ ap (λ (n : ℕ). kept_behind c.self.inside.core.placed n c.args.change.now c.in_ok-answer.answer.verdict) here)

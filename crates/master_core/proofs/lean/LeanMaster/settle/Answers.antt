@@ -1,5 +1,4 @@
 use Rattle.std.proofs.Common.{◌≡◌, ℕ, List, [], ◌∷◌, ◌++◌, IfOk, subst, sym}
-use Rattle.admission.specs.declared.verdict.Verdict.{Verdict}
 use Rattle.master_core.specs.Apart.{CanSettle, from_of}
 use Rattle.master_core.specs.Cores.{IsPrunedBefore}
 use Rattle.master_core.specs.History.{accepted_of, placed_of}

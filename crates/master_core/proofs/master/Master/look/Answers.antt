@@ -1,5 +1,4 @@
-use Rattle.std.proofs.Common.{◌≡◌, ap, arith, subst, sym}
-use Rattle.master_core.specs.History.{IsPlainlyLegal}
+use Rattle.std.proofs.Common.{◌≡◌, ap, arith}
 use Rattle.master_core.specs.Keeping.{MasterView}
 use Rattle.master_core.proofs.Events.{room-used}
 use Rattle.master_core.proofs.Histories.{plain-push}
@@ -16,6 +15,4 @@ pub returns-clause-legal : goal.returns-clause-legal
 returns-clause-legal c = rw c.put.ensures.events (c.next-next.ensures.looked _ c.args.caller c.self.invariant.0).legal
 
 pub returns-clause-plain : goal.returns-clause-plain
-returns-clause-plain c plain =
-    let was = subst (λ (v : MasterView). IsPlainlyLegal v.rules v.history) (sym c.self.view_is) plain in
-    rw c.put.ensures.events (plain-push _ _ _ tt (c.next-next.ensures.looked _ c.args.caller c.self.invariant.0).legal was)
+returns-clause-plain c plain = grind (arith, plain-push)

@@ -1,17 +1,13 @@
-use Rattle.std.proofs.Common.{◌≡◌, ◌∙◌, ap, arith, subst, sym}
+use Rattle.std.proofs.Common.{◌≡◌, ◌∙◌, ap, arith}
 use Rattle.master_core.specs.Cores.{CoreView}
-use Rattle.master_core.specs.History.{IsPlainlyLegal}
 use Rattle.master_core.specs.Keeping.{MasterView}
-use Rattle.master_core.specs.Orders.{IsOrder, IsUpcoming}
 use Rattle.master_core.proofs.Events.{room-used}
 use Rattle.master_core.proofs.States.{core-upcoming}
 use Rattle.master_core.proofs.Whole.{plain-more, whole-order}
 use Rattle.master_core.proofs.master.Master.open_upcoming.Goals as goal
 
 pub open_upcoming-order-requires-clause-upcoming : goal.open_upcoming-order-requires-clause-upcoming
-open_upcoming-order-requires-clause-upcoming c =
-    core-upcoming _ _ _ c.known.ensures.core c.self.invariant.0 c.args.upcoming
-    (subst (λ (v : MasterView). IsUpcoming v.rules v.history c.args.upcoming) (sym c.self.view_is) c.requires.upcoming)
+open_upcoming-order-requires-clause-upcoming c = grind (arith, core-upcoming)
 
 pub invariant_of-self : goal.invariant_of-self
 invariant_of-self c =
@@ -24,15 +20,10 @@ invariant_of-self c =
     )
 
 pub returns-clause-order : goal.returns-clause-order
-returns-clause-order c =
-    subst (λ (v : MasterView). IsOrder v.rules v.history c.open_upcoming-order.result) c.self.view_is
-    (whole-order _ _ c.known.ensures.core c.self.invariant.0 c.self.invariant.1 c.open_upcoming-order.result c.open_upcoming-order.ensures.order)
+returns-clause-order c = grind (arith, whole-order)
 
 pub returns-clause-legal : goal.returns-clause-legal
 returns-clause-legal c = rw c.put.ensures.events (c.open_upcoming-order.ensures.history _ c.self.invariant.0).legal
 
 pub returns-clause-plain : goal.returns-clause-plain
-returns-clause-plain c plain =
-    let was = subst (λ (v : MasterView). IsPlainlyLegal v.rules v.history) (sym c.self.view_is) plain in
-    rw c.put.ensures.events
-    (plain-more _ _ _ c.self.inside.core _ (ap (λ (v : CoreView). v.rules) c.open_upcoming-order.ensures.state) tt (c.open_upcoming-order.ensures.history _ c.self.invariant.0) was)
+returns-clause-plain c plain = grind (arith, plain-more)

@@ -8,20 +8,13 @@ use Rattle.master_core.proofs.Whole.{answered-same, core-answer, placed-is, plai
 use Rattle.master_core.proofs.master.Master.put_answer.Goals as goal
 
 pub put-change-requires-clause-few : goal.put-change-requires-clause-few
-put-change-requires-clause-few c =
-    let less = few-accepted c.self.inside.history.items c.self.inside.core.accepted c.self.invariant.0.counted in
-    let few = c.self.invariant.2.few in
-    omega arith
+put-change-requires-clause-few c = grind (arith, few-accepted)
 
 pub put-change-requires-clause-short : goal.put-change-requires-clause-short
 put-change-requires-clause-short c = λ on. let all = c.self.invariant.1 in absurd (cc)
 
 pub put-change-requires-clause-answer : goal.put-change-requires-clause-answer
-put-change-requires-clause-answer c = (
-  false,
-  core-answer _ _ c.known.ensures.core c.self.invariant.0 c.self.invariant.1 c.args.answer
-      (subst (λ (v : MasterView). IsAnswer v.rules v.history c.args.answer) (sym c.self.view_is) c.requires.answer),
-)
+put-change-requires-clause-answer c = grind (arith, core-answer)
 
 pub invariant_of-self : goal.invariant_of-self
 invariant_of-self c =

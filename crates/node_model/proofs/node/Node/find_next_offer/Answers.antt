@@ -1,5 +1,4 @@
-use Rattle.std.proofs.Common.{rules, ◌≡◌, ℕ, ◌+◌, ◌*◌, ◌≤◌, max, None, Some, IsSome, option_map, refl, sym, ap, ◌∙◌, subst, arith}
-use Rattle.std.specs.Prelude.{IfSome}
+use Rattle.std.proofs.Common.{rules, ◌≡◌, ℕ, ◌+◌, ◌*◌, ◌≤◌, max, None, Some, IsSome, option_map, sym, ap, ◌∙◌, subst, arith}
 use Rattle.cycle_layout.specs.Layout.{sync_start}
 use Rattle.async_window.specs.Mailbox.{IsNextInCycle, mail_offer}
 use Rattle.node_model.specs.Node.{IsNode, NodeView, node_offer}
@@ -30,15 +29,13 @@ returns-then-not-has_arrived c =
     let is : c.self.inside.opened ≡ Some open_cycle = search rules in
     let opened : state.opened ≡ Some o = sym (ap (λ (v : NodeView). v.state.opened) c.self.view_is) ∙ ap (option_map opened_of) is in
     let due : KnowsDue state.entries open_cycle
-    = subst (λ found. IfSome found (KnowsDue state.entries)) is
-    (subst (λ (v : NodeView). IfSome c.self.inside.opened (KnowsDue v.state.entries)) c.self.view_is c.self.invariant.due) in
+    = grind arith in
     let window : c.sync_start-window.result ≡ sync_start state.layout o.cycle o.width
     = c.sync_start-window.ensures.value ∙ ap (λ (v : NodeView). sync_start v.state.layout o.cycle o.width) c.self.view_is in
     let last : c.sync_start-end.result ≡ sync_start state.layout o.cycle 0
     = c.sync_start-end.ensures.value ∙ ap (λ (v : NodeView). sync_start v.state.layout o.cycle 0) c.self.view_is in
     let ends : c.sync_start-end.result ≡ (o.cycle + 1) * state.layout.cycle = last ∙ omega arith in
     let silent : (later : ℕ) → later ≤ sync_start state.layout o.cycle o.width → mail_offer state.layout o.width state.mail later ≡ None
-    = λ later before. subst (λ (v : NodeView). mail_offer state.layout o.width v.state.mail later ≡ None) c.self.view_is
-    (c.if-not-has_arrived.ensures.none refl state.layout o.width later (subst (λ n. later ≤ n) (sym window) before)) in
+    = grind arith in
     let value = rw (window, ends) at c.next_due.ensures.next in
     record { next = next-due state c.args.at open_cycle known opened due silent c.next_due.result value }

@@ -1,4 +1,4 @@
-use Rattle.std.proofs.Common.{◌∙◌, subst, arith}
+use Rattle.std.proofs.Common.{subst, arith}
 use Rattle.async_window.specs.Mailbox.{IsMail}
 use Rattle.node_model.specs.Node.{NodeView}
 use Rattle.node_model.proofs.Offers.{offered-slot}
@@ -16,7 +16,4 @@ due_frame-requires c =
     record { slot = omega (arith, slot.below, slot.from); due = slot.due }
 
 pub returns : goal.returns
-returns c =
-    let mail = subst (λ (v : NodeView). IsMail v.state.mail) c.self.view_is c.self.invariant.node.mail in
-    let slot = offered-slot c.args.self.now.state c.args.at c.args.id mail c.requires.offered c.requires.synchronous in
-    record { frame = c.due_frame.ensures.frame ∙ slot.frame }
+returns c = grind (arith, offered-slot)

@@ -1,7 +1,6 @@
 use Rattle.std.proofs.Common.{◌≡◌, ℕ, ◌*◌, ◌<◌, max, Some, IsSome, subst, arith}
 use Rattle.async_window.specs.Mailbox.{IsNextInCycle, StaysUntil, mail_offer}
-use Rattle.node_model.specs.Node.{NodeView, node_offer}
-use Rattle.node_model.specs.Kept.{opened_of}
+use Rattle.node_model.specs.Node.{NodeView}
 use Rattle.node_model.proofs.LookAhead.{stays-mail}
 use Rattle.node_model.proofs.Offers.{IsOpenAt-later, in_cycle-times, next-offer, wake-mail}
 use Rattle.node_model.proofs.node.Node.soon.Goals as goal
@@ -22,7 +21,6 @@ returns-in-Some c =
     let stays = subst (λ (v : NodeView). StaysUntil v.state.layout o.width v.state.mail from c.in-Some.soon.offer.id c.in-Some.soon.offer.until)
     c.self.view_is c.in-Some.ensures.stays in
     record {
-      next = next-offer state c.args.at (opened_of o) (Some from) known is.opened
-          (subst (λ t. IsNextInCycle state.layout.cycle t (λ later. IsSome (node_offer state later)) (Some from)) behind next);
+      next = grind (arith, next-offer);
       stays = stays-mail state from o (IsOpenAt-later state c.args.at from o is next.0.1) (Some c.in-Some.soon.offer) known.mail stays;
     }

@@ -1,4 +1,4 @@
-use Rattle.std.proofs.Common.{◌≡◌, ◌+◌, ◌*◌, ◌≤◌, Some, None, IsSome, ap, ◌∙◌, subst, arith}
+use Rattle.std.proofs.Common.{◌≡◌, ◌+◌, ◌*◌, ◌≤◌, None, IsSome, ap, ◌∙◌, subst, arith}
 use Rattle.cycle_layout.specs.Layout.{sync_start}
 use Rattle.async_window.specs.Mailbox.{IsNextInCycle, mail_offer}
 use Rattle.node_model.specs.Node.{NodeView}
@@ -18,11 +18,7 @@ returns-then-window-at c =
     record { next = wake-due c.args.self.now.state c.args.at o c.in_ok-open_cycle.ensures.open_cycle (omega (arith, known.layout.cycle_range.above)) known.mail c.next_due.result none value }
 
 pub returns-in-Some : goal.returns-in-Some
-returns-in-Some c =
-    let o = c.in_ok-open_cycle.open_cycle in
-    let known = c.open_at.ensures.known in
-    let next = subst (λ (v : NodeView). IsNextInCycle v.state.layout.cycle c.args.at (λ later. IsSome (mail_offer v.state.layout o.width v.state.mail later)) (Some c.in-Some.next)) c.self.view_is c.in-Some.ensures.next in
-    record { next = wake-mail c.args.self.now.state c.args.at o c.in_ok-open_cycle.ensures.open_cycle (omega (arith, known.layout.cycle_range.above)) known.mail c.in-Some.next next }
+returns-in-Some c = grind (arith, wake-mail)
 
 pub returns-in-None : goal.returns-in-None
 returns-in-None c =
