@@ -51,7 +51,7 @@ StopsAtFile told rose file Memory = ⊤
 StopsAtFile told rose file _ = ⊥
 
 -- of these files all but the last were read, and a call may stop for this reason at the last
-pub record EndsAt (told : Option NamedFiles) (rose : Type 0) (why : Stop) (fetched : List NamedSource) : Type 0 where
+pub record StopsAtLast (told : Option NamedFiles) (rose : Type 0) (why : Stop) (fetched : List NamedSource) : Type 0 where
   pub front : List NamedSource
   pub last : NamedSource
   pub parts : fetched ≡ front ++ last ∷ []
@@ -62,8 +62,8 @@ pub record EndsAt (told : Option NamedFiles) (rose : Type 0) (why : Stop) (fetch
 -- and none behind the first file that is refused or could not be read. Where memory ran out it made any number
 abbrev pub StoppedBehind : Option NamedFiles → Type 0 → Stop → List NamedSource → Type 0
 StoppedBehind told rose Words fetched = fetched ≡ []
-StoppedBehind told rose (Input refusal) fetched = EndsAt told rose (Input refusal) fetched
-StoppedBehind told rose Read fetched = EndsAt told rose Read fetched
+StoppedBehind told rose (Input refusal) fetched = StopsAtLast told rose (Input refusal) fetched
+StoppedBehind told rose Read fetched = StopsAtLast told rose Read fetched
 StoppedBehind told rose Write fetched = ⊥
 StoppedBehind told rose Memory fetched = ⊤
 

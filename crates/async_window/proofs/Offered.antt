@@ -1,13 +1,12 @@
 -- Which identifiers mail offers: the least of those whose first unsent request may start.
-use Rattle.std.proofs.Common.{◌≡◌, ◌≢◌, ◌↔◌, ℕ, suc, ◌+◌, ◌/◌, ◌<◌, ◌≤◌, Bool, cond, leb, ◌&&◌, Option, Some, None, List, [], ◌∷◌, ◌++◌, length, map, filter, min, AllPairs, Contains, IsTrue, ◌⊎◌, inl, inr, refl, sym, ap, ◌∙◌, subst, arith}
+use Rattle.std.proofs.Common.{◌≡◌, ◌≢◌, ◌↔◌, ℕ, suc, ◌/◌, ◌<◌, Bool, cond, leb, Option, Some, List, [], ◌∷◌, ◌++◌, length, map, filter, min, AllPairs, Contains, IsTrue, ◌⊎◌, inl, inr, refl, sym, ap, ◌∙◌, subst, arith}
 use Rattle.std.proofs.lemmas.Grind.{common_steps}
 use Rattle.std.specs.List.{fold}
 use Rattle.std.specs.Option.{option_map_or, option_to_list, IsSome}
-use Rattle.std.proofs.lemmas.Bool.{leb-true, le-leb, leb-false, and_parts, and_from, both_ways, cases_Bool, false≢true}
+use Rattle.std.proofs.lemmas.Bool.{leb-true, le-leb, leb-false, and_from, both_ways, cases_Bool, false≢true}
 use Rattle.std.proofs.lemmas.List.{get_or-map, length-map}
 use Rattle.std.proofs.lemmas.Bool.Decides.{eqb_tells}
-use Rattle.stuff_bound.specs.Stuffing.{worst}
-use Rattle.cycle_layout.specs.Layout.{CycleLayout, async_open, sync_start}
+use Rattle.cycle_layout.specs.Layout.{CycleLayout}
 use Rattle.async_window.specs.declared.request.Request.{Request}
 use Rattle.async_window.specs.Waiting.{MayStart}
 use Rattle.async_window.specs.Mailbox.{Mail, IsMail, OffersIdentifier, IsLeastWith, unsent_of, may_start, least_of, mail_offer}

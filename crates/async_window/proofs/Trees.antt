@@ -1,5 +1,5 @@
 -- The nodes of a tree of numbers: what a change of a node or of a leaf leaves, and what the tree says of its numbers.
-use Rattle.std.proofs.Common.{◌≡◌, ◌≢◌, ℕ, zero, suc, ◌+◌, ◌*◌, ◌-◌, ◌/◌, ◌^◌, ◌<◌, ◌≤◌, min, List, length, get_or, set, drop, inl, inr, refl, sym, ap, ◌∙◌, subst, arith}
+use Rattle.std.proofs.Common.{◌≡◌, ◌≢◌, ℕ, suc, ◌+◌, ◌*◌, ◌-◌, ◌/◌, ◌^◌, ◌<◌, ◌≤◌, min, List, length, get_or, set, drop, inl, inr, sym, ◌∙◌, subst, arith}
 use Rattle.std.proofs.Math.Nat.{one-le-pow, pow-suc, pow-le-pow_right}
 use Rattle.std.proofs.lemmas.Bool.{cases_eq}
 use Rattle.std.proofs.lemmas.List.{get_or-drop, get_or-set_other, get_or-set_same, length-drop, length-set}

@@ -1,6 +1,7 @@
 -- Lists by their first element: `All`, `AllPairs` and `Any`, which speak of places, and `filter`.
-use Rattle.std.proofs.Common.{◌≡◌, zero, suc, Bool, false, List, [], ◌∷◌, ◌++◌, All, AllPairs, Any, filter, ◌⊎◌, inl, inr, refl, sym, subst, arith}
-use Rattle.std.proofs.lemmas.List.Elements.{All-nil, All-head, All-tail, All-push}
+use Rattle.std.proofs.Common.{◌≡◌, suc, Bool, false, List, [], ◌∷◌, ◌++◌, All, AllPairs, Any, filter, ◌⊎◌, refl, arith}
+use Rattle.std.proofs.lemmas.Grind.{common_steps}
+use Rattle.std.proofs.lemmas.List.Elements.{All-head, All-tail}
 
 module _ {X : Type 0} (R : X → X → Type 0) where
   pub AllPairs-head : (x : X) (xs : List X) → AllPairs R (x ∷ xs) → All (R x) xs
@@ -10,18 +11,10 @@ module _ {X : Type 0} (R : X → X → Type 0) where
   AllPairs-tail x xs pairs i j d before within = pairs (suc i) (suc j) d (omega arith) (omega arith)
 
   pub AllPairs-cons : (x : X) (xs : List X) → All (R x) xs → AllPairs R xs → AllPairs R (x ∷ xs)
-  AllPairs-cons x xs first pairs i zero d before within = absurd (omega arith)
-  AllPairs-cons x xs first pairs zero (suc j) d before within = first j d (omega arith)
-  AllPairs-cons x xs first pairs (suc i) (suc j) d before within = pairs i j d (omega arith) (omega arith)
-
-  pub AllPairs-nil : AllPairs R []
-  AllPairs-nil i j d before within = absurd (omega arith)
+  AllPairs-cons x xs first pairs = grind arith
 
   pub AllPairs-push : (xs : List X) (y : X) → AllPairs R xs → All (λ x. R x y) xs → AllPairs R (xs ++ y ∷ [])
-  AllPairs-push [] y pairs all = AllPairs-cons y [] (All-nil (R y)) AllPairs-nil
-  AllPairs-push (x ∷ xs) y pairs all =
-      AllPairs-cons x (xs ++ y ∷ []) (All-push (R x) xs y (AllPairs-head x xs pairs) (All-head (λ z. R z y) x xs all))
-      (AllPairs-push xs y (AllPairs-tail x xs pairs) (All-tail (λ z. R z y) x xs all))
+  AllPairs-push xs y pairs all = grind (arith, common_steps, AllPairs-cons, AllPairs-head, AllPairs-tail)
 
 module _ {X : Type 0} (P : X → Type 0) where
   pub Any-nil : Any P [] → ⊥
@@ -34,28 +27,16 @@ module _ {X : Type 0} (P : X → Type 0) where
   Any-tail x xs (k, y, within, same, is) = (suc k, y, omega arith, same, is)
 
   pub Any-cases : (x : X) (xs : List X) → Any P (x ∷ xs) → P x ⊎ Any P xs
-  Any-cases x xs (zero, y, within, same, is) = inl (subst P (sym same) is)
-  Any-cases x xs (suc k, y, within, same, is) = inr (k, y, omega arith, same, is)
+  Any-cases x xs h0 = grind arith
 
   pub Any-none : (xs : List X) → All (λ x. P x → ⊥) xs → Any P xs → ⊥
-  Any-none [] none any = Any-nil any
-  Any-none (x ∷ xs) none any =
-      elim (Any-cases x xs any) [
-        | inl is ↦ All-head (λ y. P y → ⊥) x xs none is
-        | inr later ↦ Any-none xs (All-tail (λ y. P y → ⊥) x xs none) later
-      ]
+  Any-none xs none any = grind (arith, Any-nil, Any-cases)
 
   pub Any-push_left : (xs : List X) (y : X) → Any P xs → Any P (xs ++ y ∷ [])
-  Any-push_left [] y any = absurd (Any-nil any)
-  Any-push_left (x ∷ xs) y any =
-      elim (Any-cases x xs any) [
-        | inl is ↦ Any-head x (xs ++ y ∷ []) is
-        | inr later ↦ Any-tail x (xs ++ y ∷ []) (Any-push_left xs y later)
-      ]
+  Any-push_left xs y any = grind (arith, common_steps, Any-nil, Any-cases, Any-head, Any-tail)
 
   pub Any-push_last : (xs : List X) (y : X) → P y → Any P (xs ++ y ∷ [])
-  Any-push_last [] y is = Any-head y [] is
-  Any-push_last (x ∷ xs) y is = Any-tail x (xs ++ y ∷ []) (Any-push_last xs y is)
+  Any-push_last xs y is = grind (arith, common_steps, Any-head, Any-tail)
 
 -- no element passes
 pub filter-none : {X : Type 0} (test : X → Bool) (xs : List X) → All (λ x. test x ≡ false) xs → filter test xs ≡ []

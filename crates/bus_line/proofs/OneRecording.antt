@@ -1,5 +1,6 @@
 -- Bits are the line of one trace, or break at one place.
 use Rattle.std.proofs.Common.{◌≡◌, ◌≢◌, ℕ, zero, suc, ◌+◌, ◌-◌, ◌<◌, ◌≤◌, Bool, true, false, List, [], ◌∷◌, ◌++◌, length, get_or, take, drop, replicate, Result, Ok, Err, ◌⊎◌, inl, inr, append_assoc, refl, sym, ap, subst, ◌∙◌, arith}
+use Rattle.std.proofs.lemmas.Grind.{common_steps}
 use Rattle.std.proofs.lemmas.List.{append_cancel_left, drop_more, get_or_past, length-append, length-replicate, take-append-drop}
 use Rattle.std.proofs.lemmas.Bool.{cases_lt}
 use Rattle.can_frame.specs.declared.data_frame.Front.{Front}
@@ -20,10 +21,8 @@ use Rattle.bus_line.proofs.Recordings.{AreSent, frames_of, unrolled}
 
 same_idle : (n m : ℕ) (xs ys : List Bool) → replicate n true ++ false ∷ xs ≡ replicate m true ++ false ∷ ys → (n ≡ m) × (xs ≡ ys)
 same_idle zero zero xs ys e = (refl, cc)
-same_idle zero (suc m) xs ys e =
-    let wrong : false ∷ xs ≡ true ∷ (replicate m true ++ false ∷ ys) = e in absurd (cc)
-same_idle (suc n) zero xs ys e =
-    let wrong : true ∷ (replicate n true ++ false ∷ xs) ≡ false ∷ ys = e in absurd (cc)
+same_idle zero (suc m) xs ys e = grind (arith, common_steps, replicate)
+same_idle (suc n) zero xs ys e = grind (arith, common_steps, replicate)
 same_idle (suc n) (suc m) xs ys e =
     let both : true ∷ (replicate n true ++ false ∷ xs) ≡ true ∷ (replicate m true ++ false ∷ ys) = e in
     let rest = same_idle n m xs ys (cc) in
@@ -31,12 +30,9 @@ same_idle (suc n) (suc m) xs ys e =
 
 idle_only : (n m : ℕ) (xs : List Bool) → replicate n true ≡ replicate m true ++ false ∷ xs → ⊥
 idle_only zero zero xs e = absurd (cc)
-idle_only zero (suc m) xs e =
-    let wrong : [] ≡ true ∷ (replicate m true ++ false ∷ xs) = e in absurd (cc)
-idle_only (suc n) zero xs e =
-    let wrong : true ∷ replicate n true ≡ false ∷ xs = e in absurd (cc)
+idle_only zero (suc m) xs e = grind (arith, replicate)
+idle_only (suc n) zero xs e = grind (arith, replicate)
 idle_only (suc n) (suc m) xs e =
-    let both : true ∷ replicate n true ≡ true ∷ (replicate m true ++ false ∷ xs) = e in
     idle_only n m xs (cc)
 
 -- no frame stands behind the recessive bits at the front
@@ -78,16 +74,8 @@ broken_has_none n bits fault reads idle frame rest legal e =
 same_frames : (free : ℕ) (one other : List TimedFrame) (back back' : List Bool) → AreSent free one → AreSent free other → NoFrame back → NoFrame back'
     → frames_of free one ++ back ≡ frames_of free other ++ back' → (one ≡ other) × (back ≡ back')
 same_frames free [] [] back back' h k none none' e = (refl, e)
-same_frames free [] (sent ∷ later) back back' h k none none' e =
-    absurd
-    (none (sent.start - free) sent.frame (frames_of (end_of sent) later ++ back') k.0.legal
-    (e ∙ append_assoc (replicate (sent.start - free) true) (wire_of sent.frame ++ frames_of (end_of sent) later) back'
-    ∙ ap (λ rest. replicate (sent.start - free) true ++ rest) (append_assoc (wire_of sent.frame) (frames_of (end_of sent) later) back')))
-same_frames free (sent ∷ later) [] back back' h k none none' e =
-    absurd
-    (none' (sent.start - free) sent.frame (frames_of (end_of sent) later ++ back) h.0.legal
-    (sym e ∙ append_assoc (replicate (sent.start - free) true) (wire_of sent.frame ++ frames_of (end_of sent) later) back
-    ∙ ap (λ rest. replicate (sent.start - free) true ++ rest) (append_assoc (wire_of sent.frame) (frames_of (end_of sent) later) back)))
+same_frames free [] (sent ∷ later) back back' h k none none' e = grind (arith, common_steps, frames_of, append_assoc, replicate)
+same_frames free (sent ∷ later) [] back back' h k none none' e = grind (arith, common_steps, frames_of, append_assoc, replicate)
 same_frames free (x ∷ xs) (y ∷ ys) back back' h k none none' e =
     let rest = frames_of (end_of x) xs ++ back in
     let rest' = frames_of (end_of y) ys ++ back' in
@@ -119,11 +107,7 @@ record Broken (bits : List Bool) (start : ℕ) (fault : WireFault) (before : Lis
 
 -- a bit that is not the default stands in the list
 in_list : (bits : List Bool) (start : ℕ) → get_or bits start true ≡ false → start < length bits
-in_list bits start stands =
-    elim (cases_lt start (length bits)) [
-      | inl within ↦ within
-      | inr past ↦ let default = get_or_past bits start true past in absurd (cc)
-    ]
+in_list bits start stands = grind (arith, cases_lt, get_or_past)
 
 broken : (bits : List Bool) (start : ℕ) (fault : WireFault) (h : BreaksAt bits start fault) → Broken bits start fault h.before
 broken bits start fault h =
@@ -185,9 +169,7 @@ from_zero trace from until bits h =
     let P : ℕ → Type 0 = λ time. AreSent time (counted_from from trace) in
     record {
       sent = subst P none (counted_sent from from trace (omega arith) u.sent);
-      is =
-          u.is ∙ ap (λ frames. frames ++ replicate (until - free_after from trace) true)
-          (sym (counted_frames from from trace (omega arith) u.sent) ∙ ap (λ time. frames_of time (counted_from from trace)) none);
+      is = grind (arith, common_steps, replicate, counted_frames, frames_of);
     }
 
 -- ---- what a line tells of its trace

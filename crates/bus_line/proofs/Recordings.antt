@@ -1,11 +1,12 @@
 -- Bits and the trace that they record: frame by frame, and as the bits grow.
 use Rattle.std.proofs.Common.{◌≡◌, ℕ, ◌+◌, ◌-◌, ◌<◌, ◌≤◌, Bool, true, false, List, [], ◌∷◌, ◌++◌, length, get_or, take, drop, replicate, All, Any, ◌⊎◌, inl, inr, append_assoc, refl, sym, ap, subst, ◌∙◌, arith}
+use Rattle.std.proofs.lemmas.Grind.{common_steps}
 use Rattle.std.specs.Prelude.{⊤}
 use Rattle.std.specs.Bool.{beq}
 use Rattle.std.proofs.lemmas.Bool.{cases_lt}
 use Rattle.std.proofs.lemmas.List.{ext_get_or, get_or-drop, get_or-take, get_or-replicate, get_or_append_left, get_or-append_right, get_or_default, drop-drop, drop_at, drop-append-le, length-append, length-drop, length-replicate, length-take-le, take-append-drop, replicate_more, take-append-le, take_all, take_at, take_more, take_rest}
 use Rattle.std.proofs.Math.Seq.{take-add}
-use Rattle.std.proofs.lemmas.List.Elements.{All-nil, All-head, All-tail, All-push}
+use Rattle.std.proofs.lemmas.List.Elements.{All-head, All-tail, All-push}
 use Rattle.can_frame.specs.declared.data_frame.Front.{Front}
 use Rattle.can_frame.specs.declared.data_frame.TimedFrame.{TimedFrame}
 use Rattle.can_frame.specs.DataFrame.{IsFrame}
@@ -13,7 +14,7 @@ use Rattle.can_frame.specs.Wire.{wire_of, wire_length}
 use Rattle.can_frame.specs.Reading.{IsFront}
 use Rattle.bus_line.specs.Trace.{IsOrdered, end_of, free_after}
 use Rattle.bus_line.specs.Recording.{IsOnBus, IsRecording, StandsAt}
-use Rattle.bus_line.proofs.Lists.{AllPairs-head, AllPairs-tail, AllPairs-nil, AllPairs-push, Any-nil, Any-cases, Any-none, Any-push_left, Any-push_last}
+use Rattle.bus_line.proofs.Lists.{AllPairs-head, AllPairs-tail, AllPairs-push, Any-nil, Any-cases, Any-push_left, Any-push_last}
 
 -- ---- bits that are all recessive
 
@@ -53,12 +54,7 @@ pub record Unrolled (trace : List TimedFrame) (from until : ℕ) (bits : List Bo
 
 -- a piece of the bits, cut from a later time on
 cut_later : (bits wire : List Bool) (n end start from : ℕ) → from ≤ end → end ≤ start → take n (drop (start - from) bits) ≡ wire → take n (drop (start - end) (drop (end - from) bits)) ≡ wire
-cut_later bits wire n end start from order after is =
-    let places : end - from + (start - end) ≡ start - from = omega arith in
-    ap (λ rest. take n rest) (drop-drop (start - end) (end - from) bits ∙ ap (λ m. drop m bits) places) ∙ is
-
-none_on_bus : (at time : ℕ) (later : List TimedFrame) → All (λ x. time ≤ x.start) later → at < time → Any (IsOnBus at) later → ⊥
-none_on_bus at time later apart before any = Any-none (IsOnBus at) later (λ k d below on. omega (arith, apart k d below, on.0)) any
+cut_later bits wire n end start from order after is = grind (arith, drop-drop)
 
 module _ (from until : ℕ) (sent : TimedFrame) (later : List TimedFrame) (bits : List Bool) (h : IsRecording (sent ∷ later) from until bits) where
   head : (from ≤ sent.start) × (end_of sent ≤ until)
@@ -74,10 +70,7 @@ module _ (from until : ℕ) (sent : TimedFrame) (later : List TimedFrame) (bits 
       elim (h.idle (from + k) (omega arith) (omega (arith, head.0, head.1))) [
         | inl any ↦
             absurd
-            (elim (Any-cases (IsOnBus (from + k)) sent later any) [
-              | inl now ↦ omega (arith, now.0)
-              | inr soon ↦ none_on_bus (from + k) (end_of sent) later apart (omega arith) soon
-            ])
+            (grind (arith, apart))
         | inr bit ↦ subst P place bit
       ]
 
@@ -106,11 +99,7 @@ module _ (from until : ℕ) (sent : TimedFrame) (later : List TimedFrame) (bits 
   }
 
   first_sent : IsSent from sent
-  first_sent = record {
-    when_free = head.0;
-    legal = All-head (λ x. IsFrame x.frame) sent later h.legal;
-    whole = All-head (λ x. x.len ≡ wire_length x.frame) sent later h.ordered.lengths;
-  }
+  first_sent = grind (arith, head)
 
   cut : bits ≡ replicate (sent.start - from) true ++ (wire_of sent.frame ++ drop (end_of sent - from) bits)
   cut =
@@ -151,35 +140,13 @@ unrolled from until (sent ∷ later) bits h =
 
 -- a piece of the bits stays where more bits come behind
 cut_more : (bits more wire : List Bool) (n m : ℕ) → m + n ≤ length bits → take n (drop m bits) ≡ wire → take n (drop m (bits ++ more)) ≡ wire
-cut_more bits more wire n m within is =
-    let enough : n ≤ length (drop m bits) = omega (arith, length-drop m bits) in
-    ap (λ rest. take n rest) (drop-append-le m bits more (omega arith)) ∙ take-append-le n (drop m bits) more enough ∙ is
+cut_more bits more wire n m within is = grind (arith, length-drop, drop-append-le, take-append-le)
 
 -- recessive bits behind
 pub idle_more : (trace : List TimedFrame) (from until later : ℕ) (bits : List Bool) → from ≤ until → until ≤ later → IsRecording trace from until bits
     → IsRecording trace from later (bits ++ replicate (later - until) true)
 idle_more trace from until later bits order after h =
-    let more = replicate (later - until) true in
-    let long : length more ≡ later - until = length-replicate (later - until) true in
-    record {
-      ordered = h.ordered;
-      legal = h.legal;
-      within = λ k d below. ((h.within k d below).0, omega (arith, (h.within k d below).1));
-      long = omega (arith, length-append bits more, h.long);
-      wires = λ k d below. cut_more bits more _ _ _ (omega (arith, h.long, (h.within k d below).0, (h.within k d below).1)) (h.wires k d below);
-      idle = λ at from_on before.
-          elim (cases_lt at until) [
-            | inl early ↦
-                elim (h.idle at from_on early) [
-                  | inl any ↦ inl any
-                  | inr bit ↦ inr (get_or_append_left bits more false (at - from) (omega (arith, h.long)) ∙ bit)
-                ]
-            | inr late ↦
-                inr
-                (get_or-append_right bits more (length bits) (at - from) false refl (omega (arith, h.long))
-                ∙ get_or-replicate (later - until) (at - from - length bits) true false (omega (arith, h.long)))
-          ];
-    }
+    grind (arith, replicate, length-replicate, length-append, cut_more, cases_lt, get_or_append_left, get_or-append_right, get_or-replicate)
 
 -- the wire of a frame behind
 pub frame_more : (trace : List TimedFrame) (from until : ℕ) (sent : TimedFrame) (bits : List Bool) → from ≤ until → IsRecording trace from until bits → IsFrame sent.frame → sent.start ≡ until
@@ -197,10 +164,7 @@ frame_more trace from until sent bits order h legal starts whole =
           All-push (λ x. (from ≤ x.start) × (end_of x ≤ end_of sent)) trace sent (λ k d below. ((h.within k d below).0, omega (arith, (h.within k d below).1)))
           (omega arith, omega arith);
       long = omega (arith, length-append bits wire, h.long);
-      wires =
-          All-push (λ x. take x.len (drop (x.start - from) (bits ++ wire)) ≡ wire_of x.frame) trace sent
-          (λ k d below. cut_more bits wire _ _ _ (omega (arith, h.long, (h.within k d below).0, (h.within k d below).1)) (h.wires k d below))
-          (ap (λ rest. take sent.len rest) (drop_at bits wire (sent.start - from) (omega (arith, h.long))) ∙ take_all sent.len wire (omega arith));
+      wires = grind (arith, common_steps, cut_more, drop_at, take_all);
       idle = λ at from_on before.
           elim (cases_lt at until) [
             | inl early ↦
@@ -212,30 +176,16 @@ frame_more trace from until sent bits order h legal starts whole =
           ];
     }
 
--- nothing was recorded yet
-pub none_recorded : (from : ℕ) → IsRecording [] from from []
-none_recorded from = record {
-  ordered = record { lengths = All-nil (λ x. x.len ≡ wire_length x.frame); apart = AllPairs-nil (λ earlier x. end_of earlier ≤ x.start) };
-  legal = All-nil (λ x. IsFrame x.frame);
-  within = All-nil (λ x. (from ≤ x.start) × (end_of x ≤ from));
-  long = omega arith;
-  wires = All-nil (λ x. take x.len (drop (x.start - from) []) ≡ wire_of x.frame);
-  idle = λ at after before. absurd (omega arith);
-}
-
 -- ---- a reader on its way through the bits
 
 recessive_bit : (bit : Bool) → beq bit true ≡ true → bit ≡ true
-recessive_bit true e = refl
-recessive_bit false e = absurd (cc)
+recessive_bit bit e = grind arith
 
 -- the next bit is recessive too
 pub recessive_more : (bits : List Bool) (from place : ℕ) (d : Bool) → from ≤ place → place < length bits → beq (get_or bits place d) true ≡ true → take place bits ≡ take from bits ++ replicate (place - from) true
     → take (place + 1) bits ≡ take from bits ++ replicate (place + 1 - from) true
 recessive_more bits from place d order within bit idle =
-    let next : place - from + 1 ≡ place + 1 - from = omega arith in
-    take_more bits place d within ∙ ap (λ b. take place bits ++ b ∷ []) (recessive_bit (get_or bits place d) bit) ∙ ap (λ front. front ++ true ∷ []) idle ∙ append_assoc (take from bits) (replicate (place - from) true) (true ∷ [])
-    ∙ ap (λ more. take from bits ++ more) (replicate_more (place - from) true) ∙ ap (λ n. take from bits ++ replicate n true) next
+    grind (arith, common_steps, take_more, recessive_bit, append_assoc, replicate, replicate_more)
 
 -- behind a frame, and recessive bits behind that
 pub recorded_on : (trace : List TimedFrame) (bits : List Bool) (place later : ℕ) (sent : TimedFrame) → place ≤ length bits → IsRecording trace 0 place (take place bits) → StandsAt bits place sent
@@ -249,35 +199,11 @@ recorded_on trace bits place later sent within h stands order idle =
     let one_more = frame_more trace 0 place sent (take place bits) (omega arith) h stands.legal stands.starts stands.whole in
     subst R (sym idle) (idle_more (trace ++ sent ∷ []) 0 (place + sent.len) later (take (place + sent.len) bits) (omega arith) order (subst Q end (subst P wire one_more)))
 
--- the first recessive bits
-pub recorded_first : (bits : List Bool) (place : ℕ) → take place bits ≡ take 0 bits ++ replicate (place - 0) true → IsRecording [] 0 place (take place bits)
-recorded_first bits place idle =
-    let P : List Bool → Type 0 = λ front. IsRecording [] 0 place front in
-    subst P (sym idle) (idle_more [] 0 0 place [] (omega arith) (omega arith) (none_recorded 0))
-
--- all bits
-pub recorded_all : (trace : List TimedFrame) (bits : List Bool) (place : ℕ) → place ≤ length bits → length bits ≤ place → IsRecording trace 0 place (take place bits) → IsRecording trace 0 (length bits) bits
-recorded_all trace bits place within past h =
-    let same : place ≡ length bits = omega arith in
-    let P : List Bool → Type 0 = λ all. IsRecording trace 0 place all in
-    let Q : ℕ → Type 0 = λ time. IsRecording trace 0 time bits in
-    subst Q same (subst P (take_all place bits past) h)
-
 -- the frame at the front of the bits from a place on
 pub stands_at : (bits : List Bool) (start : ℕ) (front : Front) → start ≤ length bits → IsFront (take (length bits - start) (drop start bits)) front
     → StandsAt bits start (record { start = start; len = front.end; frame = front.frame })
 unfolding wire_length
-stands_at bits start front within found =
-    let P : List Bool → Type 0 = λ rest. IsFront rest front in
-    let h : IsFront (drop start bits) front = subst P (take_rest bits start) found in
-    let long : length (drop start bits) ≡ length (wire_of front.frame) + length h.rest = ap length h.split ∙ length-append (wire_of front.frame) h.rest in
-    record {
-      starts = refl;
-      legal = h.legal;
-      whole = h.here;
-      within = omega (arith, h.here, length-drop start bits);
-      wire = ap (λ bits'. take front.end bits') h.split ∙ take_at (wire_of front.frame) h.rest front.end (sym h.here);
-    }
+stands_at bits start front within found = grind (arith, common_steps, take_rest, length-append, length-drop, take_at)
 
 -- ---- a writer of the bits of a trace
 
@@ -319,32 +245,7 @@ written_next trace count from until bits now sent ordered within h below item le
           omega (arith, ordered.apart count k d (omega arith) within');
     }
 
-pub written_first : (trace : List TimedFrame) (from until : ℕ) → All (λ x. (from ≤ x.start) × (end_of x ≤ until)) trace → Written trace 0 from until []
-written_first trace from until within =
-    let none : from ≡ from + 0 = omega arith in
-    let P : ℕ → Type 0 = λ time. IsRecording [] from time [] in
-    record {
-      recorded = subst P none (none_recorded from);
-      few = omega arith;
-      free = λ k d after below. omega (arith, (within k d below).0);
-    }
-
 -- the recessive bits behind the last frame
 pub written_whole : (trace : List TimedFrame) (count places from until : ℕ) (bits now : List Bool) → Written trace count from until bits → length trace ≤ count
     → All (λ x. (from ≤ x.start) × (end_of x ≤ until)) trace → places ≡ until - from → now ≡ bits ++ replicate (places - length bits) true → IsRecording trace from until now
-written_whole trace count places from until bits now h past within known is =
-    let gap : places - length bits ≡ from + (until - from) - (from + length bits) = omega arith in
-    let few : length bits ≤ until - from = h.few in
-    let P : List Bool → Type 0 = λ all. IsRecording trace from (from + (until - from)) all in
-    let Q : List TimedFrame → Type 0 = λ frames. IsRecording frames from (from + length bits) bits in
-    let so_far : IsRecording trace from (from + length bits) bits = subst Q (take_all count trace past) h.recorded in
-    let all : IsRecording trace from (from + (until - from)) now =
-    subst P (sym (is ∙ ap (λ n. bits ++ replicate n true) gap)) (idle_more trace from (from + length bits) (from + (until - from)) bits (omega arith) (omega arith) so_far) in
-    record {
-      ordered = all.ordered;
-      legal = all.legal;
-      within = within;
-      long = all.long ∙ (let places' : from + (until - from) - from ≡ until - from = omega arith in places');
-      wires = all.wires;
-      idle = λ at after before. all.idle at after (omega arith);
-    }
+written_whole trace count places from until bits now h past within known is = grind (arith, common_steps, take_all, replicate, idle_more)

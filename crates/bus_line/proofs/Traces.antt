@@ -1,7 +1,8 @@
 -- Laws of traces: the CAN trace in the words of its definition, and frame by frame.
 use Rattle.std.proofs.Common.{◌≡◌, ℕ, ◌+◌, ◌<◌, ◌≤◌, max, nat_lt, List, [], ◌∷◌, ◌++◌, All, AllPairs, Any, ◌↔◌, inl, inr, refl, sym, ap, ◌∙◌, subst, arith, append_assoc, append-nil, get_or}
+use Rattle.std.proofs.lemmas.Grind.{common_steps}
 use Rattle.std.proofs.lemmas.Bool.{lt-ltb, le-ltb, cases_lt, cases_order}
-use Rattle.std.proofs.lemmas.List.Elements.{All-nil, All-cons, All-head, All-tail}
+use Rattle.std.proofs.lemmas.List.Elements.{All-cons, All-head, All-tail}
 use Rattle.can_frame.specs.DataFrame.{DataFrame}
 use Rattle.can_frame.proofs.Shared.{wire-positive}
 use Rattle.can_frame.specs.Wire.{wire_length}
@@ -38,8 +39,7 @@ module _ (offers : Offers) (until : ℕ) where
   -- after the first start, the first frame counts as past
   behind : (past : List TimedFrame) (at : ℕ) (sent : TimedFrame) (later : List TimedFrame) → sent.start < at
       → (past ++ sent ∷ []) ++ started_before at later ≡ past ++ started_before at (sent ∷ later)
-  behind past at sent later before =
-      append_assoc past (sent ∷ []) (started_before at later) ∙ ap (λ started. past ++ started) (sym (started-first at sent later before))
+  behind past at sent later before = grind (arith, append_assoc, started-first)
 
   takes_time : (sent : TimedFrame) → sent.len ≡ wire_length sent.frame → sent.start < end_of sent
   takes_time sent whole = omega (arith, whole, wire-positive sent.frame)
@@ -47,18 +47,10 @@ module _ (offers : Offers) (until : ℕ) where
   -- where the first frame does not start before a time, no frame does
   none_before : (at : ℕ) (sent : TimedFrame) (later : List TimedFrame) → at ≤ sent.start → sent.start < end_of sent
       → All (λ x. end_of sent ≤ x.start) later → All (λ x. at ≤ x.start) (sent ∷ later)
-  none_before at sent later early lasts after =
-      All-cons (λ x. at ≤ x.start) sent later early (λ k d within. omega (arith, after k d within))
+  none_before at sent later early lasts after = grind arith
 
   to_rest : (past : List TimedFrame) (free : ℕ) (frames : List TimedFrame) → Follows offers past free until frames → Rest offers until past free frames
-  to_rest past free [] nothing = record {
-    lengths = All-nil (λ sent. sent.len ≡ wire_length sent.frame);
-    apart = λ i j d before within. absurd (omega arith);
-    when_free = All-nil (λ sent. free ≤ sent.start);
-    within = All-nil (λ sent. sent.start < until);
-    least = All-nil (λ sent. IsLeastOffered offers (past ++ started_before sent.start []) sent.start sent.frame);
-    busy = λ at frame from before offered. absurd (nothing at frame from before (subst (λ sent. offers sent at frame) (append-nil past) offered));
-  }
+  to_rest past free [] nothing = grind (arith, append-nil)
   to_rest past free (sent ∷ later) (next, follows) =
       let rest = to_rest (past ++ sent ∷ []) (end_of sent) later follows in
       let lasts = takes_time sent next.whole in
@@ -67,10 +59,7 @@ module _ (offers : Offers) (until : ℕ) where
         apart = AllPairs-cons (λ earlier x. end_of earlier ≤ x.start) sent later rest.when_free rest.apart;
         when_free = All-cons (λ x. free ≤ x.start) sent later next.when_free (λ k d within. omega (arith, rest.when_free k d within, next.when_free));
         within = All-cons (λ x. x.start < until) sent later next.within rest.within;
-        least = All-cons (λ x. IsLeastOffered offers (past ++ started_before x.start (sent ∷ later)) x.start x.frame) sent later
-            (subst (λ started. IsLeastOffered offers started sent.start sent.frame) (sym (front past sent.start (sent ∷ later) (none_before sent.start sent later (omega arith) lasts rest.when_free))) next.least)
-            (λ k d within. subst (λ started. IsLeastOffered offers started (get_or later k d).start (get_or later k d).frame)
-            (behind past (get_or later k d).start sent later (omega (arith, rest.when_free k d within))) (rest.least k d within));
+        least = grind (arith, front, none_before, behind);
         busy = λ at frame from before offered. elim (cases_lt at sent.start) [
           | inl early ↦ absurd (next.first at frame from early (subst (λ started. offers started at frame) (front past at (sent ∷ later) (none_before at sent later (omega arith) lasts rest.when_free)) offered))
           | inr begun ↦ elim (cases_lt at (end_of sent)) [
@@ -117,34 +106,20 @@ module _ (offers : Offers) (until : ℕ) where
 
   -- the CAN trace in the words of its definition is the CAN trace frame by frame
   pub Follows-from_trace : (trace : List TimedFrame) → IsTrace offers until trace → Follows offers [] 0 until trace
-  Follows-from_trace trace is = from_rest [] 0 trace (record {
-    lengths = is.ordered.lengths;
-    apart = is.ordered.apart;
-    when_free = λ k d within. omega arith;
-    within = is.within;
-    least = is.least;
-    busy = λ at frame _ before offered. is.busy at frame before offered;
-  })
+  Follows-from_trace trace is = grind (arith, from_rest)
 
   pub trace_from_Follows : (trace : List TimedFrame) → Follows offers [] 0 until trace → IsTrace offers until trace
   trace_from_Follows trace follows =
       let rest = to_rest [] 0 trace follows in
-      record {
-        ordered = record { lengths = rest.lengths; apart = rest.apart };
-        within = rest.within;
-        least = rest.least;
-        busy = λ at frame before offered. rest.busy at frame (omega arith) before offered;
-      }
+      grind arith
 
   -- frames that follow one another are ordered, and start from the first free time on
   pub IsOrdered-from_Follows : (past : List TimedFrame) (free : ℕ) (frames : List TimedFrame) → Follows offers past free until frames → IsOrdered frames
-  IsOrdered-from_Follows past free frames follows =
-      let rest = to_rest past free frames follows in record { lengths = rest.lengths; apart = rest.apart }
+  IsOrdered-from_Follows past free frames follows = grind (arith, common_steps, to_rest)
 
   pub within_from_Follows : (past : List TimedFrame) (free : ℕ) (frames : List TimedFrame) → Follows offers past free until frames
       → All (λ sent. (free ≤ sent.start) × (sent.start < until)) frames
-  within_from_Follows past free frames follows =
-      let rest = to_rest past free frames follows in λ k d within. (rest.when_free k d within, rest.within k d within)
+  within_from_Follows past free frames follows = grind (arith, to_rest)
 
   -- what stands behind a front of the frames follows that front
   pub Follows-behind : (past : List TimedFrame) (free : ℕ) (frames back : List TimedFrame) → Follows offers past free until (frames ++ back)
@@ -159,33 +134,19 @@ made start len frame = record { start = start; len = len; frame = frame }
 
 -- a timed frame is its start, its length and its frame
 pub same_sent : (one other : TimedFrame) → one.start ≡ other.start → one.len ≡ other.len → one.frame ≡ other.frame → one ≡ other
-same_sent one other start len frame =
-    ap (λ at. made at one.len one.frame) start ∙ ap (λ n. made other.start n one.frame) len ∙ ap (λ x. made other.start other.len x) frame
+same_sent one other start len frame = grind arith
 
 module _ (offers : Offers) where
   -- the frame that is sent next is determined: another first start, or another identifier, is against its rule
   same_next : IsDetermined offers → (past : List TimedFrame) (free until : ℕ) (one other : TimedFrame)
       → IsNext offers past free until one → IsNext offers past free until other → one ≡ other
-  same_next determined past free until one other is_one is_other =
-      let start : one.start ≡ other.start = elim (cases_order one.start other.start) [
-        | inl same ↦ same
-        | inr (inl earlier) ↦ absurd (is_other.first one.start one.frame is_one.when_free earlier is_one.least.offered)
-        | inr (inr later) ↦ absurd (is_one.first other.start other.frame is_other.when_free later is_other.least.offered)
-      ] in
-      let other_here = subst (λ at. offers past at other.frame) (sym start) is_other.least.offered in
-      let one_there = subst (λ at. offers past at one.frame) start is_one.least.offered in
-      let below = is_one.least.least other.frame other_here in
-      let above = is_other.least.least one.frame one_there in
-      let frame = determined past one.start one.frame other.frame is_one.least.offered other_here (omega arith) in
-      same_sent one other start (is_one.whole ∙ ap wire_length frame ∙ sym is_other.whole) frame
+  same_next determined past free until one other is_one is_other = grind (arith, cases_order, same_sent)
 
   same_frames : IsDetermined offers → (past : List TimedFrame) (free until : ℕ) (one other : List TimedFrame)
       → Follows offers past free until one → Follows offers past free until other → one ≡ other
   same_frames determined past free until [] [] nothing also = refl
-  same_frames determined past free until [] (y ∷ ys) nothing (next, follows) =
-      absurd (nothing y.start y.frame next.when_free next.within next.least.offered)
-  same_frames determined past free until (x ∷ xs) [] (next, follows) nothing =
-      absurd (nothing x.start x.frame next.when_free next.within next.least.offered)
+  same_frames determined past free until [] (y ∷ ys) nothing (next, follows) = grind arith
+  same_frames determined past free until (x ∷ xs) [] (next, follows) nothing = grind arith
   same_frames determined past free until (x ∷ xs) (y ∷ ys) (next, follows) (other_next, other_follows) =
       let same = same_next determined past free until x y next other_next in
       let behind_x = subst (λ sent. Follows offers (past ++ sent ∷ []) (end_of sent) until ys) (sym same) other_follows in
@@ -199,31 +160,19 @@ module _ (offers : Offers) where
 
   NothingOffered-joined : (past : List TimedFrame) (low middle high : ℕ) → NothingOffered offers past low middle → NothingOffered offers past middle high
       → NothingOffered offers past low high
-  NothingOffered-joined past low middle high early late = λ at frame from before offered.
-      elim (cases_lt at middle) [ inl soon ↦ early at frame from soon offered | inr later ↦ late at frame later before offered ]
+  NothingOffered-joined past low middle high early late = grind (arith, cases_lt)
 
   -- frames from a time on are those from an earlier time on, where nothing is offered between
   Follows-earlier : (past : List TimedFrame) (free from until : ℕ) (back : List TimedFrame) → free ≤ from → NothingOffered offers past free from
       → Follows offers past from until back → Follows offers past free until back
   Follows-earlier past free from until [] order nothing also = NothingOffered-joined past free from until nothing also
-  Follows-earlier past free from until (sent ∷ later) order nothing (next, follows) = (
-    record {
-      when_free = omega (arith, next.when_free);
-      within = next.within;
-      first = NothingOffered-joined past free from sent.start nothing next.first;
-      least = next.least;
-      whole = next.whole;
-    },
-    follows,
-  )
+  Follows-earlier past free from until (sent ∷ later) order nothing (next, follows) = grind (arith, NothingOffered-joined)
 
   -- frames up to a time, and behind them those from that time or the first free one on
   pub Follows-joined : (past : List TimedFrame) (free middle until : ℕ) (front back : List TimedFrame) → middle ≤ until
       → Follows offers past free middle front → Follows offers (past ++ front) (max middle (free_after free front)) until back
       → Follows offers past free until (front ++ back)
-  Follows-joined past free middle until [] back longer nothing after_it =
-      Follows-earlier past free (max middle free) until back (omega arith) (λ at frame after before. nothing at frame after (omega arith))
-      (subst (λ started. Follows offers started (max middle free) until back) (append-nil past) after_it)
+  Follows-joined past free middle until [] back longer nothing after_it = grind (arith, Follows-earlier, append-nil)
   Follows-joined past free middle until (sent ∷ later) back longer (next, follows) after_it = (
     record {
       when_free = next.when_free;
@@ -264,10 +213,7 @@ module _ (offers others : Offers) where
           when_free = next.when_free;
           within = next.within;
           first = λ at frame from before offered. next.first at frame from before ((now at frame from (omega (arith, next.within))).1 offered);
-          least = record {
-            offered = (now sent.start sent.frame next.when_free next.within).0 next.least.offered;
-            least = λ frame offered. next.least.least frame ((now sent.start frame next.when_free next.within).1 offered);
-          };
+          least = grind arith;
           whole = next.whole;
         },
         Follows-along (past ++ sent ∷ []) (other_past ++ sent ∷ []) (end_of sent) until later (agree_behind past other_past free until sent later agree) follows,

@@ -1,5 +1,6 @@
 -- The CRC sequence as a sum over bytes: each entry of the table, and what a sum of entries leaves.
-use Rattle.std.proofs.Common.{◌≡◌, ℕ, zero, suc, ◌+◌, ◌-◌, ◌*◌, ◌/◌, ◌%◌, ◌^◌, ◌<◌, ◌≤◌, Bool, true, cond, ltb, List, [], ◌∷◌, ◌++◌, length, take, get_or, bit_xor, append_assoc, refl, sym, ap, subst, ◌∙◌, arith}
+use Rattle.std.proofs.Common.{◌≡◌, ℕ, zero, suc, ◌+◌, ◌-◌, ◌*◌, ◌/◌, ◌%◌, ◌^◌, ◌<◌, ◌≤◌, Bool, true, cond, ltb, List, [], ◌∷◌, ◌++◌, length, take, get_or, bit_xor, append_assoc, refl, sym, ap, ◌∙◌, arith}
+use Rattle.std.proofs.lemmas.Grind.{common_steps}
 use Rattle.std.specs.List.{flat_map}
 use Rattle.std.proofs.Math.Nat.{mul_comm, mul_assoc, pow-suc, mul-lt-mul_of_pos_right}
 use Rattle.std.proofs.lemmas.List.{append-nil, take_more, take_all}
@@ -56,14 +57,10 @@ share_is behind byte few small =
 
 -- a byte is below what stands before it
 below_power : (byte power : ℕ) → byte < 256 → 0 < power → byte * power < power * 256
-below_power byte power small some =
-    let less = mul-lt-mul_of_pos_right small some in
-    omega (arith, less, mul_comm 256 power)
+below_power byte power small some = grind (arith, mul-lt-mul_of_pos_right, mul_comm)
 
 parts : (value byte power higher : ℕ) → higher ≡ power * 256 → (0x100 * value + byte) * power ≡ value * higher + byte * power
-parts value byte power higher is =
-    let regrouped : value * (power * 256) ≡ value * power * 256 = sym (mul_assoc value power 256) in
-    rw (is, regrouped) (omega arith)
+parts value byte power higher is = grind (arith, mul_assoc)
 
 -- one byte more behind a number: the sum with its share
 pub more-share : (value byte behind sum share : ℕ) → byte < 256 → IsRemainder (value * 2 ^ (15 + 8 * (behind + 1))) sum → IsRemainder (byte * 2 ^ (15 + 8 * behind)) share
@@ -82,36 +79,23 @@ abbrev pub so_far : ℕ → ℕ → List ℕ → ℕ
 so_far id n bytes = number (header id n ++ flat_map (bits 8) bytes)
 
 pub so_far-none : (id n : ℕ) → id < 2 ^ 11 → n < 2 ^ 4 → so_far id n [] ≡ 128 * id + n
-so_far-none id n small few =
-    ap number (append-nil (header id n) ∙ header-bits id n small few) ∙ number-bits 19 (128 * id + n) (omega arith)
+so_far-none id n small few = grind (arith, append-nil, header-bits, number-bits)
 
 number-behind : (xs : List Bool) (byte : ℕ) → byte < 256 → number (xs ++ bits 8 byte) ≡ 0x100 * number xs + byte
 number-behind xs byte small =
     let all : number (xs ++ bits 8 byte) ≡ number xs * 2 ^ length (bits 8 byte) + number (bits 8 byte) = fold-append (λ value bit. 2 * value + bit_number bit) 0 xs (bits 8 byte) ∙ number-from (number xs) (bits 8 byte) in
-    let width : 2 ^ length (bits 8 byte) ≡ 256 = ap (λ n. 2 ^ n) (length-bits 8 byte) in
-    let value = number-bits 8 byte small in
-    rw (all, width, value) (omega arith)
+    grind (arith, length-bits, number-bits)
 
 so_far-more : (id n byte : ℕ) (bytes : List ℕ) → byte < 256 → so_far id n (bytes ++ byte ∷ []) ≡ 0x100 * so_far id n bytes + byte
-so_far-more id n byte bytes small =
-    ap (λ field. number (header id n ++ field)) (data-more bytes byte)
-    ∙ ap number (sym (append_assoc (header id n) (flat_map (bits 8) bytes) (bits 8 byte)))
-    ∙ number-behind (header id n ++ flat_map (bits 8) bytes) byte small
+so_far-more id n byte bytes small = grind (arith, data-more, append_assoc, number-behind)
 
 -- one data byte more
 pub next-share : (id n : ℕ) (bytes : List ℕ) (place byte behind sum share : ℕ) → place < length bytes → byte ≡ get_or bytes place 0 → byte < 256 → 0 < behind
     → IsRemainder (so_far id n (take place bytes) * 2 ^ (15 + 8 * behind)) sum → IsRemainder (byte * 2 ^ (15 + 8 * (behind - 1))) share
     → IsRemainder (so_far id n (take (place + 1) bytes) * 2 ^ (15 + 8 * (behind - 1))) (bit_xor sum share)
-next-share id n bytes place byte behind sum share inside byte_is small some h k =
-    let before : behind ≡ behind - 1 + 1 = omega arith in
-    let grown : take (place + 1) bytes ≡ take place bytes ++ byte ∷ [] = take_more bytes place 0 inside ∙ ap (λ next. take place bytes ++ next ∷ []) (sym byte_is) in
-    let more : so_far id n (take (place + 1) bytes) ≡ 0x100 * so_far id n (take place bytes) + byte = ap (so_far id n) grown ∙ so_far-more id n byte (take place bytes) small in
-    let h' : IsRemainder (so_far id n (take place bytes) * 2 ^ (15 + 8 * (behind - 1 + 1))) sum = subst (λ left. IsRemainder (so_far id n (take place bytes) * 2 ^ (15 + 8 * left)) sum) before h in
-    rw more (more-share (so_far id n (take place bytes)) byte (behind - 1) sum share small h' k)
+next-share id n bytes place byte behind sum share inside byte_is small some h k = grind (arith, common_steps, take_more, so_far-more, more-share)
 
 -- and all of them
 pub whole-sum : (id n : ℕ) (bytes : List ℕ) (place behind sum : ℕ) → length bytes ≤ place → behind ≡ 0 → IsRemainder (so_far id n (take place bytes) * 2 ^ (15 + 8 * behind)) sum
     → IsSequence (header id n ++ flat_map (bits 8) bytes) sum
-whole-sum id n bytes place behind sum end none h =
-    let taken : take place bytes ≡ bytes = take_all place bytes end in
-    rw none at (rw taken at h)
+whole-sum id n bytes place behind sum end none h = grind (arith, take_all)

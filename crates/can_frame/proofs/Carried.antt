@@ -1,8 +1,8 @@
 -- What wire bits carry, as more bits come behind them.
-use Rattle.std.proofs.Common.{◌≡◌, ◌<◌, ◌≤◌, Bool, true, false, cond, List, [], ◌∷◌, ◌++◌, reverse, append_assoc, refl, sym, ap, subst, ◌∙◌}
+use Rattle.std.proofs.Common.{◌≡◌, ◌<◌, Bool, true, false, cond, List, [], ◌∷◌, ◌++◌, reverse, append_assoc, refl, sym, ap, subst, ◌∙◌}
 use Rattle.std.proofs.lemmas.List.{reverse-append, reverse-reverse}
 use Rattle.stuff_bound.specs.Stuffing.{run, HasNoSix, at_stuff_place, without_stuff, Stuffs}
-use Rattle.stuff_bound.proofs.Shared.{without_stuff-full, without_stuff-below}
+use Rattle.stuff_bound.proofs.Shared.{without_stuff-below}
 use Rattle.can_frame.specs.Reading.{carried}
 
 -- one more bit, newest first
@@ -43,11 +43,6 @@ pub carried-plain : (before : List Bool) (bit : Bool) → run (reverse before) <
 carried-plain before bit below =
     ap (λ sent. reverse (without_stuff sent)) (reverse_more before bit) ∙ ap reverse (without_stuff-below bit (reverse before) below)
     ∙ reverse-append (bit ∷ []) (without_stuff (reverse before))
-
--- a stuff bit is not
-pub carried-stuff : (before : List Bool) (bit : Bool) → 5 ≤ run (reverse before) → carried (before ++ bit ∷ []) ≡ carried before
-carried-stuff before bit full =
-    ap (λ sent. reverse (without_stuff sent)) (reverse_more before bit) ∙ ap reverse (without_stuff-full bit (reverse before) full)
 
 -- stuffed bits carry what they stuff
 pub carried-Stuffs : (wire plain : List Bool) → Stuffs wire plain → carried wire ≡ plain

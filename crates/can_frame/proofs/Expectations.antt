@@ -1,5 +1,6 @@
 -- What a reader expects, field by field of a frame.
 use Rattle.std.proofs.Common.{◌≡◌, ◌≢◌, ℕ, ◌+◌, ◌*◌, ◌/◌, ◌%◌, ◌^◌, ◌<◌, ◌≤◌, ◌==◌, Bool, true, false, List, [], ◌∷◌, ◌++◌, length, take, drop, reverse, Err, append_assoc, refl, sym, ap, subst, ◌∙◌, arith, lit<, lit≤}
+use Rattle.std.proofs.lemmas.Grind.{common_steps}
 use Rattle.std.specs.List.{flat_map}
 use Rattle.std.proofs.lemmas.List.{append-nil, length-append, length-take-le, reverse-reverse, drop_at}
 use Rattle.stuff_bound.specs.Stuffing.{run, HasNoSix, stuffed}
@@ -10,14 +11,14 @@ use Rattle.stuff_bound.specs.Fields.{bits}
 use Rattle.can_frame.specs.Number.{number}
 use Rattle.can_frame.specs.Wire.{header, covered, with_sequence}
 use Rattle.can_frame.specs.Reading.{carried, IsMisplaced, IsPlaced, IsBegun, Reads}
-use Rattle.can_frame.specs.Reading.IsMisplaced.{start, identifier, reserved, code}
+use Rattle.can_frame.specs.Reading.IsMisplaced.{identifier, code}
 use Rattle.can_frame.specs.Progress.{Progress, all_bits, Expects, Went, EndsPlain}
 use Rattle.stuff_bound.proofs.Shared.{length-bits, bits-append}
 use Rattle.can_frame.proofs.Fields.{number-bits}
 use Rattle.can_frame.proofs.Plain.{before_code, placed_header, plain_length-code, plain_length-least, length-header, length-data}
 use Rattle.can_frame.proofs.OneAnswer.{Cut, cut}
 use Rattle.can_frame.proofs.OneAnswer.Cut.{same, earlier, later}
-use Rattle.can_frame.proofs.Steps.{form_found, went_then, IsBegun-read}
+use Rattle.can_frame.proofs.Steps.{form_found, went_then}
 
 -- a place at which no bit is misplaced
 pub record IsFree (place : ℕ) : Type 0 where
@@ -27,10 +28,7 @@ pub record IsFree (place : ℕ) : Type 0 where
   pub last : place ≢ 18
 
 free_right : (front : List Bool) (bit : Bool) → IsFree (length front) → ¬ IsMisplaced front bit
-free_right front bit h (start e k) = h.started e
-free_right front bit h (identifier e k) = h.seventh e
-free_right front bit h (reserved least most k) = h.reserved least most
-free_right front bit h (code e k) = h.last e
+free_right front bit h = grind arith
 
 placed_cut : (plain field front back : List Bool) (bit : Bool) → IsPlaced plain → ((place : ℕ) → length plain ≤ place → place < length plain + length field → IsFree place)
     → Cut plain field front (bit ∷ back) → ¬ IsMisplaced front bit
@@ -42,10 +40,7 @@ placed_cut plain field front back bit placed free (earlier bit' between e k) =
     let long : length front ≡ length plain + length (bit' ∷ between) = ap length e ∙ length-append plain (bit' ∷ between) in
     let some : length field ≡ length (bit' ∷ between) + length (bit ∷ back) = ap length k ∙ length-append (bit' ∷ between) (bit ∷ back) in
     free_right front bit (free (length front) (omega arith) (omega arith))
-placed_cut plain field front back bit placed free (later bit' between e k) =
-    let equal : bit ≡ bit' = cc in
-    let P : Bool → Type 0 = λ b. plain ≡ front ++ b ∷ between in
-    placed front between bit (subst P (sym equal) e)
+placed_cut plain field front back bit placed free (later bit' between e k) = grind arith
 
 -- bits at free places may be any
 pub placed_more : (plain field : List Bool) → IsPlaced plain → ((place : ℕ) → length plain ≤ place → place < length plain + length field → IsFree place) → IsPlaced (plain ++ field)
@@ -54,8 +49,7 @@ placed_more plain field placed free =
 
 -- what begins bits that are right is right
 pub placed_begun : (plain more : List Bool) → IsPlaced (plain ++ more) → IsPlaced plain
-placed_begun plain more placed =
-    λ front back bit e. placed front (back ++ more) bit (ap (λ v. v ++ more) e ∙ append_assoc front (bit ∷ back) more)
+placed_begun plain more placed = grind (arith, append_assoc)
 
 nothing_there : (front back : List Bool) (bit : Bool) → [] ≡ front ++ bit ∷ back → ¬ IsMisplaced front bit
 nothing_there [] back bit e = absurd (cc)
@@ -83,12 +77,8 @@ expects_early at plain width no_six is placed early free = record {
 
 pub expects_late : (at : Progress) (id n : ℕ) (rest : List Bool) (width : ℕ) → id ≤ 0x7EF → n ≤ 8 → HasNoSix (reverse at.read) → carried at.read ≡ header id n ++ rest
     → length rest + width ≤ 8 * n + 15 → Expects at width
-expects_late at id n rest width in_range few no_six is room = record {
-  no_six = no_six;
-  placed = λ field short. rw is (rw (append_assoc (header id n) rest field) (placed_behind id n (rest ++ field) in_range few));
-  unfinished = λ field short. rw is (rw (append_assoc (header id n) rest field)
-      (omega (arith, plain_length-code id n (rest ++ field) (omega arith), length-append (header id n) (rest ++ field), length-append rest field, length-header id n)));
-}
+expects_late at id n rest width in_range few no_six is room =
+    grind (arith, append_assoc, placed_behind, plain_length-code, length-append, length-header)
 
 -- ---- the identifier
 
@@ -155,9 +145,6 @@ pub expects_reserved : (at : Progress) (plain : List Bool) → HasNoSix (reverse
 expects_reserved at plain no_six is placed early =
     expects_early at plain 1 no_six is placed (omega arith) (λ place h k. absurd (omega arith))
 
-pub reserved_fixed : (at : Progress) (plain : List Bool) → carried at.read ≡ plain → 12 ≤ length plain → length plain ≤ 14 → IsMisplaced (carried at.read) true
-reserved_fixed at plain is least most = rw is (reserved least most refl)
-
 -- the data length code is next
 pub expects_code : (at : Progress) → HasNoSix (reverse at.read) → IsPlaced (carried at.read) → length (carried at.read) ≡ 15 → Expects at 4
 expects_code at no_six placed long =
@@ -175,16 +162,6 @@ code_found old new n place h long went below above last here =
     let wrong : IsMisplaced (carried old.read ++ bits 3 (n / 2)) (n % 2 == 1) =
     code (omega (arith, length-append (carried old.read) (bits 3 (n / 2)), length-bits 3 (n / 2))) (omega arith) in
     form_found old new (bits 3 (n / 2)) (n % 2 == 1) place went last (h.placed _ three) (h.unfinished _ three) wrong here
-
--- ---- a field of several
-
--- where a field is expected, and some of it was read, a part of the rest is expected
-pub expects_part : (old mid : Progress) (field : List Bool) (width part : ℕ) → Expects old width → Went old mid field → length field + part ≤ width → Expects mid part
-expects_part old mid field width part h went within = record {
-  no_six = went.no_six;
-  placed = λ more short. rw went.carried (rw append_assoc (h.placed (field ++ more) (omega (arith, length-append field more))));
-  unfinished = λ more short. rw went.carried (rw append_assoc (h.unfinished (field ++ more) (omega (arith, length-append field more))));
-}
 
 -- ---- the header, from its start
 
@@ -213,16 +190,11 @@ pub record Reserved (at : Progress) : Type 0 where
   pub fixed : IsMisplaced (carried at.read) true
 
 reserved_at : (at : Progress) (plain : List Bool) → HasNoSix (reverse at.read) → carried at.read ≡ plain → IsPlaced plain → 12 ≤ length plain → length plain ≤ 14 → Reserved at
-reserved_at at plain no_six is placed least most = record {
-  expects = expects_reserved at plain no_six is placed most;
-  fixed = reserved_fixed at plain is least most;
-}
+reserved_at at plain no_six is placed least most = grind (arith, expects_reserved)
 
 -- RTR is next behind the identifier, r1 behind RTR, and r0 behind r1
 pub rtr_next : (old first at : Progress) (id : ℕ) → id ≤ 0x7EF → old.read ≡ [] → Went old first (false ∷ []) → Went first at (bits 11 id) → Reserved at
-rtr_next old first at id in_range here h k =
-    let went = went_then old first at (false ∷ []) (bits 11 id) h k in
-    reserved_at at (before_rtr id) went.no_six (carried_start old at _ here went) (placed_identifier id in_range) (omega (arith, length-bits 11 id)) (omega (arith, length-bits 11 id))
+rtr_next old first at id in_range here h k = grind (arith, went_then, reserved_at, carried_start, placed_identifier, length-bits)
 
 pub r1_next : (old first second at : Progress) (id : ℕ) → id ≤ 0x7EF → old.read ≡ [] → Went old first (false ∷ []) → Went first second (bits 11 id) → Went second at (false ∷ []) → Reserved at
 r1_next old first second at id in_range here h k l =
@@ -243,18 +215,13 @@ r0_next old first second third at id in_range here h k l m =
 -- all that stands before the data length code was read
 pub to_code : (old first second third fourth at : Progress) (id : ℕ) → Went old first (false ∷ []) → Went first second (bits 11 id) → Went second third (false ∷ [])
     → Went third fourth (false ∷ []) → Went fourth at (false ∷ []) → Went old at (before_code id)
-to_code old first second third fourth at id h k l m n =
-    went_then old fourth at (before_r0 id) (false ∷ [])
-    (went_then old third fourth (before_r1 id) (false ∷ []) (went_then old second third (before_rtr id) (false ∷ []) (went_then old first second (false ∷ []) (bits 11 id) h k) l) m)
-    n
+to_code old first second third fourth at id h k l m n = grind (arith, common_steps, went_then)
 
 -- ---- the data bytes
 
 -- the next data byte is expected, where some of them were read
 pub expects_byte : (old mid : Progress) (bytes : List ℕ) (place n : ℕ) → length bytes ≡ 8 → n ≤ 8 → place < n → Expects old (8 * n) → Went old mid (flat_map (bits 8) (take place bytes)) → Expects mid 8
-expects_byte old mid bytes place n room few below h went =
-    let taken : length (take place bytes) ≡ place = length-take-le place bytes (omega arith) in
-    expects_part old mid (flat_map (bits 8) (take place bytes)) (8 * n) 8 h went (omega (arith, length-data (take place bytes)))
+expects_byte old mid bytes place n room few below h went = grind (arith, common_steps, length-take-le, length-data)
 
 -- ---- the stuffed part
 
@@ -277,24 +244,13 @@ frame_of id bytes = record { identifier = id; bytes = bytes }
 pub plain_read : (old at : Progress) (id n sequence : ℕ) (bytes : List ℕ) → n ≤ 8 → length bytes ≡ 8 → old.read ≡ [] → Went old at (header id n ++ flat_map (bits 8) (take n bytes) ++ bits 15 sequence)
     → carried at.read ≡ with_sequence (frame_of id (take n bytes)) sequence
 unfolding with_sequence covered
-plain_read old at id n sequence bytes few room here went =
-    let taken : length (take n bytes) ≡ n = length-take-le n bytes (omega arith) in
-    carried_start old at _ here went ∙ ap (λ k. header id k ++ flat_map (bits 8) (take n bytes) ++ bits 15 sequence) (sym taken)
+plain_read old at id n sequence bytes few room here went = grind (arith, length-take-le, carried_start)
 
 pub plain_begun : (old at : Progress) (id n sequence : ℕ) (bytes : List ℕ) → id ≤ 0x7EF → n ≤ 8 → length bytes ≡ 8 → old.read ≡ []
     → Went old at (header id n ++ flat_map (bits 8) (take n bytes) ++ bits 15 sequence) → IsBegun at.read
 plain_begun old at id n sequence bytes in_range few room here went =
-    let taken : length (take n bytes) ≡ n = length-take-le n bytes (omega arith) in
-    let data_bits = flat_map (bits 8) (take n bytes) in
-    let is = carried_start old at _ here went ∙ append_assoc (header id n) data_bits (bits 15 sequence) in
-    IsBegun-read at (header id n ++ (data_bits ++ bits 15 sequence)) went.no_six is (placed_behind id n _ in_range few)
-    (omega (arith, plain_length-code id n (data_bits ++ bits 15 sequence) (omega arith), length-append (header id n) (data_bits ++ bits 15 sequence), length-append data_bits (bits 15 sequence), length-header id n, length-data (take n bytes), length-bits 15 sequence))
+    grind (arith, length-take-le, carried_start, append_assoc, placed_behind, plain_length-code, length-append, length-header, length-data, length-bits)
 
 -- and with the stuff bit behind it, where one is due, the stuffed part
 pub stuffed_read : (mid new : Progress) (plain : List Bool) → carried mid.read ≡ plain → Went mid new [] → run (reverse new.read) < 5 → new.read ≡ stuffed plain
-stuffed_read mid new plain is went ended =
-    stuffed_only new.read plain (record {
-      no_six = went.no_six;
-      ended = ended;
-      left = sym (reverse-reverse _) ∙ ap reverse (went.carried ∙ append-nil (carried mid.read) ∙ is);
-    })
+stuffed_read mid new plain is went ended = grind (arith, stuffed_only, reverse-reverse, append-nil)

@@ -1,9 +1,8 @@
 -- The bits of a number in a field, and the number of a field's bits.
-use Rattle.std.proofs.Common.{◌≡◌, ℕ, zero, suc, ◌+◌, ◌-◌, ◌*◌, ◌/◌, ◌%◌, ◌^◌, ◌<◌, ◌≤◌, ◌==◌, Bool, true, false, cond, List, [], ◌∷◌, ◌++◌, bit_and, nat_eq, append_assoc, refl, sym, ap, ◌∙◌, inl, inr, arith}
+use Rattle.std.proofs.Common.{◌≡◌, ℕ, zero, suc, ◌+◌, ◌-◌, ◌*◌, ◌/◌, ◌%◌, ◌^◌, ◌<◌, ◌≤◌, Bool, cond, List, [], ◌∷◌, ◌++◌, bit_and, nat_eq, append_assoc, refl, sym, ap, ◌∙◌, arith}
 use Rattle.std.proofs.Math.Nat.{div-div-eq-div-mul, pow-suc, sub_self}
 use Rattle.std.proofs.lemmas.List.{append-nil}
 use Rattle.std.proofs.lemmas.List.Sums.{fold_push}
-use Rattle.std.proofs.lemmas.Bool.{cases_eq}
 use Rattle.std.proofs.lemmas.Nat.{and_mask}
 use Rattle.stuff_bound.specs.Fields.{bits}
 use Rattle.can_frame.specs.Number.{number}
@@ -27,41 +26,21 @@ pub bits-next : (start old new : List Bool) (width place value : ℕ) → 0 < pl
     → old ≡ start ++ bits (width - place) (value / 2 ^ place) → new ≡ old ++ nat_eq (bit_and (value / 2 ^ (place - 1)) 1) 1 ∷ []
     → new ≡ start ++ bits (width - (place - 1)) (value / 2 ^ (place - 1))
 bits-next start old new width zero value h k before pushed = absurd (omega arith)
-bits-next start old new width (suc place) value h k before pushed =
-    let back : suc place - 1 ≡ place = omega arith in
-    let here = bits-place width place value (omega arith) in
-    rw back (rw back at pushed ∙ ap (λ sent. sent ++ nat_eq (bit_and (value / 2 ^ place) 1) 1 ∷ []) before ∙ append_assoc start _ _ ∙ ap (λ field. start ++ field) here)
+bits-next start old new width (suc place) value h k before pushed = grind (arith, bits-place, bit_and, append_assoc)
 
 -- the number of a bit, and the bit of that number
 abbrev pub bit_number : Bool → ℕ
 bit_number bit = cond bit 1 0
-
-bit_number-odd : (value : ℕ) → bit_number (value % 2 == 1) ≡ value % 2
-bit_number-odd value = elim (cases_eq (value % 2) 1) [
-  | inl one ↦ ap bit_number (ap (λ n. n == 1) one) ∙ sym one
-  | inr other ↦ let none : value % 2 ≡ 0 = omega arith in ap bit_number (ap (λ n. n == 1) none) ∙ sym none
-]
 
 -- a field of enough bits has its number
 pub number-bits : (width value : ℕ) → value < 2 ^ width → number (bits width value) ≡ value
 unfolding bits
 number-bits zero value h = omega arith
 number-bits (suc width) value h =
-    let twice : 2 ^ suc width ≡ 2 ^ width * 2 = pow-suc 2 width in
     let above : number (bits width (value / 2)) ≡ value / 2 = number-bits width (value / 2) (omega arith) in
-    let last : bit_number (value % 2 == 1) ≡ value % 2 = bit_number-odd value in
-    fold_push (λ value bit. 2 * value + bit_number bit) 0 (bits width (value / 2)) (value % 2 == 1) ∙ omega arith
+    grind (arith, fold_push)
 
 -- one more bit of a field that is read
 pub bits_more : (width value : ℕ) (bit : Bool) → bits (width + 1) (2 * value + bit_number bit) ≡ bits width value ++ bit ∷ []
 unfolding bits
-bits_more width value true =
-    let next : width + 1 ≡ suc width = omega arith in
-    let half : (2 * value + 1) / 2 ≡ value = omega arith in
-    let odd : (2 * value + 1) % 2 ≡ 1 = omega arith in
-    rw (next, half, odd) refl
-bits_more width value false =
-    let next : width + 1 ≡ suc width = omega arith in
-    let half : (2 * value + 0) / 2 ≡ value = omega arith in
-    let even : (2 * value + 0) % 2 ≡ 0 = omega arith in
-    rw (next, half, even) refl
+bits_more width value bit = grind arith

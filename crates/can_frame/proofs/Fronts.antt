@@ -1,12 +1,13 @@
 -- A frame at the front of bits: one answer, and what it says of all of them.
 use Rattle.std.proofs.Common.{◌≡◌, ℕ, ◌<◌, ◌≤◌, Bool, false, List, [], ◌∷◌, ◌++◌, length, drop, Result, Ok, Err, refl, sym, ap, subst, ◌∙◌, inl, inr, arith}
+use Rattle.std.proofs.lemmas.Grind.{common_steps}
 use Rattle.std.proofs.lemmas.Bool.{cases_lt}
 use Rattle.std.proofs.lemmas.List.{append-nil, length-append}
 use Rattle.stuff_bound.specs.Stuffing.{stuffed}
 use Rattle.stuff_bound.proofs.Shared.{Stuffs-stuffed}
 use Rattle.can_frame.specs.declared.data_frame.Front.{Front}
 use Rattle.can_frame.specs.declared.wire_fault.WireFault.{WireFault}
-use Rattle.can_frame.specs.declared.wire_fault.WireFault.TheVariants.{Stuff, Form, Crc, Short, Tail, Memory}
+use Rattle.can_frame.specs.declared.wire_fault.WireFault.TheVariants.{Tail}
 use Rattle.can_frame.specs.DataFrame.{DataFrame, IsFrame}
 use Rattle.can_frame.specs.Wire.{header, covered, with_sequence, plain, wire_of, wire_length}
 use Rattle.can_frame.specs.Reading.{carried, IsFront, Reads, ReadsFront}
@@ -20,20 +21,13 @@ FrontAnswer = Result Front WireFault
 
 -- what is found before a frame is whole is found in the bits
 pub Reads-front : (bits : List Bool) (fault : WireFault) → ReadsFront bits (Err fault) → Reads bits (Err fault)
-Reads-front bits (Stuff place) h = h
-Reads-front bits (Form place) h = h
-Reads-front bits (Crc sent computed) h = h
-Reads-front bits (Short have) h = h
-Reads-front bits (Tail place) h = absurd h
-Reads-front bits Memory h = absurd h
+Reads-front bits fault h = grind arith
 
 -- nothing is behind the frame
 whole_front : (bits : List Bool) (front : Front) (rest : List Bool) → IsFrame front.frame → bits ≡ wire_of front.frame ++ rest → front.end ≡ wire_length front.frame → length bits ≤ front.end
     → Reads bits (Ok front.frame)
 unfolding wire_length
-whole_front bits front [] legal split here all = (legal, split ∙ append-nil (wire_of front.frame))
-whole_front bits front (bit ∷ rest) legal split here all =
-    let long = ap length split ∙ length-append (wire_of front.frame) (bit ∷ rest) in absurd (omega (arith, here))
+whole_front bits front rest legal split here all = grind (arith, common_steps, append-nil, length-append)
 
 pub Reads-whole : (bits : List Bool) (front : Front) → IsFront bits front → length bits ≤ front.end → Reads bits (Ok front.frame)
 Reads-whole bits front h all = whole_front bits front h.rest h.legal h.split h.here all
@@ -42,8 +36,7 @@ Reads-whole bits front h all = whole_front bits front h.rest h.legal h.split h.h
 more_front : (bits : List Bool) (front : Front) (rest : List Bool) → IsFrame front.frame → bits ≡ wire_of front.frame ++ rest → front.end ≡ wire_length front.frame → front.end < length bits
     → Reads bits (Err (Tail front.end))
 unfolding wire_length
-more_front bits front [] legal split here more =
-    let long = ap length split ∙ length-append (wire_of front.frame) [] in absurd (omega (arith, here))
+more_front bits front [] legal split here more = grind (arith, length-append)
 more_front bits front (bit ∷ rest) legal split here more = record { frame = front.frame; bit = bit; after = rest; legal = legal; split = split; here = here }
 
 pub Reads-more : (bits : List Bool) (front : Front) → IsFront bits front → front.end < length bits → Reads bits (Err (Tail front.end))
@@ -53,8 +46,7 @@ abbrev front_of : DataFrame → ℕ → Front
 front_of frame end = record { frame = frame; end = end }
 
 same_front : (first second : Front) → first.frame ≡ second.frame → first.end ≡ wire_length first.frame → second.end ≡ wire_length second.frame → first ≡ second
-same_front first second frames ends ends' =
-    ap (λ frame. front_of frame first.end) frames ∙ ap (λ end. front_of second.frame end) (ends ∙ ap wire_length frames ∙ sym ends')
+same_front first second frames ends ends' = grind arith
 
 -- of two wires at the front of the same bits neither goes on behind the other
 one_wire : (first second : DataFrame) (back back' : List Bool) → IsFrame first → IsFrame second → Cut (wire_of first) back (wire_of second) back' → first ≡ second
@@ -93,9 +85,7 @@ first_carried : (wire plain : List Bool) (bit : Bool) → carried wire ≡ bit �
 first_carried [] plain bit e = absurd (cc)
 first_carried (sent ∷ wire) plain bit e =
     let more = carried-append (sent ∷ []) wire in
-    let all : sent ∷ more.0 ≡ bit ∷ plain = sym more.1 ∙ e in
-    let same : sent ≡ bit = cc in
-    ap (λ b. b ∷ wire) same
+    grind (arith, same)
 
 -- a wire begins with the start of frame, which is dominant
 pub wire-starts : (frame : DataFrame) → wire_of frame ≡ false ∷ drop 1 (wire_of frame)

@@ -19,6 +19,4 @@ pub wire-least : (frame : DataFrame) → 47 + 8 * length frame.bytes ≤ wire_le
 wire-least frame = omega (arith, length-wire frame, length-plain frame, length-stuffed-least (plain frame))
 
 pub wire-most : (frame : DataFrame) → wire_length frame ≤ worst (length frame.bytes)
-wire-most frame =
-    let positive = length-plain frame in
-    omega (arith, length-wire frame, positive, length-stuffed-most (plain frame) (omega arith))
+wire-most frame = grind (arith, length-plain, length-wire, length-stuffed-most)

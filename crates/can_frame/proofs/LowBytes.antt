@@ -1,9 +1,8 @@
 -- The low bytes of a number in places of storage, and numbers whose high parts are the same.
-use Rattle.std.proofs.Common.{◌≡◌, ℕ, zero, suc, ◌+◌, ◌-◌, ◌*◌, ◌/◌, ◌%◌, ◌^◌, ◌<◌, ◌≤◌, List, ◌∷◌, ◌++◌, length, take, get_or, replicate, inl, inr, refl, sym, ap, ap₂, ◌∙◌, arith}
+use Rattle.std.proofs.Common.{◌≡◌, ℕ, zero, suc, ◌+◌, ◌-◌, ◌*◌, ◌/◌, ◌%◌, ◌^◌, ◌<◌, ◌≤◌, List, ◌∷◌, ◌++◌, length, take, get_or, replicate, refl, sym, ap, ap₂, ◌∙◌, arith}
 use Rattle.std.specs.Int.{w64, byte_at, bytes_high_first, from_be_bytes}
 use Rattle.std.specs.Prelude.{All}
 use Rattle.std.proofs.lemmas.List.{get_or_past}
-use Rattle.std.proofs.lemmas.List.Elements.{All-get_or}
 use Rattle.std.proofs.lemmas.Bool.{cases_lt}
 use Rattle.std.proofs.lemmas.Nat.{be_bytes_8, field_of, pow-add}
 use Rattle.std.proofs.Math.Nat.{div-div-eq-div-mul, div-one, mul-div_cancel, mul-div-mul_right, mul-mod_left, one-le-pow, pow-suc, pow-succ', mul_assoc}
@@ -11,8 +10,7 @@ use Rattle.std.proofs.Math.Pow.{mod-mod-pow}
 
 -- a byte of a number, by its place
 byte_at-pow : (k x : ℕ) → byte_at k x ≡ x / 256 ^ k % 256
-byte_at-pow zero x = ap (λ y. y % 256) (sym (div-one x))
-byte_at-pow (suc k) x = refl
+byte_at-pow k x = grind (arith, div-one)
 
 pos256 : (n : ℕ) → zero < 256 ^ n
 pos256 n = let h = one-le-pow n 256 (omega arith) in omega arith
@@ -37,8 +35,7 @@ byte-in_word i x within =
     ∙ sym (byte_at-pow i x)
 
 bytes-in_word : (k x : ℕ) → k ≤ 8 → bytes_high_first k (x % 2 ^ 64) ≡ bytes_high_first k x
-bytes-in_word zero x within = refl
-bytes-in_word (suc k) x within = ap₂ (λ b bs. b ∷ bs) (byte-in_word k x (omega arith)) (bytes-in_word k x (omega arith))
+bytes-in_word k x within = grind (arith, ap₂, byte-in_word)
 
 -- below a shifted number stand zeros
 zero-byte : (k m n : ℕ) → k < m → byte_at k (n * 256 ^ m) ≡ 0
@@ -60,16 +57,10 @@ zero-bytes (suc k) m n within = ap₂ (λ b bs. b ∷ bs) (zero-byte k m n (omeg
 
 -- the bytes of a shifted number are its own, and zeros behind them
 shifted-byte : (k m n : ℕ) → byte_at (k + m) (n * 256 ^ m) ≡ byte_at k n
-shifted-byte k m n =
-    byte_at-pow (k + m) (n * 256 ^ m)
-    ∙ ap (λ p. n * 256 ^ m / p % 256) (pow-add 256 k m)
-    ∙ ap (λ p. p % 256) (mul-div-mul_right n (256 ^ k) (pos256 m))
-    ∙ sym (byte_at-pow k n)
+shifted-byte k m n = grind (arith, byte_at-pow, pow-add, mul-div-mul_right, pos256)
 
 shifted-bytes : (k m n : ℕ) → bytes_high_first (k + m) (n * 256 ^ m) ≡ bytes_high_first k n ++ replicate m 0
-shifted-bytes zero m n =
-    let none : 0 + m ≡ m = omega arith in
-    ap (λ w. bytes_high_first w (n * 256 ^ m)) none ∙ zero-bytes m m n (omega arith)
+shifted-bytes zero m n = grind (arith, zero-bytes)
 shifted-bytes (suc k) m n =
     let next : suc k + m ≡ suc (k + m) = omega arith in
     ap (λ w. bytes_high_first w (n * 256 ^ m)) next
@@ -86,38 +77,12 @@ low-bytes len n within =
     ∙ ap (λ k. bytes_high_first k (n * 256 ^ (8 - len))) all
     ∙ shifted-bytes len (8 - len) n
 
--- numbers with the same high part have the same high bytes
-same-byte : (k m a b : ℕ) → m ≤ k → a / 256 ^ m ≡ b / 256 ^ m → byte_at k a ≡ byte_at k b
-same-byte k m a b within same =
-    let j = k - m in
-    let parts : k ≡ m + j = omega arith in
-    let split : (x : ℕ) → byte_at k x ≡ x / 256 ^ m / 256 ^ j % 256 = λ x.
-    byte_at-pow k x ∙ ap (λ w. x / 256 ^ w % 256) parts ∙ ap (λ p. x / p % 256) (pow-add 256 m j) ∙ ap (λ y. y % 256) (sym (div-div-eq-div-mul x (256 ^ m) (256 ^ j))) in
-    split a ∙ ap (λ y. y / 256 ^ j % 256) same ∙ sym (split b)
-
-pub same-high : (k m a b : ℕ) → a / 256 ^ m ≡ b / 256 ^ m → take (k - m) (bytes_high_first k a) ≡ take (k - m) (bytes_high_first k b)
-same-high zero m a b same = refl
-same-high (suc k) m a b same = elim (cases_lt k m) [
-  | inl below ↦ let none : suc k - m ≡ 0 = omega arith in rw none refl
-  | inr from ↦
-      let next : suc k - m ≡ suc (k - m) = omega arith in
-      rw next (ap₂ (λ c cs. c ∷ cs) (same-byte k m a b (omega arith) same) (same-high k m a b same))
-]
-
 bytes-small : (bs : List ℕ) → All (λ byte. byte < 256) bs → (i : ℕ) → get_or bs i 0 < 256
-bytes-small bs small i = elim (cases_lt i (length bs)) [
-  | inl within ↦ All-get_or (λ byte. byte < 256) bs i 0 within small
-  | inr behind ↦ let none : get_or bs i 0 ≡ 0 = get_or_past bs i 0 behind in omega (arith, none)
-]
+bytes-small bs small i = grind (arith, cases_lt, get_or_past)
 
 -- the first bytes of a number are those of its high part
 high-byte : (k m n : ℕ) → byte_at (k + m) n ≡ byte_at k (n / 256 ^ m)
-high-byte k m n =
-    byte_at-pow (k + m) n
-    ∙ ap (λ w. n / 256 ^ w % 256) (let turned : k + m ≡ m + k = omega arith in turned)
-    ∙ ap (λ p. n / p % 256) (pow-add 256 m k)
-    ∙ ap (λ y. y % 256) (sym (div-div-eq-div-mul n (256 ^ m) (256 ^ k)))
-    ∙ sym (byte_at-pow k (n / 256 ^ m))
+high-byte k m n = grind (arith, byte_at-pow, pow-add, div-div-eq-div-mul)
 
 pub high-bytes : (k m n : ℕ) → take k (bytes_high_first (k + m) n) ≡ bytes_high_first k (n / 256 ^ m)
 high-bytes zero m n = refl
@@ -128,9 +93,7 @@ high-bytes (suc k) m n =
 -- all bytes of a number but the last one
 pub front-bytes : (n number : ℕ) (bytes : List ℕ) → 0 < n → bytes_high_first n number ≡ bytes
     → bytes_high_first (n - 1) (number / 256) ≡ take (n - 1) bytes
-front-bytes n number bytes some are =
-    let whole : n - 1 + 1 ≡ n = omega (arith, some) in
-    sym (high-bytes (n - 1) 1 number) ∙ ap (λ k. take (n - 1) (bytes_high_first k number)) whole ∙ ap (take (n - 1)) are
+front-bytes n number bytes some are = grind (arith, high-bytes)
 
 -- the first of eight places are the low bytes of a number: that of all of them, shifted
 pub places-number : (places : List ℕ) (len : ℕ) → length places ≡ 8 → All (λ byte. byte < 256) places → len ≤ 8

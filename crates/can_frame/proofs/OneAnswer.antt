@@ -1,5 +1,5 @@
 -- Bits have one answer: what is found at one place is not found before another.
-use Rattle.std.proofs.Common.{◌≡◌, ◌≢◌, ℕ, ◌+◌, ◌^◌, ◌<◌, ◌≤◌, ◌⊎◌, Bool, true, false, not, cond, List, [], ◌∷◌, ◌++◌, length, reverse, Result, Ok, Err, append_assoc, refl, sym, ap, subst, ◌∙◌, inl, inr, arith}
+use Rattle.std.proofs.Common.{◌≡◌, ◌≢◌, ℕ, ◌+◌, ◌^◌, ◌<◌, ◌≤◌, ◌⊎◌, Bool, true, cond, List, [], ◌∷◌, ◌++◌, length, reverse, Result, Ok, Err, append_assoc, refl, sym, ap, subst, ◌∙◌, inl, inr, arith}
 use Rattle.std.specs.Bool.{beq}
 use Rattle.std.proofs.lemmas.List.{append-nil, length-append}
 use Rattle.stuff_bound.specs.Stuffing.{run, stuffed}
@@ -60,40 +60,18 @@ pub record Inside (bits : List Bool) (answer : Answer) : Type 0 where
 -- the bits do not go on as right ones where one of them is wrong
 stop_is_wrong : (before after rest between : List Bool) (bit : Bool) (answer : Answer) → Stop before after answer → after ≡ bit ∷ rest → IsBegun (before ++ bit ∷ between) → ⊥
 stop_is_wrong before after rest between bit answer (sixth bit' rest' e six is) k begun =
-    let same : bit' ≡ bit = cc in
     let none = (HasNoSix-begun before between bit begun.no_six).0 in
-    let P : Bool → Type 0 = λ b. 6 ≤ run (b ∷ reverse before) in
-    let six_here = subst P same six in
-    omega arith
+    grind arith
 stop_is_wrong before after rest between bit answer (misplaced bit' rest' e no_stuff unfinished wrong is) k begun =
-    let same : bit' ≡ bit = cc in
     let more = carried-append (before ++ bit ∷ []) between in
-    let all : carried (before ++ bit ∷ between) ≡ carried before ++ bit ∷ more.0 =
-    ap carried (sym (append_assoc before (bit ∷ []) between)) ∙ more.1 ∙ ap (λ v. v ++ more.0) (carried-plain before bit no_stuff) ∙ append_assoc (carried before) (bit ∷ []) more.0 in
-    let P : Bool → Type 0 = λ b. IsMisplaced (carried before) b in
-    begun.placed (carried before) more.0 bit all (subst P same wrong)
+    grind (arith, append_assoc, carried-plain)
 stop_is_wrong before after rest between bit answer (ended e goes_on is) k begun = absurd (cc)
 
 run_full : (before : List Bool) (bit : Bool) → 6 ≤ run (bit ∷ reverse before) → 5 ≤ run (reverse before)
 run_full before bit six = let more = run-more bit (reverse before) in omega arith
 
--- at one place there is one answer
-stop_one : (before after : List Bool) (first second : Answer) → Stop before after first → Stop before after second → first ≡ second
-stop_one before after first second (sixth b r e six is) (sixth b' r' e' six' is') = is ∙ sym is'
-stop_one before after first second (sixth b r e six is) (misplaced b' r' e' below unfinished wrong is') = absurd (let full = run_full before b six in omega arith)
-stop_one before after first second (sixth b r e six is) (ended e' goes_on is') = absurd (cc)
-stop_one before after first second (misplaced b' r' e' below unfinished wrong is') (sixth b r e six is) = absurd (let full = run_full before b six in omega arith)
-stop_one before after first second (misplaced b r e below unfinished wrong is) (misplaced b' r' e' below' unfinished' wrong' is') = is ∙ sym is'
-stop_one before after first second (misplaced b r e below unfinished wrong is) (ended e' goes_on is') = absurd (cc)
-stop_one before after first second (ended e' goes_on is') (sixth b r e six is) = absurd (cc)
-stop_one before after first second (ended e' goes_on is') (misplaced b r e below unfinished wrong is) = absurd (cc)
-stop_one before after first second (ended e goes_on is) (ended e' goes_on' is') = is ∙ sym is'
-
 inside_cut : (bits : List Bool) (first second : Answer) (h : Inside bits first) (k : Inside bits second) → Cut h.before h.after k.before k.after → first ≡ second
-inside_cut bits first second h k (same e f) =
-    let P : List Bool → Type 0 = λ v. Stop v k.after first in
-    let Q : List Bool → Type 0 = λ v. Stop h.before v first in
-    stop_one k.before k.after first second (subst P e (subst Q f h.stop)) k.stop
+inside_cut bits first second h k (same e f) = grind arith
 inside_cut bits first second h k (earlier bit between e f) =
     absurd (stop_is_wrong h.before h.after (between ++ k.after) between bit first h.stop f (subst IsBegun e k.begun))
 inside_cut bits first second h k (later bit between e f) =
@@ -123,12 +101,7 @@ stuffed_is_all frame sequence between bit legal begun =
     let wire = stuffed v in
     let whole = Stuffs-stuffed v in
     let more = carried-append (wire ++ bit ∷ []) between in
-    let is : carried wire ≡ v = carried-Stuffs wire v whole in
-    let all : carried (wire ++ bit ∷ between) ≡ v ++ bit ∷ more.0 =
-    ap carried (sym (append_assoc wire (bit ∷ []) between)) ∙ more.1 ∙ ap (λ w. w ++ more.0) (carried-plain wire bit whole.ended) ∙ append_assoc (carried wire) (bit ∷ []) more.0 ∙ ap (λ w. w ++ bit ∷ more.0) is in
-    let within : length (v ++ bit ∷ more.0) ≤ plain_length (v ++ bit ∷ more.0) = rw all at begun.within in
-    let known : plain_length (v ++ bit ∷ more.0) ≡ length v = plain_length-more frame sequence (bit ∷ more.0) legal in
-    omega (arith, length-append v (bit ∷ more.0))
+    grind (arith, carried-Stuffs, append_assoc, carried-plain, plain_length-more, length-append)
 
 -- what comes of the bits behind the stuffed part, against those that are due there: the first that differs decides
 pub ending : DataFrame → ℕ → List Bool → List Bool → Answer
@@ -158,14 +131,12 @@ stop_in_stuffed frame sequence after answer legal (sixth bit rest e six is) =
     let full = run_full (stuffed (with_sequence frame sequence)) bit six in omega arith
 stop_in_stuffed frame sequence after answer legal (misplaced bit rest e below unfinished wrong is) =
     let carried_is = carried-Stuffs _ _ (Stuffs-stuffed (with_sequence frame sequence)) in
-    let whole = length-whole frame sequence legal in
-    let short = rw carried_is at unfinished in omega arith
+    grind (arith, length-whole)
 stop_in_stuffed frame sequence after answer legal (ended e (inl full) is) =
     let ended = (Stuffs-stuffed (with_sequence frame sequence)).ended in omega arith
 stop_in_stuffed frame sequence after answer legal (ended e (inr unfinished) is) =
     let carried_is = carried-Stuffs _ _ (Stuffs-stuffed (with_sequence frame sequence)) in
-    let whole = length-whole frame sequence legal in
-    let short = rw carried_is at unfinished in omega arith
+    grind (arith, length-whole)
 
 apart_cut : (bits : List Bool) (first second : Answer) (h : Inside bits first) (k : Behind bits second) → Cut h.before h.after (stuffed (with_sequence k.frame k.sequence)) k.after → ⊥
 apart_cut bits first second h k (same e f) =
@@ -173,8 +144,7 @@ apart_cut bits first second h k (same e f) =
     stop_in_stuffed k.frame k.sequence h.after first k.legal (subst P e h.stop)
 apart_cut bits first second h k (earlier bit between e f) =
     stop_is_wrong h.before h.after (between ++ k.after) between bit first h.stop f (subst IsBegun e (IsBegun-stuffed k.frame k.sequence k.legal))
-apart_cut bits first second h k (later bit between e f) =
-    stuffed_is_all k.frame k.sequence between bit k.legal (subst IsBegun e h.begun)
+apart_cut bits first second h k (later bit between e f) = grind (arith, stuffed_is_all)
 
 -- no bits have an answer inside the stuffed part and one behind it
 apart : (bits : List Bool) (first second : Answer) → Inside bits first → Behind bits second → ⊥
@@ -210,14 +180,9 @@ behind_one bits first second h k = behind_cut bits first second h k (cut _ h.aft
 
 -- ---- each answer is inside the stuffed part or behind it
 
--- a bit and its opposite are not equal, and a bit is itself
-beq_not : (bit : Bool) → beq bit (not bit) ≡ false
-beq_not true = refl
-beq_not false = refl
-
+-- a bit is itself
 beq_self : (bit : Bool) → beq bit bit ≡ true
-beq_self true = refl
-beq_self false = refl
+beq_self bit = grind arith
 
 -- bits that are due are gone over
 ending-append : (frame : DataFrame) (place : ℕ) (before after due : List Bool) → ending frame place (before ++ after) (before ++ due) ≡ ending frame (place + length before) after due
@@ -248,22 +213,15 @@ trailed_behind bits frame after answer legal split is = record {
 
 pub placed_answer : (bits : List Bool) (answer : Answer) → Reads bits answer → Inside bits answer ⊎ Behind bits answer
 unfolding wire_of ending
-placed_answer bits (Ok frame) h =
-    inr (trailed_behind bits frame trailer (Ok frame) h.0 h.1 (sym (ending-append frame (length (stuffed (plain frame))) trailer [] [])))
+placed_answer bits (Ok frame) h = grind (arith, trailed_behind, ending-append)
 placed_answer bits (Err (Stuff place)) h =
     inl (record { before = h.before; after = h.bit ∷ h.after; split = h.split; begun = h.begun; stop = sixth h.bit h.after refl h.sixth (ap (λ n. Err (Stuff n)) h.here) })
 placed_answer bits (Err (Form place)) (inl h) =
     inl (record { before = h.before; after = h.bit ∷ h.after; split = h.split; begun = h.begun; stop = misplaced h.bit h.after refl h.no_stuff_place h.unfinished h.misplaced (ap (λ n. Err (Form n)) h.here) })
-placed_answer bits (Err (Form place)) (inr h) =
-    let place' = length (stuffed (plain h.frame)) in
-    let is : ending h.frame place' (h.before ++ h.bit ∷ h.after) trailer ≡ Err (Form place) =
-    ap (λ due. ending h.frame place' (h.before ++ h.bit ∷ h.after) due) h.wrong ∙ ending-append h.frame place' h.before (h.bit ∷ h.after) (not h.bit ∷ h.due)
-    ∙ rw (beq_not h.bit) (ap (λ n. Err (Form n)) (sym h.here)) in
-    inr (trailed_behind bits h.frame (h.before ++ h.bit ∷ h.after) _ h.legal h.split (sym is))
+placed_answer bits (Err (Form place)) (inr h) = grind (arith, ending, ending-append, trailed_behind)
 placed_answer bits (Err (Crc sent computed)) h =
     inr (record { frame = h.frame; sequence = sent; after = h.after; legal = h.legal; narrow = h.narrow; split = h.split; end = crc computed h.remainder h.wrong refl })
-placed_answer bits (Err (Short have)) (e, inl h) =
-    inl (record { before = bits; after = []; split = sym (append-nil bits); begun = h.begun; stop = ended refl h.goes_on (ap (λ n. Err (Short n)) e) })
+placed_answer bits (Err (Short have)) (e, inl h) = grind (arith, append-nil)
 placed_answer bits (Err (Short have)) (e, inr h) =
     let place' = length (stuffed (plain h.frame)) in
     let long : have ≡ place' + length h.before = e ∙ ap length h.split ∙ length-append (stuffed (plain h.frame)) h.before in
@@ -271,12 +229,7 @@ placed_answer bits (Err (Short have)) (e, inr h) =
     ap (λ due. ending h.frame place' h.before due) h.missing ∙ ap (λ after. ending h.frame place' after (h.before ++ h.bit ∷ h.due)) (sym (append-nil h.before))
     ∙ ending-append h.frame place' h.before [] (h.bit ∷ h.due) ∙ ap (λ n. Err (Short n)) (sym long) in
     inr (trailed_behind bits h.frame h.before _ h.legal h.split (sym is))
-placed_answer bits (Err (Tail place)) h =
-    let place' = length (stuffed (plain h.frame)) in
-    let long : place ≡ place' + 13 = h.here ∙ length-wire h.frame in
-    let is : ending h.frame place' (trailer ++ h.bit ∷ h.after) trailer ≡ Err (Tail place) =
-    ending-append h.frame place' trailer (h.bit ∷ h.after) [] ∙ ap (λ n. Err (Tail n)) (sym long) in
-    inr (trailed_behind bits h.frame (trailer ++ h.bit ∷ h.after) _ h.legal (h.split ∙ append_assoc (stuffed (plain h.frame)) trailer _) (sym is))
+placed_answer bits (Err (Tail place)) h = grind (arith, length-wire, ending, ending-append, trailed_behind, append_assoc)
 placed_answer bits (Err Memory) h = absurd h
 
 either_one : (bits : List Bool) (first second : Answer) → Inside bits first ⊎ Behind bits first → Inside bits second ⊎ Behind bits second → first ≡ second

@@ -1,5 +1,6 @@
 -- The plain part of a frame: its length, its fields at their places, and that it is of one frame.
 use Rattle.std.proofs.Common.{◌≡◌, ℕ, ◌+◌, ◌*◌, ◌/◌, ◌%◌, ◌^◌, ◌<◌, ◌≤◌, Bool, true, false, List, [], ◌∷◌, ◌++◌, length, take, drop, append_assoc, refl, sym, ap, ap₂, ◌∙◌, arith, lit<}
+use Rattle.std.proofs.lemmas.Grind.{common_steps}
 use Rattle.std.specs.List.{flat_map, All}
 use Rattle.std.proofs.lemmas.Grind.{flat_map-append}
 use Rattle.std.proofs.lemmas.List.{append-nil, append_cancel_left, append_cancel_right, length-append, length-drop, take_at, drop_at}
@@ -20,7 +21,6 @@ same_parts [] (y ∷ ys) vs ws h e = absurd (omega arith)
 same_parts (x ∷ xs) [] vs ws h e = absurd (omega arith)
 same_parts (x ∷ xs) (y ∷ ys) vs ws h e =
     let tails : xs ++ vs ≡ ys ++ ws = cc in
-    let heads : x ≡ y = cc in
     let rest = same_parts xs ys vs ws (omega arith) tails in
     (let parts = rest.0 in cc, rest.1)
 
@@ -57,8 +57,7 @@ length-data bytes = length-bits_of bytes
 
 -- one byte more
 pub data-more : (bytes : List ℕ) (byte : ℕ) → flat_map (bits 8) (bytes ++ byte ∷ []) ≡ flat_map (bits 8) bytes ++ bits 8 byte
-data-more bytes byte =
-    flat_map-append (bits 8) bytes (byte ∷ []) ∙ ap (λ field. flat_map (bits 8) bytes ++ field) (append-nil (bits 8 byte))
+data-more bytes byte = grind (arith, flat_map-append, append-nil)
 
 pub length-covered : (frame : DataFrame) → length (covered frame) ≡ 19 + 8 * length frame.bytes
 unfolding covered
@@ -118,10 +117,6 @@ with_sequence_one frame frame' sequence sequence' legal legal' h h' e =
     let data_bits' = flat_map (bits 8) frame'.bytes in
     let regrouped : header id n ++ (data_bits ++ bits 15 sequence) ≡ header id' n' ++ (data_bits' ++ bits 15 sequence') = sym (append_assoc (header id n) data_bits _) ∙ e ∙ append_assoc (header id' n') data_bits' _ in
     let parts = same_parts (header id n) (header id' n') _ _ (length-header id n ∙ sym (length-header id' n')) regrouped in
-    let in_range : id ≤ 0x7EF = legal.identifier in
-    let in_range' : id' ≤ 0x7EF = legal'.identifier in
-    let few : n ≤ 8 = legal.few in
-    let few' : n' ≤ 8 = legal'.few in
     let heads = header_one id id' n n' (omega arith) (omega arith) (omega arith) (omega arith) parts.0 in
     let rests = data_one frame.bytes frame'.bytes (bits 15 sequence) (bits 15 sequence') legal.bytes legal'.bytes heads.1 parts.1 in
     let ids : id ≡ id' = heads.0 in
@@ -151,8 +146,7 @@ three_dominant (a ∷ b ∷ []) back rest bit h e = cc
 three_dominant (a ∷ b ∷ c ∷ front) back rest bit h e = absurd (omega arith)
 
 first_dominant : (front back rest : List Bool) (bit : Bool) → length front ≡ 0 → false ∷ rest ≡ front ++ bit ∷ back → bit ≡ false
-first_dominant [] back rest bit h e = cc
-first_dominant (a ∷ front) back rest bit h e = absurd (omega arith)
+first_dominant front back rest bit h e = grind (arith, common_steps)
 
 recessive_not : (bit : Bool) → bit ≡ false → bit ≡ true → ⊥
 recessive_not bit e k = cc
@@ -174,13 +168,11 @@ seven_first id n rest =
 -- a header and what is behind it has nothing misplaced in the header
 pub placed_header : (id n : ℕ) (rest front back : List Bool) (bit : Bool) → id ≤ 0x7EF → n ≤ 8 → header id n ++ rest ≡ front ++ bit ∷ back → ¬ IsMisplaced front bit
 unfolding header
-placed_header id n rest front back bit in_range few e (start none recessive) =
-    recessive_not bit (first_dominant front back _ bit none e) recessive
+placed_header id n rest front back bit in_range few e (start none recessive) = grind (arith, recessive_not, first_dominant)
 placed_header id n rest front back bit in_range few e (identifier here all) =
     let seven : drop 1 (take 8 (header id n ++ rest)) ≡ drop 1 (front ++ bit ∷ []) = ap (drop 1) (begins _ front back bit 8 e (omega arith)) in
     let value : number (bits 7 (id / 16)) ≡ 127 = ap number (sym (seven_first id n rest) ∙ seven ∙ all) in
-    let is : number (bits 7 (id / 16)) ≡ id / 16 = number-bits 7 (id / 16) (omega arith) in
-    omega arith
+    grind (arith, number-bits)
 placed_header id n rest front back bit in_range few e (reserved least most recessive) =
     let begun : List Bool = (false ∷ []) ++ bits 11 id in
     let long : length begun ≡ 12 = omega (arith, length-bits 11 id) in
@@ -190,29 +182,19 @@ placed_header id n rest front back bit in_range few e (reserved least most reces
 placed_header id n rest front back bit in_range few e (code here above) =
     let nineteen : header id n ≡ front ++ bit ∷ [] = sym (take_at (header id n) rest 19 (length-header id n)) ∙ begins _ front back bit 19 e (omega arith) in
     let four : bits 4 n ≡ drop 15 (front ++ bit ∷ []) = sym (drop_at (before_code id) (bits 4 n) 15 (length-before_code id)) ∙ ap (drop 15) nineteen in
-    let is : n ≡ number (drop 15 (front ++ bit ∷ [])) = sym (number-bits 4 n (omega arith)) ∙ ap number four in
-    omega arith
+    grind (arith, number-bits)
 
 -- the plain part of a frame, with any sequence, has no misplaced bit
 pub IsPlaced-with_sequence : (frame : DataFrame) (sequence : ℕ) → IsFrame frame → IsPlaced (with_sequence frame sequence)
 unfolding with_sequence covered
-IsPlaced-with_sequence frame sequence legal =
-    λ front back bit e. placed_header frame.identifier (length frame.bytes) (flat_map (bits 8) frame.bytes ++ bits 15 sequence) front back bit legal.identifier legal.few
-    (sym (append_assoc (header frame.identifier (length frame.bytes)) (flat_map (bits 8) frame.bytes) (bits 15 sequence)) ∙ e)
+IsPlaced-with_sequence frame sequence legal = grind (arith, placed_header, append_assoc)
 
 -- the length of a frame's plain part is that which its data length code gives
 pub length-whole : (frame : DataFrame) (sequence : ℕ) → IsFrame frame → length (with_sequence frame sequence) ≡ plain_length (with_sequence frame sequence)
 unfolding with_sequence covered
-length-whole frame sequence legal =
-    let few : length frame.bytes ≤ 8 = legal.few in
-    let parts : with_sequence frame sequence ≡ header frame.identifier (length frame.bytes) ++ (flat_map (bits 8) frame.bytes ++ bits 15 sequence) =
-    append_assoc (header frame.identifier (length frame.bytes)) (flat_map (bits 8) frame.bytes) (bits 15 sequence) in
-    length-with_sequence frame sequence ∙ sym (ap plain_length parts ∙ plain_length-code frame.identifier (length frame.bytes) _ (omega arith))
+length-whole frame sequence legal = grind (arith, append_assoc, length-with_sequence, plain_length-code)
 
 -- and it stays so, whatever comes behind it
 pub plain_length-more : (frame : DataFrame) (sequence : ℕ) (more : List Bool) → IsFrame frame → plain_length (with_sequence frame sequence ++ more) ≡ length (with_sequence frame sequence)
 unfolding with_sequence covered
-plain_length-more frame sequence more legal =
-    let few : length frame.bytes ≤ 8 = legal.few in
-    let parts : with_sequence frame sequence ++ more ≡ header frame.identifier (length frame.bytes) ++ (flat_map (bits 8) frame.bytes ++ (bits 15 sequence ++ more)) = simp append_assoc in
-    ap plain_length parts ∙ plain_length-code frame.identifier (length frame.bytes) _ (omega arith) ∙ sym (length-with_sequence frame sequence)
+plain_length-more frame sequence more legal = grind (arith, append_assoc, plain_length-code, length-with_sequence)

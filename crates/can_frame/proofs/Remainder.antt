@@ -1,47 +1,38 @@
 -- Division by the generator: what it leaves, and that it leaves one thing.
-use Rattle.std.proofs.Common.{◌≡◌, ℕ, zero, suc, ◌+◌, ◌-◌, ◌*◌, ◌/◌, ◌^◌, ◌<◌, ◌≤◌, ◌⊎◌, Bool, true, false, not, cond, ltb, List, [], ◌∷◌, length, fold, bit_xor, zero-add, refl, subst, sym, ap, ◌∙◌, inl, inr, arith, lit<}
+use Rattle.std.proofs.Common.{◌≡◌, ℕ, zero, suc, ◌+◌, ◌-◌, ◌*◌, ◌/◌, ◌^◌, ◌<◌, ◌≤◌, ◌⊎◌, Bool, true, false, not, cond, ltb, List, [], ◌∷◌, length, fold, bit_xor, zero-add, refl, subst, sym, ap, ◌∙◌, inl, arith, lit<}
+use Rattle.std.proofs.lemmas.Grind.{common_steps}
 use Rattle.std.proofs.Math.Nat.{mul_comm, pow-suc}
 use Rattle.std.proofs.lemmas.Bool.{ltb-true, ltb-false}
 use Rattle.std.proofs.lemmas.Nat.{pow-add, xor_comm, xor_lt, xor_block}
-use lib.Bits.{xor_assoc, xor_self, xor_zero_l, xor_zero_r, xor_shifted, xor_shr}
+use lib.Bits.{xor_assoc, xor_self, xor_zero_r, xor_shifted, xor_shr}
 use Rattle.can_frame.specs.Number.{number}
 use Rattle.can_frame.proofs.Fields.{bit_number}
 use Rattle.can_frame.specs.Crc.{generator, product, IsRemainder, IsSequence, power, sequence_of}
 
 -- the same term on both sides of a sum goes away
 xor_twice : (a b c : ℕ) → bit_xor (bit_xor c a) (bit_xor b c) ≡ bit_xor a b
-xor_twice a b c =
-    ap (λ x. bit_xor x (bit_xor b c)) (xor_comm c a) ∙ xor_assoc a c (bit_xor b c)
-    ∙ ap (λ x. bit_xor a (bit_xor c x)) (xor_comm b c)
-    ∙ ap (bit_xor a) (sym (xor_assoc c c b) ∙ ap (λ x. bit_xor x b) (xor_self c) ∙ xor_zero_l b)
+xor_twice a b c = grind (arith, common_steps, bit_xor, xor_comm)
 
 -- a sum times x is the sum of the products with x
 double-xor : (a b : ℕ) → 2 * bit_xor a b ≡ bit_xor (2 * a) (2 * b)
 double-xor a b =
     let block : bit_xor (a * 2 + 0) (b * 2 + 0) ≡ bit_xor a b * 2 + bit_xor 0 0 = xor_block 1 a b 0 0 (lit< tt) (lit< tt) in
-    let a_is : a * 2 + 0 ≡ 2 * a = omega arith in
-    let b_is : b * 2 + 0 ≡ 2 * b = omega arith in
-    let sum_is : 2 * bit_xor a b ≡ bit_xor a b * 2 + bit_xor 0 0 = omega arith in
-    sum_is ∙ sym block ∙ ap (λ x. bit_xor x (b * 2 + 0)) a_is ∙ ap (bit_xor (2 * a)) b_is
+    grind (arith, bit_xor)
 
 -- two numbers with the same highest bit, their sum without it
 top-xor : (n : ℕ) → 2 ^ 15 ≤ n → n < 2 ^ 16 → bit_xor n generator < 2 ^ 15
 top-xor n high low =
-    let n_is : 1 * 2 ^ 15 + (n - 2 ^ 15) ≡ n = omega arith in
     let rest : n - 2 ^ 15 < 2 ^ 15 = omega arith in
     let block : bit_xor (1 * 2 ^ 15 + (n - 2 ^ 15)) generator ≡ bit_xor 1 1 * 2 ^ 15 + bit_xor (n - 2 ^ 15) 0x4599 = xor_block 15 1 1 (n - 2 ^ 15) 0x4599 rest (lit< tt) in
     let below : bit_xor (n - 2 ^ 15) 0x4599 < 2 ^ 15 = xor_lt 15 (n - 2 ^ 15) 0x4599 rest (lit< tt) in
-    let is : bit_xor n generator ≡ bit_xor 1 1 * 2 ^ 15 + bit_xor (n - 2 ^ 15) 0x4599 = ap (λ x. bit_xor x generator) (sym n_is) ∙ block in
-    omega arith
+    grind (arith, bit_xor)
 
 -- a dividend times x leaves twice the remainder, where its degree is below 15
 IsRemainder-low : (d r n : ℕ) → IsRemainder d r → n ≡ 2 * r → n < 2 ^ 15 → IsRemainder (2 * d) n
 unfolding product
 IsRemainder-low d r n h is low = record {
   quotient = false ∷ h.quotient;
-  division =
-      ap (λ x. 2 * x) h.division ∙ double-xor (product h.quotient generator) r
-      ∙ ap (bit_xor (2 * product h.quotient generator)) (sym is);
+  division = grind (arith, double-xor, bit_xor);
   below = low;
 }
 
@@ -76,16 +67,11 @@ part c p = cond c p 0
 
 part-differ : (b c : Bool) (p : ℕ) → part (differ b c) p ≡ bit_xor (part b p) (part c p)
 unfolding differ
-part-differ true true p = sym (xor_self p)
-part-differ true false p = sym (xor_zero_r p)
-part-differ false c p = refl
+part-differ b c p = grind (arith, common_steps)
 
 -- the sum of two sums, its inner terms exchanged
 xor_exchange : (a b c d : ℕ) → bit_xor (bit_xor a b) (bit_xor c d) ≡ bit_xor (bit_xor a c) (bit_xor b d)
-xor_exchange a b c d =
-    xor_assoc a b (bit_xor c d)
-    ∙ ap (bit_xor a) (sym (xor_assoc b c d) ∙ ap (λ x. bit_xor x d) (xor_comm b c) ∙ xor_assoc c b d)
-    ∙ sym (xor_assoc a c (bit_xor b d))
+xor_exchange a b c d = grind (arith, common_steps, bit_xor, xor_comm)
 
 -- the product with a sum of quotients is the sum of the products
 product-both : (p q : List Bool) (g : ℕ) → product (both p q) g ≡ bit_xor (product p g) (product q g)
@@ -102,11 +88,7 @@ product-both (b ∷ p) (c ∷ q) g =
 pub IsRemainder-xor : (d e r s : ℕ) → IsRemainder d r → IsRemainder e s → IsRemainder (bit_xor d e) (bit_xor r s)
 IsRemainder-xor d e r s h k = record {
   quotient = both h.quotient k.quotient;
-  division =
-      ap (λ x. bit_xor x e) h.division
-      ∙ ap (bit_xor (bit_xor (product h.quotient generator) r)) k.division
-      ∙ xor_exchange (product h.quotient generator) r (product k.quotient generator) s
-      ∙ ap (λ x. bit_xor x (bit_xor r s)) (sym (product-both h.quotient k.quotient generator));
+  division = grind (arith, bit_xor, xor_exchange, product-both);
   below = xor_lt 15 r s h.below k.below;
 }
 
@@ -125,12 +107,7 @@ xor-above a b low high =
 
 -- one more coefficient keeps a product nothing or of such a degree
 high_more : (c : Bool) (p : ℕ) → (p ≡ 0) ⊎ (2 ^ 15 ≤ p) → (bit_xor (part c generator) (2 * p) ≡ 0) ⊎ (2 ^ 15 ≤ bit_xor (part c generator) (2 * p))
-high_more true p (inl none) =
-    inr (let is : bit_xor generator (2 * p) ≡ generator = ap (λ x. bit_xor generator (2 * x)) none ∙ xor_zero_r generator in omega arith)
-high_more true p (inr high) =
-    inr (let above : 2 ^ 16 ≤ bit_xor generator (2 * p) = xor-above generator (2 * p) (lit< tt) (omega arith) in omega arith)
-high_more false p (inl none) = inl (omega arith)
-high_more false p (inr high) = inr (omega arith)
+high_more c p h0 = grind (arith, bit_xor, xor-above, lit<)
 
 -- a product with the generator is nothing, or has a degree of at least 15
 product-high : (q : List Bool) → (product q generator ≡ 0) ⊎ (2 ^ 15 ≤ product q generator)
@@ -143,15 +120,12 @@ pub IsRemainder-one : (d r s : ℕ) → IsRemainder d r → IsRemainder d s → 
 IsRemainder-one d r s h k =
     let both_sum : IsRemainder (bit_xor d d) (bit_xor r s) = IsRemainder-xor d d r s h k in
     let nothing : bit_xor (product both_sum.quotient generator) (bit_xor r s) ≡ 0 = sym both_sum.division ∙ xor_self d in
-    let same : product both_sum.quotient generator ≡ bit_xor r s = xor-zero _ _ nothing in
-    let below : bit_xor r s < 2 ^ 15 = both_sum.below in
-    xor-zero r s (elim (product-high both_sum.quotient) [ inl none ↦ sym same ∙ none | inr high ↦ absurd (omega arith) ])
+    grind (arith, bit_xor, xor-zero, product-high)
 
 -- ---- and it is there
 
 pub power_step : (d r : ℕ) (b : Bool) → IsRemainder d r → ltb (2 * r) (2 ^ 15) ≡ b → IsRemainder (2 * d) (cond b (2 * r) (bit_xor (2 * r) generator))
-power_step d r true h is = IsRemainder-low d r (2 * r) h refl (ltb-true (2 * r) (2 ^ 15) is)
-power_step d r false h is = IsRemainder-high d r (2 * r) h refl (ltb-false (2 * r) (2 ^ 15) is)
+power_step d r b h is = grind (arith, IsRemainder-low, ltb-true, IsRemainder-high, ltb-false)
 
 -- nothing leaves nothing
 pub IsRemainder-zero : IsRemainder 0 0
@@ -181,8 +155,7 @@ number-cons bit field =
     ap (λ from. fold (λ value bit. 2 * value + bit_number bit) from field) (zero-add (bit_number bit)) ∙ number-from (bit_number bit) field
 
 below_twice : (bit : Bool) (n p : ℕ) → n < p → bit_number bit * p + n < p * 2
-below_twice true n p h = omega arith
-below_twice false n p h = omega arith
+below_twice bit n p h = grind arith
 
 -- a field of n bits is below 2^n
 pub number-below : (field : List Bool) → number field < 2 ^ length field
@@ -199,14 +172,11 @@ highest true n k below =
     let power_is : 2 ^ (15 + k) ≡ 2 ^ 15 * 2 ^ k = pow-add 2 15 k in
     let small : n * 2 ^ 15 < 2 ^ (15 + k) = omega arith in
     let apart : bit_xor (1 * 2 ^ (15 + k)) (n * 2 ^ 15) ≡ 1 * 2 ^ (15 + k) + n * 2 ^ 15 = xor_shifted 1 (15 + k) (n * 2 ^ 15) small in
-    let one : 1 * 2 ^ (15 + k) ≡ 2 ^ (15 + k) = omega arith in
-    let sum : (1 * 2 ^ k + n) * 2 ^ 15 ≡ 1 * 2 ^ (15 + k) + n * 2 ^ 15 = omega arith in
-    sum ∙ sym apart ∙ ap (λ x. bit_xor x (n * 2 ^ 15)) one
+    grind (arith, bit_xor)
 highest false n k below = omega arith
 
 IsRemainder-part : (bit : Bool) (k : ℕ) → IsRemainder (part bit (2 ^ k)) (part bit (power k))
-IsRemainder-part true k = IsRemainder-power k
-IsRemainder-part false k = IsRemainder-zero
+IsRemainder-part bit k = grind (arith, IsRemainder-power, IsRemainder-zero)
 
 -- the CRC sequence of `sequence_of` is the one that the definition gives
 pub IsSequence-sequence_of : (covered : List Bool) → IsSequence covered (sequence_of covered)

@@ -1,5 +1,6 @@
 -- The steps of a reader of wire bits, over lists.
-use Rattle.std.proofs.Common.{◌≡◌, ℕ, zero, suc, ◌+◌, ◌*◌, ◌^◌, ◌<◌, ◌≤◌, Bool, true, false, List, [], ◌∷◌, ◌++◌, length, take, drop, reverse, Err, append_assoc, refl, sym, ap, subst, ◌∙◌, inl, inr, arith, lit<}
+use Rattle.std.proofs.Common.{◌≡◌, ℕ, zero, suc, ◌+◌, ◌*◌, ◌^◌, ◌<◌, ◌≤◌, Bool, true, List, [], ◌∷◌, ◌++◌, length, take, drop, reverse, Err, append_assoc, refl, sym, ap, subst, ◌∙◌, inl, inr, arith, lit<}
+use Rattle.std.proofs.lemmas.Grind.{common_steps}
 use Rattle.std.proofs.lemmas.List.{append-nil, length-append}
 use Rattle.std.proofs.Math.Nat.{pow-suc}
 use mir.Val.{bool_byte}
@@ -7,7 +8,7 @@ use Rattle.stuff_bound.specs.Stuffing.{run, HasNoSix}
 use Rattle.stuff_bound.proofs.Shared.{run-more}
 use Rattle.can_frame.specs.declared.wire_fault.WireFault.TheVariants.{Form, Short}
 use Rattle.stuff_bound.specs.Fields.{bits}
-use Rattle.can_frame.specs.Reading.{carried, plain_length, IsMisplaced, IsPlaced, IsBegun, GoesOn, EndsInside, Reads}
+use Rattle.can_frame.specs.Reading.{carried, plain_length, IsMisplaced, IsPlaced, IsBegun, GoesOn, Reads}
 use Rattle.can_frame.specs.Progress.{Progress, all_bits, Expects, Went, EndsPlain}
 use Rattle.can_frame.proofs.Carried.{reverse_more, carried-plain}
 use Rattle.can_frame.proofs.Fields.{bit_number, bits_more}
@@ -26,13 +27,7 @@ next_bit [] (suc place) bit e = absurd (cc)
 next_bit (x ∷ bits) zero bit e = record { within = omega arith; read = (let same : x ≡ bit = cc in ap (λ b. b ∷ []) same); rest = refl }
 next_bit (x ∷ bits) (suc place) bit e =
     let more = next_bit bits place bit e in
-    let next : suc place + 1 ≡ suc (place + 1) = omega arith in
-    let below : place < length bits = more.within in
-    record {
-      within = omega arith;
-      read = rw next (ap (λ sent. x ∷ sent) more.read);
-      rest = rw next more.rest;
-    }
+    grind arith
 
 -- ---- one bit, from one progress to the next
 
@@ -42,11 +37,7 @@ pub record Stepped (old new : Progress) (bit : Bool) : Type 0 where
   pub is : new ≡ record { read = old.read ++ bit ∷ []; rest = drop 1 old.rest }
 
 all_stepped : (old new : Progress) (bit : Bool) → Stepped old new bit → all_bits new ≡ all_bits old
-all_stepped old new bit h =
-    ap all_bits h.is ∙ append_assoc old.read (bit ∷ []) (drop 1 old.rest) ∙ ap (λ rest. old.read ++ rest) (sym h.next)
-
-read_stepped : (old new : Progress) (bit : Bool) → Stepped old new bit → new.read ≡ old.read ++ bit ∷ []
-read_stepped old new bit h = ap (λ at. at.read) h.is
+all_stepped old new bit h = grind (arith, append_assoc)
 
 -- nothing was read
 pub went_none : (at : Progress) → HasNoSix (reverse at.read) → Went at at []
@@ -57,21 +48,11 @@ no_six_more read bit below h = subst HasNoSix (sym (reverse_more read bit)) (bel
 
 -- a bit of the plain part was read
 pub went_plain : (old new : Progress) (bit : Bool) → Stepped old new bit → run (reverse old.read) < 5 → HasNoSix (reverse old.read) → Went old new (bit ∷ [])
-went_plain old new bit h short no_six =
-    let is = read_stepped old new bit h in
-    record {
-      all = all_stepped old new bit h;
-      no_six = rw is (no_six_more old.read bit (let more = run-more bit (reverse old.read) in omega arith) no_six);
-      carried = ap carried is ∙ carried-plain old.read bit short;
-    }
+went_plain old new bit h short no_six = grind (arith, all_stepped, no_six_more, run-more, carried-plain)
 
 -- one part of the way after another
 pub went_then : (old mid new : Progress) (field more : List Bool) → Went old mid field → Went mid new more → Went old new (field ++ more)
-went_then old mid new field more h k = record {
-  all = k.all ∙ h.all;
-  no_six = k.no_six;
-  carried = k.carried ∙ ap (λ v. v ++ more) h.carried ∙ append_assoc (carried old.read) field more;
-}
+went_then old mid new field more h k = grind (arith, append_assoc)
 
 -- ---- what is found on the way
 
@@ -81,24 +62,16 @@ Reads_given old mid answer is h = let P : List Bool → Type 0 = λ given. Reads
 
 -- the bits that were read are right so far where these of the plain part are
 pub IsBegun-read : (at : Progress) (v : List Bool) → HasNoSix (reverse at.read) → carried at.read ≡ v → IsPlaced v → length v ≤ plain_length v → IsBegun at.read
-IsBegun-read at v no_six is placed within = record {
-  no_six = no_six;
-  placed = rw is placed;
-  within = rw is within;
-}
+IsBegun-read at v no_six is placed within = grind arith
 
 -- and so are they where more is expected
 pub IsBegun-expected : (at : Progress) (width : ℕ) → 0 < width → Expects at width → IsBegun at.read
 IsBegun-expected at width some h =
-    let unfinished : length (carried at.read ++ []) < plain_length (carried at.read ++ []) = h.unfinished [] some in
     IsBegun-read at (carried at.read ++ []) h.no_six (sym (append-nil (carried at.read))) (h.placed [] some) (omega arith)
 
 -- the bits end where the stuffed part goes on
 pub short_found : (at : Progress) (have : ℕ) → at.rest ≡ [] → have ≡ length (all_bits at) → IsBegun at.read → GoesOn at.read → Reads (all_bits at) (Err (Short have))
-short_found at have none is begun goes_on =
-    let all : all_bits at ≡ at.read = ap (λ rest. at.read ++ rest) none ∙ append-nil at.read in
-    let ends : EndsInside at.read = record { begun = begun; goes_on = goes_on } in
-    (is, inl (subst EndsInside (sym all) ends))
+short_found at have none is begun goes_on = grind (arith, append-nil)
 
 -- the bits end behind a stuff bit, or without one
 pub short_after : (old mid : Progress) (have : ℕ) → Expects old 1 → Went old mid [] → mid.rest ≡ [] → have ≡ length (all_bits mid) → Reads (all_bits old) (Err (Short have))
@@ -112,10 +85,7 @@ short_after old mid have h went none is =
 
 -- two lists with one more bit each that are equal were equal, and the bits are
 push_one : (first second : List Bool) (bit bit' : Bool) → first ++ bit ∷ [] ≡ second ++ bit' ∷ [] → (first ≡ second) × (bit ≡ bit')
-push_one first second bit bit' e =
-    let lengths : length first ≡ length second = omega (arith, ap length e, length-append first (bit ∷ []), length-append second (bit' ∷ [])) in
-    let parts = same_parts first second (bit ∷ []) (bit' ∷ []) lengths e in
-    (parts.0, let tails = parts.1 in cc)
+push_one first second bit bit' e = grind (arith, common_steps, length-append, same_parts)
 
 -- the bit that was read last is misplaced
 pub form_found : (old new : Progress) (field : List Bool) (bit : Bool) (place : ℕ) → Went old new (field ++ bit ∷ []) → EndsPlain new.read
@@ -126,24 +96,10 @@ form_found old new field bit place went last placed unfinished wrong here =
     let both : carried last.before ++ last.bit ∷ [] ≡ v ++ bit ∷ [] =
     sym (carried-plain last.before last.bit last.no_stuff_place) ∙ ap carried (sym last.split) ∙ went.carried ∙ sym (append_assoc (carried old.read) field (bit ∷ [])) in
     let one = push_one (carried last.before) v last.bit bit both in
-    let carried_is : carried last.before ≡ v = one.0 in
-    let bit_is : last.bit ≡ bit = one.1 in
     let sent : reverse new.read ≡ last.bit ∷ reverse last.before = ap reverse last.split ∙ reverse_more last.before last.bit in
-    let no_six : HasNoSix (last.bit ∷ reverse last.before) = subst HasNoSix sent went.no_six in
     let long : length new.read ≡ length last.before + 1 = ap length last.split ∙ length-append last.before (last.bit ∷ []) in
-    let P : Bool → Type 0 = λ b. all_bits old ≡ last.before ++ b ∷ new.rest in
     let at : Progress = record { read = last.before; rest = last.bit ∷ new.rest } in
-    inl (record {
-      before = last.before;
-      bit = bit;
-      after = new.rest;
-      split = subst P bit_is (sym went.all ∙ ap (λ read. read ++ new.rest) last.split ∙ append_assoc last.before (last.bit ∷ []) new.rest);
-      here = omega arith;
-      begun = IsBegun-read at v no_six.1 carried_is placed (omega arith);
-      no_stuff_place = last.no_stuff_place;
-      unfinished = rw carried_is unfinished;
-      misplaced = rw carried_is wrong;
-    })
+    inl (grind (arith, append_assoc, IsBegun-read))
 
 -- a recessive bit was read where none may be
 pub recessive_found : (old new : Progress) (bit : Bool) (place : ℕ) → bit ≡ true → Expects old 1 → Went old new (bit ∷ []) → EndsPlain new.read
@@ -155,36 +111,20 @@ recessive_found old new bit place recessive h went last wrong here =
 -- ---- a field, bit by bit
 
 nothing : (more : List Bool) → length more < 1 → more ≡ []
-nothing [] h = refl
-nothing (bit ∷ more) h = absurd (omega arith)
+nothing more h = grind (arith, common_steps)
 
 bool_byte_is : (bit : Bool) → bool_byte bit ≡ bit_number bit
-bool_byte_is true = refl
-bool_byte_is false = refl
-
-bit_number-small : (bit : Bool) → bit_number bit ≤ 1
-bit_number-small true = omega arith
-bit_number-small false = omega arith
+bool_byte_is bit = grind arith
 
 -- where a field is expected, and some of it was read, another bit is expected
 pub expects_more : (old mid : Progress) (field : List Bool) (width : ℕ) → Expects old width → Went old mid field → length field < width → Expects mid 1
-expects_more old mid field width h went below = record {
-  no_six = went.no_six;
-  placed = λ more short. rw went.carried (rw (nothing more short) (rw append-nil (h.placed field below)));
-  unfinished = λ more short. rw went.carried (rw (nothing more short) (rw append-nil (h.unfinished field below)));
-}
+expects_more old mid field width h went below = grind (arith, nothing, append-nil)
 
 -- the value of a field with one more bit
 pub field_more : (old mid new : Progress) (width value b : ℕ) (bit : Bool) → Went old mid (bits width value) → Went mid new (bit ∷ []) → b ≡ bool_byte bit
     → Went old new (bits (width + 1) (2 * value + b))
-field_more old mid new width value b bit h k is =
-    let number_is : b ≡ bit_number bit = is ∙ bool_byte_is bit in
-    rw number_is (rw (bits_more width value bit) (went_then old mid new (bits width value) (bit ∷ []) h k))
+field_more old mid new width value b bit h k is = grind (arith, bit_number, bool_byte_is, bits_more, went_then)
 
 -- and its bound
 pub value_more : (width value b : ℕ) (bit : Bool) → b ≡ bool_byte bit → value < 2 ^ width → 2 * value + b < 2 ^ (width + 1)
-value_more width value b bit is below =
-    let number_is : b ≡ bit_number bit = is ∙ bool_byte_is bit in
-    let twice : 2 ^ (width + 1) ≡ 2 ^ width * 2 = ap (λ n. 2 ^ n) (let next : width + 1 ≡ suc width = omega arith in next) ∙ pow-suc 2 width in
-    let small = bit_number-small bit in
-    omega arith
+value_more width value b bit is below = grind (arith, common_steps, pow-suc)

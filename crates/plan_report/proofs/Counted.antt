@@ -21,7 +21,7 @@ use Rattle.bus_trace.proofs.Shared.{trigger_count_with-le}
 use Rattle.plan_report.specs.Report.{Sending, delay_of, first_sendings, greatest_of, is_sent, least_of, sendings, sending_at, sent_by, sent_of}
 use Rattle.plan_report.specs.Current.{IsCurrentInstance, IsTheOne}
 use Rattle.plan_report.specs.declared.current.CurrentInstance.{CurrentInstance}
-use Rattle.plan_report.specs.Tally.{AreReleased, AreTallies, CountsOne, IsCounted, IsLastSent, IsNextCount, IsTally, TellsRelease, count_with, is_last, tally_of, tally_with}
+use Rattle.plan_report.specs.Tally.{AreReleased, AreTallies, CountsOne, IsCountedIn, IsLastSent, IsNextCount, IsTally, TellsRelease, count_with, is_last, tally_of, tally_with}
 use Rattle.plan_report.specs.declared.tally.Count.{Count}
 use Rattle.plan_report.specs.declared.tally.Tally.{Tally}
 use Rattle.plan_report.proofs.OneOfSlot.{the-one}
@@ -233,18 +233,18 @@ pub tallies-start : (placed : List Placed) (counts : List (Option Count)) → co
 tallies-start placed counts is = record {
   count = ap length is ∙ length-replicate (length placed) None;
   each = λ place p count here there.
-      let nothing : IsCounted [] p None = record {
+      let nothing : IsCountedIn [] p None = record {
         tally = record { instances = refl; least = refl; greatest = refl; last = λ number. refl; few = omega arith };
         released = tt;
       } in
-      subst (λ o. IsCounted [] p o) (sym (none-at (length placed) place count (ap (λ l. slice_get l place) (sym is) ∙ there))) nothing;
+      subst (λ o. IsCountedIn [] p o) (sym (none-at (length placed) place count (ap (λ l. slice_get l place) (sym is) ∙ there))) nothing;
 }
 
 -- that at the place alone is
 pub tallies-next : (frames : List TimedFrame) (placed : List Placed) (sent : TimedFrame) (counts : List (Option Count)) (at : ℕ) (d count next : Option Count)
     → at < length counts → count ≡ get_or counts at d
     → ((place : ℕ) (p : Placed) → slice_get placed place ≡ Some p → (place ≡ at → ⊥) → sent_by p (trigger_count_with (triggers_in frames) sent) sent ≡ [])
-    → ((p : Placed) → slice_get placed at ≡ Some p → IsCounted frames p count → IsCounted (frames ++ sent ∷ []) p next)
+    → ((p : Placed) → slice_get placed at ≡ Some p → IsCountedIn frames p count → IsCountedIn (frames ++ sent ∷ []) p next)
     → AreTallies frames placed counts → AreTallies (frames ++ sent ∷ []) placed (slice_set counts at next)
 tallies-next frames placed sent counts at d count next within this others step are = record {
   count = length-set counts at next ∙ are.count;
@@ -257,7 +257,7 @@ tallies-next frames placed sent counts at d count next within this others step a
             let there : slice_get placed at ≡ Some p = ap (slice_get placed) (sym here_is) ∙ here in
             let old : slice_get counts at ≡ Some count = slice_get-get_or counts at d within ∙ ap (λ t. Some t) (sym this) in
             let value : next ≡ new = sym (get_or-set_same counts at next new within) ∙ ap (λ n. get_or (slice_set counts at next) n new) (sym here_is) ∙ read in
-            subst (λ t. IsCounted (frames ++ sent ∷ []) p t) value (step p there (are.each at p count there old))
+            subst (λ t. IsCountedIn (frames ++ sent ∷ []) p t) value (step p there (are.each at p count there old))
         | inr elsewhere ↦
             let value : get_or counts place new ≡ new = sym (get_or-set_other counts at place next new elsewhere) ∙ read in
             let old : slice_get counts place ≡ Some new = slice_get-get_or counts place new (omega arith) ∙ ap (λ t. Some t) value in
@@ -360,7 +360,7 @@ module _ (frames : List TimedFrame) (placed : List Placed) (sent : TimedFrame) (
       (λ p here counted.
       let pair : Some found.placed ≡ Some p = sym one.here ∙ here in
       let same : found.placed ≡ p = cc in
-      subst (λ q. IsCounted (frames ++ sent ∷ []) q next) same
+      subst (λ q. IsCountedIn (frames ++ sent ∷ []) q next) same
       (record {
         tally = subst (λ t. IsTally (frames ++ sent ∷ []) found.placed t) (sym is)
             (subst (λ k. IsTally (frames ++ sent ∷ []) found.placed (tally_with (tally_of known) k (cycle - release_of found.placed k))) number

@@ -77,7 +77,7 @@ pub record IsNextCount (p : Placed) (cycle : ℕ) (count next : Count) : Type 0 
   pub released : TellsRelease p next
 
 -- what is counted of an entry is what frames send of it
-pub record IsCounted (frames : List TimedFrame) (p : Placed) (count : Option Count) : Type 0 where
+pub record IsCountedIn (frames : List TimedFrame) (p : Placed) (count : Option Count) : Type 0 where
   pub tally : IsTally frames p (tally_of count)
   pub released : IfSome count (TellsRelease p)
 
@@ -86,7 +86,7 @@ pub record AreTallies (frames : List TimedFrame) (placed : List Placed) (counts 
   pub count : length counts ≡ length placed
   pub each : (place : ℕ) (p : Placed) (count : Option Count)
       → slice_get placed place ≡ Some p → slice_get counts place ≡ Some count
-      → IsCounted frames p count
+      → IsCountedIn frames p count
 
 -- the releases are those of the entries
 abbrev pub AreReleased : List Placed → List (Option Count) → Type 0

@@ -1,5 +1,5 @@
 -- A table whose entries are what a function says, tested entry by entry.
-use Rattle.std.proofs.Common.{◌≡◌, ℕ, zero, suc, ◌+◌, ◌<◌, Bool, true, false, ◌&&◌, List, [], ◌∷◌, length, get_or, refl, ap, ◌∙◌, arith}
+use Rattle.std.proofs.Common.{◌≡◌, ℕ, zero, suc, ◌+◌, ◌<◌, Bool, true, ◌&&◌, List, [], ◌∷◌, length, get_or, arith}
 use Rattle.std.proofs.Math.Dec.{eqb}
 use Rattle.std.proofs.lemmas.Bool.{eqb-true}
 
@@ -10,18 +10,14 @@ are_entries says place (entry ∷ entries) =
     eqb entry (says place) && are_entries says (suc place) entries
 
 first_of : (x y : Bool) → (x && y) ≡ true → x ≡ true
-first_of true y h = refl
-first_of false y h = h
+first_of x y h = grind arith
 
 second_of : (x y : Bool) → (x && y) ≡ true → y ≡ true
-second_of true y h = h
-second_of false y h = absurd (cc)
+second_of x y h = grind arith
 
 entry-from : (says : ℕ → ℕ) (first i place : ℕ) (entries : List ℕ) → are_entries says first entries ≡ true → i < length entries → first + i ≡ place → get_or entries i 0 ≡ says place
 entry-from says first i place [] h inside e = absurd (omega arith)
-entry-from says first zero place (entry ∷ entries) h inside e =
-    let here : first ≡ place = omega arith in
-    eqb-true entry (says first) (first_of _ _ h) ∙ ap says here
+entry-from says first zero place (entry ∷ entries) h inside e = grind (arith, eqb-true, first_of)
 entry-from says first (suc i) place (entry ∷ entries) h inside e =
     entry-from says (suc first) i place entries (second_of _ _ h) (omega arith) (omega arith)
 

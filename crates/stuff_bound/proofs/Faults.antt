@@ -23,8 +23,7 @@ HasNoSix-take wire n no_six =
 
 -- six equal neighbours rule the other answers out
 pub not_with_sixth : (wire : List Bool) (place : ℕ) → HasFirstSixth wire place → HasNoSix (reverse wire) → ⊥
-not_with_sixth wire place six no_six =
-    omega (arith, six.sixth, run-below_six (reverse (take (place + 1) wire)) (HasNoSix-take wire (place + 1) no_six))
+not_with_sixth wire place six no_six = grind (arith, run-below_six, HasNoSix-take)
 
 -- also where the whole list was read
 pub not_once_read : (wire : List Bool) (place n : ℕ) → length wire ≤ n → HasNoSix (reverse (take n wire)) → HasFirstSixth wire place → ⊥
@@ -34,27 +33,14 @@ not_once_read wire place n all no_six six = not_with_sixth wire place six (rw ta
 not_before : (wire : List Bool) (first second : ℕ) → HasFirstSixth wire first → HasFirstSixth wire second → first < second → ⊥
 not_before wire first second h k before =
     let no_six : HasNoSix (reverse (take (first + 1) (take second wire))) = HasNoSix-take (take second wire) (first + 1) k.none_before in
-    let up_to : take (first + 1) (take second wire) ≡ take (first + 1) wire = take-take (first + 1) second wire (omega arith) in
-    omega (arith, h.sixth, run-below_six (reverse (take (first + 1) wire)) (subst (λ seen. HasNoSix (reverse seen)) up_to no_six))
+    grind (arith, take-take, run-below_six)
 
 pub first_sixth_only : (wire : List Bool) (first second : ℕ) → HasFirstSixth wire first → HasFirstSixth wire second → first ≡ second
-first_sixth_only wire first second h k =
-    elim (cases_order first second) [
-      | inl same ↦ same
-      | inr apart ↦
-          elim apart [
-            | inl before ↦ absurd (not_before wire first second h k before)
-            | inr behind ↦ absurd (not_before wire second first k h behind)
-          ]
-    ]
+first_sixth_only wire first second h k = grind (arith, cases_order, not_before)
 
 -- a sixth equal bit where no six were equal before
 pub first_sixth : (wire : List Bool) (place : ℕ) → place < length wire → HasNoSix (reverse (take place wire)) → leb 6 (run (get_or wire place false ∷ reverse (take place wire))) ≡ true → HasFirstSixth wire place
-first_sixth wire place inside none_before six = record {
-  inside = inside;
-  none_before = none_before;
-  sixth = rw (reverse-take_more wire place false inside) (leb-true 6 _ six);
-}
+first_sixth wire place inside none_before six = grind (arith, reverse-take_more, leb-true)
 
 -- six equal neighbours are found, or there are none
 sixth_or_none : (wire : List Bool) (n : ℕ) → n ≤ length wire → HasNoSix (reverse (take n wire)) ⊎ ((place : ℕ) × HasFirstSixth wire place)

@@ -18,10 +18,7 @@ length-bits (suc width) value = length-append (bits width (value / 2)) _ ∙ ap 
 -- a field in two parts
 pub bits-append : (high low x y : ℕ) → y < 2 ^ low → bits (high + low) (x * 2 ^ low + y) ≡ bits high x ++ bits low y
 unfolding bits
-bits-append high zero x y h =
-    let width : high + 0 ≡ high = omega arith in
-    let value : x * 2 ^ 0 + y ≡ x = omega arith in
-    rw (width, value) (sym (append-nil (bits high x)))
+bits-append high zero x y h = grind (arith, append-nil)
 bits-append high (suc low) x y h =
     let twice : 2 ^ suc low ≡ 2 ^ low * 2 = pow-suc 2 low in
     let width : high + suc low ≡ suc (high + low) = omega arith in
@@ -59,18 +56,14 @@ bits-high : (high low byte : ℕ) → high + low ≡ 8 → take high (bits 8 byt
 bits-high high low byte widths =
     let some = pow_pos low in
     let parts : byte ≡ byte / 2 ^ low * 2 ^ low + byte % 2 ^ low = omega arith in
-    let split : bits 8 byte ≡ bits high (byte / 2 ^ low) ++ bits low (byte % 2 ^ low) =
-    ap (λ width. bits width byte) (sym widths) ∙ ap (bits (high + low)) parts ∙ bits-append high low (byte / 2 ^ low) (byte % 2 ^ low) (omega arith) in
-    ap (take high) split ∙ take_at (bits high (byte / 2 ^ low)) (bits low (byte % 2 ^ low)) high (length-bits high _)
+    grind (arith, bits-append, take_at, length-bits)
 
 pub taken-part : (bytes : List ℕ) (count whole rest low : ℕ) → whole < length bytes → count ≡ 8 * whole + rest → rest + low ≡ 8 → take count (bits_of bytes) ≡ bits_of (take whole bytes) ++ bits rest (get_or bytes whole 0 / 2 ^ low)
 taken-part bytes count whole rest low within is widths =
     let byte = get_or bytes whole 0 in
     let after = bits_of (drop (suc whole) bytes) in
     let next : take rest (bits_of (drop whole bytes)) ≡ take rest (bits 8 byte ++ after) = ap (λ left. take rest (bits_of left)) (drop-cons bytes whole 0 within) in
-    let begun : take rest (bits 8 byte ++ after) ≡ take rest (bits 8 byte) = take-append-le rest (bits 8 byte) after (omega (arith, length-bits 8 byte)) in
-    taken bytes count whole rest (omega arith) is
-    ∙ ap (λ field. bits_of (take whole bytes) ++ field) (next ∙ begun ∙ bits-high rest low byte widths)
+    grind (arith, take-append-le, length-bits, taken, bits-high)
 
 -- and they are a number of so many bits
 pub high-below : (high low byte : ℕ) → high + low ≡ 8 → byte < 256 → byte / 2 ^ low < 2 ^ high

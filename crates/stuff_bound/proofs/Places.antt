@@ -1,5 +1,6 @@
 -- The recursion over what was sent and the form by places say the same.
 use Rattle.std.proofs.Common.{◌≡◌, ℕ, zero, suc, ◌+◌, ◌-◌, ◌<◌, ◌≤◌, Bool, true, false, not, cond, leb, List, [], ◌∷◌, ◌++◌, length, take, map, reverse, refl, sym, ap, subst, ◌∙◌, inl, inr, arith, add-one, le_refl}
+use Rattle.std.proofs.lemmas.Grind.{common_steps}
 use Rattle.std.specs.Bool.{beq}
 use Rattle.std.specs.List.{list_all, range_with_len, filter}
 use Rattle.std.proofs.lemmas.Bool.{cases_lt, and_parts, and_from, leb-true, le-leb, false_from_ne_true}
@@ -29,16 +30,7 @@ range_from_each p a (suc n) each =
     (range_from_each p (a + 1) n (λ k low high. each k (omega arith) (omega arith)))
 
 beq-true : (x y : Bool) → beq x y ≡ true → x ≡ y
-beq-true true true same = refl
-beq-true false false same = refl
-beq-true true false same = cc
-beq-true false true same = cc
-
-beq-same : (x y : Bool) → x ≡ y → beq x y ≡ true
-beq-same true true same = refl
-beq-same false false same = refl
-beq-same true false same = cc
-beq-same false true same = cc
+beq-true x y same = grind arith
 
 -- what the test of equal neighbours says
 abbrev pub Equal : List Bool → ℕ → ℕ → Type 0
@@ -51,9 +43,7 @@ equal_from_test wire start count test =
     (leb-true _ _ parts.0, λ k below. beq-true _ _ (each_in_range as_first 0 count parts.1 k (omega arith) (omega arith)))
 
 pub test_from_equal : (wire : List Bool) (start count : ℕ) → start + count ≤ length wire → Equal wire start count → are_equal wire start count ≡ true
-test_from_equal wire start count inside equal =
-    let as_first : ℕ → Bool = λ k. beq (bit_at wire (start + k)) (bit_at wire start) in
-    and_from _ _ (le-leb _ _ inside) (range_from_each as_first 0 count (λ k low high. beq-same _ _ (equal k (omega arith))))
+test_from_equal wire start count inside equal = grind (arith, and_from, le-leb, range_from_each)
 
 -- the run behind `p` bits
 abbrev pub run_at : List Bool → ℕ → ℕ
@@ -71,29 +61,19 @@ run_at-le wire p inside = omega (arith, run-le-length (reverse (take p wire)), l
 
 -- one more bit makes the run longer where it is the one before, and only there
 run-same : (bit last : Bool) (sent : List Bool) → bit ≡ last → run (bit ∷ last ∷ sent) ≡ run (last ∷ sent) + 1
-run-same true true sent same = refl
-run-same false false sent same = refl
-run-same true false sent same = cc
-run-same false true sent same = cc
+run-same bit last sent same = grind arith
 
 run-long : (bit last : Bool) (sent : List Bool) → 2 ≤ run (bit ∷ last ∷ sent) → bit ≡ last
-run-long true true sent long = refl
-run-long false false sent long = refl
-run-long true false sent long = absurd (omega arith)
-run-long false true sent long = absurd (omega arith)
+run-long bit last sent long = grind arith
 
 two_more : (wire : List Bool) (p : ℕ) → p + 1 < length wire → reverse (take (p + 1 + 1) wire) ≡ bit_at wire (p + 1) ∷ bit_at wire p ∷ reverse (take p wire)
-two_more wire p inside =
-    reverse-take_more wire (p + 1) false inside ∙ ap (λ sent. bit_at wire (p + 1) ∷ sent) (reverse-take_more wire p false (omega arith))
+two_more wire p inside = grind (arith, reverse-take_more)
 
 run_at-same : (wire : List Bool) (p : ℕ) → p + 1 < length wire → bit_at wire (p + 1) ≡ bit_at wire p → run_at wire (p + 1 + 1) ≡ run_at wire (p + 1) + 1
-run_at-same wire p inside same =
-    ap run (two_more wire p inside) ∙ run-same (bit_at wire (p + 1)) (bit_at wire p) (reverse (take p wire)) same
-    ∙ ap (λ sent. run sent + 1) (sym (reverse-take_more wire p false (omega arith)))
+run_at-same wire p inside same = grind (arith, two_more, run-same, reverse-take_more)
 
 run_at-long : (wire : List Bool) (p : ℕ) → p + 1 < length wire → 2 ≤ run_at wire (p + 1 + 1) → bit_at wire (p + 1) ≡ bit_at wire p
-run_at-long wire p inside long =
-    run-long (bit_at wire (p + 1)) (bit_at wire p) (reverse (take p wire)) (subst (λ sent. 2 ≤ run sent) (two_more wire p inside) long)
+run_at-long wire p inside long = grind (arith, run-long, two_more)
 
 -- the run that ends at a place is as long as the equal neighbours there, and no longer
 pub run_from_equal : (wire : List Bool) (start count end : ℕ) → end ≡ start + count → end ≤ length wire → Equal wire start count → count ≤ run_at wire end
@@ -115,10 +95,7 @@ equal_from_run wire start (suc (suc n)) end at inside long k below =
     let there : suc (suc n) ≤ run_at wire (start + n + 1 + 1) = rw (← e) long in
     let shorter : suc n ≤ run_at wire (start + n + 1) = omega (arith, run_at-same wire (start + n) (omega arith) last, there) in
     let before : Equal wire start (suc n) = equal_from_run wire start (suc n) (start + n + 1) (omega arith) (omega arith) shorter in
-    elim (cases_lt k (suc n)) [
-      | inl earlier ↦ before k earlier
-      | inr not_earlier ↦ let place : start + k ≡ start + n + 1 = omega arith in rw place (last ∙ before n (omega arith))
-    ]
+    grind (arith, cases_lt)
 
 -- the test of equal neighbours is the length of the run behind them
 pub run_from_test : (wire : List Bool) (start count end : ℕ) → end ≡ start + count → are_equal wire start count ≡ true → (end ≤ length wire) × (count ≤ run_at wire end)
@@ -163,15 +140,7 @@ no_six_from_places wire n inside none =
 -- a place is a stuff place in both forms
 stuff_place_is : (wire : List Bool) (n : ℕ) → n ≤ length wire → at_stuff_place (reverse (take n wire)) ≡ is_stuff_place wire n
 stuff_place_is wire n inside =
-    let Five : Type 0 = 5 ≤ run_at wire n in
-    same_from_decides {P = Five} _ _ (leb-true 5 _, le-leb 5 _) (
-      λ test.
-          let parts = and_parts (leb 5 n) (are_equal wire (n - 5) 5) test in
-          (run_from_test wire (n - 5) 5 n (omega (arith, leb-true 5 n parts.0)) parts.1).1,
-      λ five.
-          let enough : 5 ≤ n = omega (arith, run_at-le wire n inside, five) in
-          and_from _ _ (le-leb 5 n enough) (test_from_run wire (n - 5) 5 n (omega arith) inside five),
-    )
+    grind (arith, common_steps, same_from_decides, leb-true, le-leb, and_parts, leb, run_from_test, run_at-le, and_from, test_from_run)
 
 range-more : (a n last : ℕ) → a + n ≡ last → range_with_len a (suc n) ≡ range_with_len a n ++ last ∷ []
 range-more a zero last at = let same : a ≡ last = omega arith in ap (λ x. x ∷ []) same
@@ -179,10 +148,7 @@ range-more a (suc n) last at = ap (λ rest. a ∷ rest) (range-more (a + 1) n la
 
 -- what is left of one more bit
 left_more : (stuff : Bool) (bit : Bool) (left : List Bool) (f : ℕ → Bool) (places : List ℕ) (n : ℕ) → f n ≡ bit → reverse left ≡ map f places → reverse (cond stuff left (bit ∷ left)) ≡ map f (places ++ cond (not stuff) (n ∷ []) [])
-left_more true bit left f places n same before = before ∙ ap (map f) (sym (append-nil places))
-left_more false bit left f places n same before =
-    reverse-append (bit ∷ []) left ∙ ap (λ front. front ++ bit ∷ []) before ∙ ap (λ last. map f places ++ last ∷ []) (sym same)
-    ∙ sym (map-append f places (n ∷ []))
+left_more stuff bit left f places n same before = grind (arith, common_steps, append-nil, reverse-append, map-append)
 
 pub left_up_to : (wire : List Bool) (n : ℕ) → n ≤ length wire → reverse (without_stuff (reverse (take n wire))) ≡ map (bit_at wire) (filter (λ place. not (is_stuff_place wire place)) (range_with_len 0 n))
 left_up_to wire zero inside = refl
@@ -195,9 +161,7 @@ left_up_to wire (suc n) inside =
     let range : filter is_other (range_with_len 0 (suc n)) ≡ places ++ cond (is_other n) (n ∷ []) [] =
     ap (filter is_other) (range-more 0 n n (omega arith)) ∙ filter-append is_other (range_with_len 0 n) (n ∷ [])
     in
-    ap (λ sent. reverse (without_stuff sent)) more ∙ step
-    ∙ ap (λ stuff. map (bit_at wire) (places ++ cond (not stuff) (n ∷ []) [])) (stuff_place_is wire n (omega arith))
-    ∙ ap (map (bit_at wire)) (sym range)
+    grind (arith, stuff_place_is)
 
 -- the whole list
 taken : (wire : List Bool) → take (length wire) wire ≡ wire
@@ -206,10 +170,7 @@ taken wire = take_all (length wire) wire (le_refl (length wire))
 no_six_places : (wire : List Bool) → HasNoSix (reverse wire) → (start : ℕ) → are_equal wire start 6 ≡ false
 no_six_places wire no_six start =
     let all : HasNoSix (reverse (take (length wire) wire)) = rw taken no_six in
-    false_from_ne_true _ (λ test.
-    let inside = (run_from_test wire start 6 (start + 6) refl test).0 in
-    let none = no_six_up_to wire (length wire) all start inside in
-    cc)
+    grind (arith, false_from_ne_true, run_from_test, no_six_up_to)
 
 no_six_bits : (wire : List Bool) → ((start : ℕ) → are_equal wire start 6 ≡ false) → HasNoSix (reverse wire)
 no_six_bits wire none = rw taken at (no_six_from_places wire (length wire) (le_refl (length wire)) (λ start _. none start))
@@ -224,8 +185,7 @@ last_five wire five =
     (length wire - 5, omega arith, test_from_run wire (length wire - 5) 5 (length wire) (omega arith) (le_refl (length wire)) long)
 
 run_of_last_five : (wire : List Bool) (start : ℕ) → start + 5 ≡ length wire → are_equal wire start 5 ≡ true → 5 ≤ run (reverse wire)
-run_of_last_five wire start end five =
-    omega (arith, (run_from_test wire start 5 (length wire) (sym end) five).1, run_of_all wire)
+run_of_last_five wire start end five = grind (arith, common_steps, run_from_test, run_of_all)
 
 left_of_all : (wire : List Bool) → reverse (without_stuff (reverse wire)) ≡ map (bit_at wire) (other_places wire)
 left_of_all wire = ap (λ bits. reverse (without_stuff (reverse bits))) (sym (taken wire)) ∙ left_up_to wire (length wire) (le_refl (length wire))
@@ -240,11 +200,7 @@ StuffsByPlace_from_Stuffs wire plain h = record {
 pub Stuffs_from_StuffsByPlace : (wire plain : List Bool) → StuffsByPlace wire plain → Stuffs wire plain
 Stuffs_from_StuffsByPlace wire plain h = record {
   no_six = no_six_bits wire h.no_six;
-  ended =
-      elim (cases_lt (run (reverse wire)) 5) [
-        | inl below ↦ below
-        | inr five ↦ let last = last_five wire five in let not_five = h.ended last.0 last.1 in let is_five = last.2 in absurd (cc)
-      ];
+  ended = grind (arith, cases_lt, last_five);
   left = sym (reverse-reverse (without_stuff (reverse wire))) ∙ ap reverse (left_of_all wire ∙ h.left);
 }
 
@@ -252,16 +208,10 @@ pub EndsInFiveByPlace_from_EndsInFive : (wire : List Bool) → EndsInFive wire �
 EndsInFiveByPlace_from_EndsInFive wire h = record { no_six = no_six_places wire h.no_six; five = last_five wire (omega (arith, h.five)) }
 
 pub EndsInFive_from_EndsInFiveByPlace : (wire : List Bool) → EndsInFiveByPlace wire → EndsInFive wire
-EndsInFive_from_EndsInFiveByPlace wire h =
-    let no_six = no_six_bits wire h.no_six in
-    record {
-      no_six = no_six;
-      five = omega (arith, run_of_last_five wire h.five.0 h.five.1 h.five.2, run-below_six (reverse wire) no_six);
-    }
+EndsInFive_from_EndsInFiveByPlace wire h = grind (arith, no_six_bits, run_of_last_five, run-below_six)
 
 pub HasFirstSixthByPlace_from_HasFirstSixth : (wire : List Bool) (place : ℕ) → HasFirstSixth wire place → HasFirstSixthByPlace wire place
 HasFirstSixthByPlace_from_HasFirstSixth wire place h =
-    let inside = h.inside in
     let enough : 5 ≤ place = omega (arith, run_at-le wire (place + 1) (omega arith), h.sixth) in
     record {
       sixth = (place - 5, omega arith, test_from_run wire (place - 5) 6 (place + 1) (omega arith) (omega arith) h.sixth);
@@ -269,11 +219,4 @@ HasFirstSixthByPlace_from_HasFirstSixth wire place h =
     }
 
 pub HasFirstSixth_from_HasFirstSixthByPlace : (wire : List Bool) (place : ℕ) → HasFirstSixthByPlace wire place → HasFirstSixth wire place
-HasFirstSixth_from_HasFirstSixthByPlace wire place h =
-    let at = h.sixth.1 in
-    let said = run_from_test wire h.sixth.0 6 (place + 1) (omega (arith, at)) h.sixth.2 in
-    record {
-      inside = omega (arith, said.0);
-      none_before = no_six_from_places wire place (omega (arith, said.0)) (λ start before. h.first start (omega arith));
-      sixth = said.1;
-    }
+HasFirstSixth_from_HasFirstSixthByPlace wire place h = grind (arith, common_steps, run_from_test, no_six_from_places)

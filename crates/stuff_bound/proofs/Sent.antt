@@ -1,15 +1,13 @@
 -- What a sender is given and what it has sent, bit by bit and eight at once.
-use Rattle.std.proofs.Common.{◌≡◌, ℕ, zero, suc, ◌+◌, ◌*◌, ◌/◌, ◌%◌, ◌^◌, ◌<◌, ◌≤◌, ◌==◌, Bool, true, false, not, cond, List, [], ◌∷◌, ◌++◌, length, reverse, refl, sym, ap, subst, ◌∙◌, inl, inr, arith, lit<}
+use Rattle.std.proofs.Common.{◌≡◌, ℕ, zero, suc, ◌+◌, ◌*◌, ◌/◌, ◌%◌, ◌^◌, ◌<◌, ◌≤◌, ◌==◌, Bool, not, cond, List, ◌∷◌, ◌++◌, length, reverse, refl, sym, ap, subst, arith, lit<}
 use Rattle.std.specs.Prelude.{nat_le}
-use Rattle.std.proofs.Math.Nat.{pow-suc}
 use Rattle.std.proofs.lemmas.Bool.{cases_lt}
 use Rattle.std.proofs.lemmas.Bool.Decides.{nat_tests}
-use Rattle.std.proofs.lemmas.Nat.{pow_pos}
 use Rattle.std.proofs.lemmas.List.{reverse-append, length-reverse}
 use Rattle.stuff_bound.specs.Stuffing.{run, last_bit, with_stuff, stuffed}
 use Rattle.stuff_bound.specs.Fields.{bits}
 use Rattle.stuff_bound.specs.Sending.{sender_state, HasSent, behind_run, bit_step, one_more, steps, step_at}
-use Rattle.stuff_bound.proofs.Stuffs.{run-not, with_opposite-below, with_opposite-full, run-with_stuff-below, length-with_stuff-most, length-stuffed-most}
+use Rattle.stuff_bound.proofs.Stuffs.{run-not, with_opposite-below, run-with_stuff-below, length-stuffed-most}
 
 -- what stands behind one more bit: its state, and a stuff bit where it is the fifth equal one
 behind-below : (count : ℕ) (bit : Bool) → count < 5 → behind_run count bit ≡ count + cond bit 5 0
@@ -18,29 +16,19 @@ behind-below count bit below = grind (arith, nat_tests)
 
 behind-full : (count : ℕ) (bit : Bool) → 5 ≤ count → behind_run count bit ≡ 16 + (1 + cond (not bit) 5 0)
 unfolding behind_run
-behind-full count true full = grind (arith, nat_tests)
-behind-full count false full = grind (arith, nat_tests)
+behind-full count bit full = grind (arith, nat_tests)
 
 -- a state is the run and the bit that was sent last
 last_of_state : (bit : Bool) (count : ℕ) → count < 5 → nat_le 5 (count + cond bit 5 0) ≡ bit
-last_of_state true count below = grind (arith, nat_tests)
-last_of_state false count below = grind (arith, nat_tests)
+last_of_state bit count below = grind (arith, nat_tests)
 
 run_of_state : (bit : Bool) (count : ℕ) → count < 5 → (count + cond bit 5 0) % 5 ≡ count
-run_of_state true count below = omega arith
-run_of_state false count below = omega arith
+run_of_state bit count below = grind arith
 
 -- the step of one bit is what stands behind the run with it
 bit_step-is : (sent : List Bool) (bit : Bool) → run sent < 5 → bit_step (sender_state sent) bit ≡ behind_run (run (bit ∷ sent)) bit
 unfolding bit_step
 bit_step-is sent bit below = rw (last_of_state (last_bit sent) (run sent) below, run_of_state (last_bit sent) (run sent) below) refl
-
-state_small : (bit : Bool) (count : ℕ) → count < 5 → count + cond bit 5 0 < 10
-state_small true count below = omega arith
-state_small false count below = omega arith
-
-pub state_of-small : (sent : List Bool) → run sent < 5 → sender_state sent < 10
-state_of-small sent below = state_small (last_bit sent) (run sent) below
 
 -- a sender was given one bit more
 record Gives (plain : List Bool) (bit : Bool) (step : ℕ) : Type 0 where
@@ -49,27 +37,7 @@ record Gives (plain : List Bool) (bit : Bool) (step : ℕ) : Type 0 where
 
 gives : (plain : List Bool) (bit : Bool) → Gives plain bit (bit_step (sender_state (with_stuff plain)) bit)
 gives plain bit =
-    let sent = with_stuff plain in
-    let few : run sent < 5 = run-with_stuff-below plain in
-    let is = bit_step-is sent bit few in
-    elim (cases_lt (run (bit ∷ sent)) 5) [
-      | inl below ↦
-          let step = is ∙ behind-below (run (bit ∷ sent)) bit below in
-          let wire = with_opposite-below (bit ∷ sent) below in
-          let small = state_small bit (run (bit ∷ sent)) below in
-          record {
-            state = rw (wire, step) (omega arith);
-            longer = rw (wire, step) (omega arith);
-          }
-      | inr full ↦
-          let step = is ∙ behind-full (run (bit ∷ sent)) bit full in
-          let wire = with_opposite-full bit sent full in
-          let small = state_small (not bit) 1 (lit< tt) in
-          record {
-            state = rw (wire, step, run-not) (omega arith);
-            longer = rw (wire, step) (omega arith);
-          }
-    ]
+    grind (arith, run-with_stuff-below, bit_step-is, cases_lt, behind-below, with_opposite-below, behind-full, lit<, run-not)
 
 -- one bit more, behind those that were given so far
 one_more-sent : (plain : List Bool) (bit : Bool) (stuff_bits step : ℕ) → HasSent plain (step % 16) (stuff_bits + step / 16) → HasSent (bit ∷ plain) (one_more step bit % 16) (stuff_bits + one_more step bit / 16)
@@ -78,19 +46,11 @@ one_more-sent plain bit stuff_bits step h =
     let next : ℕ = bit_step (step % 16) bit in
     let is : next ≡ bit_step (sender_state (with_stuff plain)) bit = ap (λ state. bit_step state bit) h.at in
     let more : Gives plain bit next = subst (λ (n : ℕ). Gives plain bit n) (sym is) (gives plain bit) in
-    let low : (step / 16 * 16 + next) % 16 ≡ next % 16 = omega arith in
-    let before = h.longer in
-    let after = more.longer in
-    record { at = low ∙ more.state; longer = omega arith }
+    grind arith
 
 -- nothing was given
 none-sent : (plain : List Bool) (state stuff_bits : ℕ) → HasSent plain state stuff_bits → HasSent plain (state % 16) (stuff_bits + state / 16)
-none-sent plain state stuff_bits h =
-    let small = state_of-small (with_stuff plain) (run-with_stuff-below plain) in
-    let at = h.at in
-    let same : state % 16 ≡ state = omega arith in
-    let none : stuff_bits + state / 16 ≡ stuff_bits = omega arith in
-    rw (same, none) h
+none-sent plain state stuff_bits h = grind (arith, run-with_stuff-below)
 
 steps-last : (width marked state : ℕ) → marked < 2 → steps (suc width) marked state ≡ state
 unfolding steps
@@ -102,8 +62,7 @@ steps-next width marked state more = grind (arith, nat_tests)
 
 bits-newest : (width value : ℕ) (plain : List Bool) → reverse (bits (suc width) value) ++ plain ≡ (value % 2 == 1) ∷ (reverse (bits width (value / 2)) ++ plain)
 unfolding bits
-bits-newest width value plain =
-    ap (λ xs. xs ++ plain) (reverse-append (bits width (value / 2)) ((value % 2 == 1) ∷ []))
+bits-newest width value plain = grind (arith, reverse-append)
 
 -- the bits behind the leading 1 were given
 pub steps-sent : (room width value state stuff_bits : ℕ) (plain : List Bool) → width ≤ room → value < 2 ^ width → HasSent plain state stuff_bits
@@ -114,8 +73,6 @@ steps-sent zero (suc width) value state stuff_bits plain few small h = absurd (o
 steps-sent (suc room) zero value state stuff_bits plain few small h =
     rw (steps-last room (2 ^ 0 + value) state (omega arith)) (none-sent plain state stuff_bits h)
 steps-sent (suc room) (suc width) value state stuff_bits plain few small h =
-    let twice : 2 ^ suc width ≡ 2 ^ width * 2 = pow-suc 2 width in
-    let some : 1 ≤ 2 ^ width = pow_pos width in
     let half : (2 ^ suc width + value) / 2 ≡ 2 ^ width + value / 2 = omega arith in
     let odd : (2 ^ suc width + value) % 2 ≡ value % 2 = omega arith in
     let before = steps-sent room width (value / 2) state stuff_bits plain (omega arith) (omega arith) h in
@@ -134,14 +91,7 @@ entry-sent width value marked state stuff_bits step plain few small in_range mar
 -- ---- each step leads to a state
 
 behind_run-small : (count : ℕ) (bit : Bool) → behind_run count bit % 16 < 10
-behind_run-small count true = elim (cases_lt count 5) [
-  | inl below ↦ rw (behind-below count true below) (omega arith)
-  | inr full ↦ rw (behind-full count true full) (omega arith)
-]
-behind_run-small count false = elim (cases_lt count 5) [
-  | inl below ↦ rw (behind-below count false below) (omega arith)
-  | inr full ↦ rw (behind-full count false full) (omega arith)
-]
+behind_run-small count bit = grind (arith, cases_lt, behind-below, behind-full)
 
 low-small : (higher next : ℕ) → next % 16 < 10 → (higher * 16 + next) % 16 < 10
 low-small higher next small = omega arith
@@ -152,35 +102,15 @@ one_more-small step bit = low-small (step / 16) _ (behind_run-small _ bit)
 
 steps-small : (width marked state : ℕ) → state < 10 → steps width marked state % 16 < 10
 unfolding steps
-steps-small zero marked state small = omega arith
-steps-small (suc width) marked state small = elim (cases_lt marked 2) [
-  | inl last ↦ rw (steps-last width marked state last) (omega arith)
-  | inr more ↦ rw (steps-next width marked state more) (one_more-small (steps width (marked / 2) state) (marked % 2 == 1))
-]
+steps-small width marked state small = grind (arith, cases_lt, steps-last, steps-next, one_more-small)
 
 pub step_at-small : (marked state : ℕ) → state < 10 → step_at (16 * marked + state) % 16 < 10
 unfolding step_at
-step_at-small marked state small =
-    let column : (16 * marked + state) % 16 ≡ state = omega arith in
-    rw column (steps-small 8 ((16 * marked + state) / 16) state small)
-
--- a sender is in one of ten states
-pub HasSent-small : (plain : List Bool) (state stuff_bits : ℕ) → HasSent plain state stuff_bits → state < 10
-HasSent-small plain state stuff_bits h =
-    let at = h.at in
-    omega (arith, state_of-small (with_stuff plain) (run-with_stuff-below plain))
-
--- and has sent a stuff bit for four plain bits at most
-pub HasSent-few : (plain : List Bool) (state stuff_bits : ℕ) → HasSent plain state stuff_bits → 4 * stuff_bits ≤ length plain
-HasSent-few plain state stuff_bits h =
-    let longer = h.longer in
-    omega (arith, length-with_stuff-most plain)
+step_at-small marked state small = grind (arith, steps-small)
 
 -- what it sent is the stuffing of what it was given
 pub HasSent-length : (plain : List Bool) (state stuff_bits : ℕ) → HasSent (reverse plain) state stuff_bits → length (stuffed plain) ≡ length plain + stuff_bits
-HasSent-length plain state stuff_bits h =
-    let longer = h.longer in
-    omega (arith, length-reverse plain, length-reverse (with_stuff (reverse plain)))
+HasSent-length plain state stuff_bits h = grind (arith, length-reverse)
 
 -- so its stuff bits are fewer than a quarter of that
 pub HasSent-fewer : (plain : List Bool) (state stuff_bits : ℕ) → HasSent (reverse plain) state stuff_bits → 0 < length plain → 4 * stuff_bits + 1 ≤ length plain

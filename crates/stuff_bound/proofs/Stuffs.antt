@@ -1,5 +1,6 @@
 -- What a sender puts on the wire is stuffed, and nothing else is, both newest first.
-use Rattle.std.proofs.Common.{◌≡◌, ℕ, ◌+◌, ◌*◌, ◌<◌, ◌≤◌, Bool, true, false, not, List, [], ◌∷◌, length, get_or, take, reverse, refl, sym, ap, subst, ◌∙◌, inl, inr, arith}
+use Rattle.std.proofs.Common.{◌≡◌, ℕ, ◌+◌, ◌*◌, ◌<◌, ◌≤◌, Bool, true, false, not, List, [], ◌∷◌, length, get_or, take, reverse, refl, sym, ap, ◌∙◌, inl, inr, arith}
+use Rattle.std.proofs.lemmas.Grind.{common_steps}
 use Rattle.std.proofs.lemmas.Bool.{cases_lt, cond-true, cond-false}
 use Rattle.std.proofs.lemmas.List.{reverse-reverse, length-reverse, reverse-append, take_more}
 use Rattle.std.proofs.lemmas.Bool.Decides.{nat_tests}
@@ -14,22 +15,14 @@ run_positive bit sent = grind (arith, nat_tests)
 
 -- the opposite bit begins a new run
 pub run-not : (bit : Bool) (sent : List Bool) → run (not bit ∷ bit ∷ sent) ≡ 1
-run-not true sent = refl
-run-not false sent = refl
+run-not bit sent = grind arith
 
 pub with_opposite-below : (sent : List Bool) → run sent < 5 → with_opposite sent ≡ sent
 with_opposite-below sent below = grind (arith, nat_tests)
 
-pub with_opposite-full : (bit : Bool) (sent : List Bool) → 5 ≤ run (bit ∷ sent) → with_opposite (bit ∷ sent) ≡ not bit ∷ bit ∷ sent
-with_opposite-full bit sent full = grind (arith, nat_tests)
-
 -- what holds of one more bit and, where it is the fifth equal one, of it with its opposite holds of what is sent
 pub with_opposite_cases : (P : List Bool → Type 0) (bit : Bool) (sent : List Bool) → (run (bit ∷ sent) < 5 → P (bit ∷ sent)) → (5 ≤ run (bit ∷ sent) → P (not bit ∷ bit ∷ sent)) → P (with_opposite (bit ∷ sent))
-with_opposite_cases P bit sent below full =
-    elim (cases_lt (run (bit ∷ sent)) 5) [
-      | inl h ↦ subst P (sym (with_opposite-below (bit ∷ sent) h)) (below h)
-      | inr h ↦ subst P (sym (with_opposite-full bit sent h)) (full h)
-    ]
+with_opposite_cases P bit sent below full = grind (arith, cases_lt, with_opposite-below)
 
 -- a bit at a stuff place is left out, and any other one stays
 pub without_stuff-full : (bit : Bool) (sent : List Bool) → 5 ≤ run sent → without_stuff (bit ∷ sent) ≡ without_stuff sent
@@ -41,8 +34,7 @@ without_stuff-below bit sent below = grind (arith, nat_tests)
 -- what a sender puts on the wire does not end with five equal bits
 pub run-with_stuff-below : (plain : List Bool) → run (with_stuff plain) < 5
 run-with_stuff-below [] = omega arith
-run-with_stuff-below (bit ∷ plain) =
-    with_opposite_cases (λ sent. run sent < 5) bit (with_stuff plain) (λ h. h) (λ _. rw run-not (omega arith))
+run-with_stuff-below (bit ∷ plain) = grind (arith, with_opposite_cases, run-not)
 
 -- nor has it six equal neighbours
 pub HasNoSix-with_stuff : (plain : List Bool) → HasNoSix (with_stuff plain)
@@ -64,11 +56,7 @@ without_stuff-with_stuff (bit ∷ plain) =
 
 -- a bit behind five equal ones is their opposite, where no six are equal
 opposite_behind_five : (bit : Bool) (sent : List Bool) → 5 ≤ run sent → run (bit ∷ sent) < 6 → bit ∷ sent ≡ with_opposite sent
-opposite_behind_five bit [] full below = absurd (omega arith)
-opposite_behind_five true (true ∷ sent) full below = absurd (omega arith)
-opposite_behind_five false (false ∷ sent) full below = absurd (omega arith)
-opposite_behind_five true (false ∷ sent) full below = sym (with_opposite-full false sent full)
-opposite_behind_five false (true ∷ sent) full below = sym (with_opposite-full true sent full)
+opposite_behind_five bit sent full below = grind arith
 
 run_behind_five : (bit : Bool) (sent : List Bool) → 5 ≤ run sent → run (bit ∷ sent) < 6 → run (bit ∷ sent) < 5
 run_behind_five bit sent full below = grind (arith, nat_tests)
@@ -89,23 +77,17 @@ with_stuff-without_stuff (bit ∷ sent) no_six =
 
 -- no other list stuffs what was sent
 pub with_stuff_only : (wire plain : List Bool) → HasNoSix wire → run wire < 5 → without_stuff wire ≡ plain → wire ≡ with_stuff plain
-with_stuff_only wire plain no_six below left =
-    sym (with_opposite-below wire below) ∙ sym (with_stuff-without_stuff wire no_six) ∙ ap with_stuff left
+with_stuff_only wire plain no_six below left = grind (arith, with_opposite-below, with_stuff-without_stuff)
 
 -- the same in the order of sending
 pub Stuffs_from_sent : (wire plain : List Bool) → reverse wire ≡ with_stuff (reverse plain) → Stuffs wire plain
-Stuffs_from_sent wire plain e = record {
-  no_six = rw e (HasNoSix-with_stuff (reverse plain));
-  ended = rw e (run-with_stuff-below (reverse plain));
-  left = rw e (without_stuff-with_stuff (reverse plain));
-}
+Stuffs_from_sent wire plain e = grind (arith, HasNoSix-with_stuff, run-with_stuff-below, without_stuff-with_stuff)
 
 pub Stuffs-stuffed : (plain : List Bool) → Stuffs (stuffed plain) plain
 Stuffs-stuffed plain = Stuffs_from_sent (stuffed plain) plain (reverse-reverse (with_stuff (reverse plain)))
 
 pub stuffed_only : (wire plain : List Bool) → Stuffs wire plain → wire ≡ stuffed plain
-stuffed_only wire plain h =
-    sym (reverse-reverse wire) ∙ ap reverse (with_stuff_only (reverse wire) (reverse plain) h.no_six h.ended h.left)
+stuffed_only wire plain h = grind (arith, reverse-reverse, with_stuff_only)
 
 pub plain_only : (wire first second : List Bool) → Stuffs wire first → Stuffs wire second → first ≡ second
 plain_only wire first second h k =
@@ -117,9 +99,7 @@ length-with_stuff-most [] = omega arith
 length-with_stuff-most (bit ∷ plain) =
     let sent = with_stuff plain in
     let before = length-with_stuff-most plain in
-    with_opposite_cases (λ wire. 4 * length wire + run wire ≤ 5 * length (bit ∷ plain)) bit sent
-    (λ _. omega (arith, run-more bit sent, before))
-    (λ full. omega (arith, run-more bit sent, before, run-not bit sent))
+    grind (arith, with_opposite_cases, run-more, run-not)
 
 pub length-with_stuff-least : (plain : List Bool) → length plain ≤ length (with_stuff plain)
 length-with_stuff-least [] = omega arith
@@ -129,23 +109,17 @@ length-with_stuff-least (bit ∷ plain) =
 
 pub run-with_stuff_positive : (plain : List Bool) → 0 < length plain → 0 < run (with_stuff plain)
 run-with_stuff_positive [] some = absurd (omega arith)
-run-with_stuff_positive (bit ∷ plain) some =
-    with_opposite_cases (λ wire. 0 < run wire) bit (with_stuff plain) (λ _. run_positive bit (with_stuff plain))
-    (λ _. run_positive (not bit) (bit ∷ with_stuff plain))
+run-with_stuff_positive (bit ∷ plain) some = grind (arith, with_opposite_cases, run_positive)
 
 pub length-stuffed-least : (plain : List Bool) → length plain ≤ length (stuffed plain)
-length-stuffed-least plain =
-    omega (arith, length-with_stuff-least (reverse plain), length-reverse plain, length-reverse (with_stuff (reverse plain)))
+length-stuffed-least plain = grind (arith, length-with_stuff-least, length-reverse)
 
 pub length-stuffed-most : (plain : List Bool) → 0 < length plain → 4 * length (stuffed plain) + 1 ≤ 5 * length plain
-length-stuffed-most plain some =
-    let there : 0 < length (reverse plain) = omega (arith, length-reverse plain) in
-    omega (arith, length-with_stuff-most (reverse plain), run-with_stuff_positive (reverse plain) there, length-reverse plain, length-reverse (with_stuff (reverse plain)))
+length-stuffed-most plain some = grind (arith, length-reverse, length-with_stuff-most, run-with_stuff_positive)
 
 -- a loop over the bits to be sent: one more bit, with its opposite or without
 pub reverse-take_more : (bits : List Bool) (i : ℕ) (d : Bool) → i < length bits → reverse (take (i + 1) bits) ≡ get_or bits i d ∷ reverse (take i bits)
-reverse-take_more bits i d inside =
-    ap reverse (take_more bits i d inside) ∙ reverse-append (take i bits) (get_or bits i d ∷ [])
+reverse-take_more bits i d inside = grind (arith, common_steps, take_more, reverse-append)
 
 pub with_stuff_more-full : (bits : List Bool) (i : ℕ) (d : Bool) → i < length bits → at_stuff_place (get_or bits i d ∷ with_stuff (reverse (take i bits))) ≡ true → with_stuff (reverse (take (i + 1) bits)) ≡ not (get_or bits i d) ∷ get_or bits i d ∷ with_stuff (reverse (take i bits))
 with_stuff_more-full bits i d inside full = ap with_stuff (reverse-take_more bits i d inside) ∙ cond-true _ _ _ full

@@ -1,5 +1,6 @@
 -- Each entry of the table of steps is what the definitions say.
-use Rattle.std.proofs.Common.{◌≡◌, ℕ, zero, suc, ◌<◌, true, List, [], ◌∷◌, length, get_or, refl, arith}
+use Rattle.std.proofs.Common.{◌≡◌, ℕ, ◌<◌, true, List, length, get_or, refl, arith}
+use Rattle.std.proofs.lemmas.Grind.{common_steps}
 use Rattle.std.specs.List.{list_all}
 use Rattle.std.proofs.Math.Dec.{ltb}
 use Rattle.std.proofs.lemmas.Bool.{and_parts, ltb-true}
@@ -19,9 +20,7 @@ all_few : list_all (λ entry. ltb entry 48) STEPS ≡ true
 all_few = refl
 
 few-from : (entries : List ℕ) (place : ℕ) → list_all (λ entry. ltb entry 48) entries ≡ true → place < length entries → get_or entries place 0 < 48
-few-from [] place all inside = absurd (omega arith)
-few-from (entry ∷ entries) zero all inside = ltb-true entry 48 (and_parts _ _ all).0
-few-from (entry ∷ entries) (suc place) all inside = few-from entries place (and_parts _ _ all).1 (omega arith)
+few-from entries place all inside = grind (arith, common_steps, ltb-true, and_parts)
 
 pub step-few : (place : ℕ) → place < 8192 → get_or STEPS place 0 < 48
 step-few place inside = few-from STEPS place all_few inside

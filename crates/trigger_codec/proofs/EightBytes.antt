@@ -4,7 +4,7 @@ use Rattle.can_frame.specs.DataFrame.{DataFrame, IsFrame}
 use Rattle.trigger_codec.specs.Bytes.{trigger_bytes, trigger_frame, width_told, flags_in, second_bytes, second_frame, second_flags_in, low_slots, high_slots}
 use Rattle.trigger_codec.specs.declared.message.Trigger.{Trigger}
 use Rattle.trigger_codec.specs.declared.message.Second.{Second}
-use Rattle.trigger_codec.proofs.Halves.{flags_in-first, second_flags_in-second}
+use Rattle.trigger_codec.proofs.Flags.{flags_in-first, second_flags_in-second}
 
 -- eight bytes are those of the trigger that they say
 trigger_bytes-read : (bytes : List ℕ) → length bytes ≡ 8 → All (λ byte. byte < 256) bytes → bytes ≡ trigger_bytes (slice_index bytes 0) (width_told bytes) (flags_in bytes)

@@ -10,7 +10,7 @@ use Rattle.trigger_kind.specs.Kind.{IsSlots, triggers_of, opening_of}
 use Rattle.trigger_codec.specs.declared.message.Trigger.{Trigger}
 use Rattle.trigger_codec.specs.Bytes.{later_frames, low_slots, second_frame, second_of, trigger_frame, trigger_of, triggers_with}
 use Rattle.trigger_codec.specs.Heard.{first_heard, heard_of, joined, last_heard, told, trigger_in, IsNoted, Noted}
-use Rattle.trigger_codec.proofs.Halves.{both-parts, first-part}
+use Rattle.trigger_codec.proofs.Flags.{both-parts, first-part}
 use Rattle.trigger_codec.proofs.Told.{second_of-second, trigger_of-first}
 use Rattle.can_frame.specs.DataFrame.{DataFrame}
 

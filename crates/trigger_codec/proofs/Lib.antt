@@ -1,7 +1,6 @@
 mod EightBytes
 mod Flags
 mod Frames
-mod Halves
 mod HeardTriggers
 pub mod Shared
 mod Told

@@ -4,7 +4,7 @@ use Rattle.std.proofs.lemmas.Bool.{cond-true, le-leb}
 use Rattle.trigger_codec.specs.declared.message.Trigger.{Trigger}
 use Rattle.trigger_codec.specs.declared.message.Second.{Second}
 use Rattle.trigger_codec.specs.Bytes.{flags_in, high_slots, low_slots, second_frame, second_of, trigger_bytes, trigger_frame, trigger_of, width_told}
-use Rattle.trigger_codec.proofs.Halves.{flags_in-first, second_flags_in-second}
+use Rattle.trigger_codec.proofs.Flags.{flags_in-first, second_flags_in-second}
 
 abbrev saying : ℕ → ℕ → ℕ → Trigger
 saying low l mask = record { low = low; l = l; mask = mask }

@@ -1,5 +1,4 @@
-use Rattle.std.proofs.Common.{◌≡◌, length, subst, arith}
-use Rattle.async_window.specs.Tournament.{IsSoonestStart}
+use Rattle.std.proofs.Common.{◌≡◌, length, arith}
 use Rattle.async_window.proofs.Soonest.{IsSoonest-more, IsSoonest-none}
 use Rattle.async_window.proofs.firsts.next_of.Goals as goal
 
@@ -16,6 +15,5 @@ pub returns : goal.returns
 returns c =
     let all : c.loop-place.place ≡ length c.args.boxes.now = omega (arith, c.loop-place-test.false, c.loop-place.auto) in
     record {
-      next = subst (λ n. IsSoonestStart c.args.boxes.now c.args.window.opened c.args.window.closed c.args.at n c.loop-place.least) all
-          c.loop-place.invariant;
+      next = grind arith;
     }

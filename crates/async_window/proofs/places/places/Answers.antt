@@ -1,4 +1,4 @@
-use Rattle.std.proofs.Common.{◌<◌, ◌≤◌, ◌^◌, length, arith, rules}
+use Rattle.std.proofs.Common.{arith, rules}
 use Rattle.async_window.proofs.Table.{IsTable-none, IsTable-more, IsTable-all, rising-few}
 use Rattle.async_window.proofs.places.places.Goals as goal
 
@@ -11,10 +11,7 @@ loop-place-preserved c =
     (search rules) c.loop-place.invariant
 
 pub overflow_cast-place : goal.overflow_cast-place
-overflow_cast-place c =
-    let few : length c.args.ids.now ≤ 2048 = rising-few c.args.ids.now c.requires.rising c.requires.small in
-    let small : c.loop-place.place < 2 ^ 16 = omega (arith, c.loop-place-test.true) in
-    search rules
+overflow_cast-place c = grind (arith, rising-few, rules)
 
 pub returns-clause-places : goal.returns-clause-places
 returns-clause-places c = IsTable-all c.args.ids.now c.loop-place.place c.loop-place.table.items (omega arith) c.loop-place.invariant

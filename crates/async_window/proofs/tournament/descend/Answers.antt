@@ -1,14 +1,11 @@
-use Rattle.std.proofs.Common.{◌≡◌, ℕ, suc, ◌-◌, ◌/◌, ◌^◌, length, get_or, subst, arith}
-use Rattle.async_window.proofs.Levels.{IsOnTheWay, IsOnTheWay-below, IsOnTheWay-top}
+use Rattle.std.proofs.Common.{ℕ, suc, ◌-◌, ◌/◌, length, get_or, arith}
+use Rattle.async_window.proofs.Levels.{IsOnTheWay-below}
 use Rattle.async_window.proofs.Trees.{IsFirstLeaf, few-nodes, first-leaf_half, half, tree-lesser, two-below}
 use Rattle.async_window.proofs.tournament.descend.Goals as goal
 use Rattle.async_window.proofs.tournament.descend.Goals.{After-loop}
 
 pub loop-init : goal.loop-init
-loop-init c rest is =
-    let whole : c.args.levels ≡ rest = omega arith in
-    subst (λ n. IsOnTheWay (λ node. get_or c.args.nodes.now node 0) c.args.levels c.args.bound n 1 (2 ^ 64 - 1)) whole
-    (IsOnTheWay-top (λ node. get_or c.args.nodes.now node 0) c.args.levels c.args.bound (2 ^ 64 - 1) c.requires.top c.requires.bound)
+loop-init c rest is = grind arith
 
 pub below-step-requires-clause-below : goal.below-step-requires-clause-below
 below-step-requires-clause-below c =

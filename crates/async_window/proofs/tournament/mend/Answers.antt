@@ -1,14 +1,10 @@
-use Rattle.std.proofs.Common.{◌≡◌, suc, ◌+◌, ◌*◌, ◌-◌, ◌/◌, ◌^◌, ◌<◌, ◌≤◌, length, get_or, refl, subst, arith}
-use Rattle.async_window.proofs.Trees.{IsMendedTo, IsMendedTo-above, IsMendedTo-leaf, IsMendedTo-top, IsTree-above, mended-inner}
+use Rattle.std.proofs.Common.{suc, ◌+◌, ◌*◌, ◌-◌, ◌/◌, ◌^◌, ◌<◌, ◌≤◌, length, get_or, refl, arith}
+use Rattle.async_window.proofs.Trees.{IsMendedTo, IsMendedTo-above, IsMendedTo-top, mended-inner}
 use Rattle.async_window.proofs.tournament.mend.Goals as goal
 use Rattle.async_window.proofs.tournament.mend.Goals.{In-loop}
 
 pub loop-init : goal.loop-init
-loop-init c rest is =
-    let whole : c.args.levels ≡ rest = omega arith in
-    subst (λ n. IsMendedTo c.args.levels n c.args.leaf c.args.number c.args.nodes.now c.args.nodes.now) whole
-    (IsMendedTo-leaf c.args.levels c.args.leaf c.args.number c.args.nodes.now c.requires.leaf c.requires.within c.requires.number
-    c.requires.tree)
+loop-init c rest is = grind arith
 
 -- where the loop stands
 standing : (c : In-loop)
@@ -48,9 +44,7 @@ pub returns-then-nodes-above : goal.returns-then-nodes-above
 returns-then-nodes-above c =
     let has = standing (goal.at.returns-then-nodes-above c).In-loop in
     record {
-      tree = IsTree-above c.args.levels (c.args.levels - c.loop.counter - 1) c.loop.node c.loop.least c.args.nodes.now c.loop.nodes has
-          (omega (arith, c.loop-test.true)) (get_or c.loop.nodes (4 * (c.loop.node / 2) + 1 - c.loop.node) 0) c.min-least.result refl
-          c.min-least.ensures c.if-nodes-above.true;
+      tree = grind arith;
       leaves = has.leaves;
     }
 

@@ -1,4 +1,3 @@
-use Rattle.std.proofs.Common.{[]}
 use Rattle.bus_line.proofs.Traces.{Follows-from_trace, trace_from_Follows, only-trace, IsOrdered-from_Follows, within_from_Follows, Follows-behind, Follows-joined}
 use Rattle.bus_line.proofs.laws.trace_laws.Goals as goal
 

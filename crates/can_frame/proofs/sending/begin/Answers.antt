@@ -1,8 +1,6 @@
 -- The fields before the data are three parts, and the data bytes stand behind them.
-use Rattle.std.proofs.Common.{◌≡◌, ◌+◌, ◌-◌, ◌*◌, ◌/◌, ◌%◌, ◌^◌, [], ◌++◌, length, take, sym, subst, ◌∙◌, arith}
+use Rattle.std.proofs.Common.{◌≡◌, ◌-◌, ◌/◌, ◌%◌, [], ◌++◌, length, take, sym, ◌∙◌, arith}
 use Rattle.stuff_bound.specs.Fields.{bits}
-use Rattle.stuff_bound.specs.Sending.{WasGiven}
-use Rattle.can_frame.specs.Crc.{IsRemainder}
 use Rattle.can_frame.specs.Wire.{header}
 use Rattle.can_frame.proofs.Begun.{begun_number, begun-none}
 use Rattle.can_frame.proofs.ByteSums.{so_far, so_far-none}
@@ -25,9 +23,5 @@ loop-byte-init c =
     let behind : c.from-behind.result ≡ n - 0 = omega arith in
     record {
       all = omega arith;
-      begun = record {
-        summed = rw (begun_number frame 0) (subst (λ left. IsRemainder (so_far frame.identifier n (take 0 frame.bytes) * 2 ^ (15 + 8 * left)) c.header_share.result) behind (rw start at c.header_share.ensures.remainder));
-        given = subst (λ plain. WasGiven c.then-3.result plain) (parts ∙ sym (begun-none frame)) third;
-        few = omega (arith, c.then.ensures.few, c.then-2.ensures.few, c.then-3.ensures.few);
-      };
+      begun = grind (arith, begun_number, so_far, begun-none);
     }

@@ -3,10 +3,9 @@ use Rattle.std.proofs.Common.{◌≡◌, ◌+◌, ◌*◌, ◌/◌, ◌%◌, ◌
 use Rattle.std.proofs.lemmas.List.{length-append}
 use Rattle.stuff_bound.specs.Fields.{bits}
 use Rattle.stuff_bound.specs.Sending.{WasGiven}
-use Rattle.stuff_bound.specs.Stuffing.{stuffed}
 use Rattle.can_frame.specs.Crc.{sequence_of}
 use Rattle.can_frame.specs.DataFrame.{DataFrame}
-use Rattle.can_frame.specs.Wire.{covered, plain, trailer, wire_length, wire_of, with_sequence}
+use Rattle.can_frame.specs.Wire.{covered, plain, wire_length, wire_of, with_sequence}
 use Rattle.can_frame.proofs.Begun.{begun-all, begun-sequence}
 use Rattle.can_frame.proofs.Plain.{length-with_sequence}
 use Rattle.can_frame.proofs.PlainFields.{sequence-parts}
@@ -49,9 +48,7 @@ overflow_add-result-2 c = omega (arith, few c)
 
 pub returns-clause-value : goal.returns-clause-value
 unfolding wire_length wire_of
-returns-clause-value c =
-    let frame = c.args.frame.now in
-    omega (arith, length-plain frame, c.stuff_bits.ensures.len (plain frame) (given-plain c), length-append (stuffed (plain frame)) trailer)
+returns-clause-value c = grind (arith, length-plain, given-plain, length-append)
 
 pub returns-clause-at_most : goal.returns-clause-at_most
 returns-clause-at_most c = omega (arith, few c)

@@ -1,5 +1,5 @@
 -- Three bytes, one behind the other, behind nothing.
-use Rattle.std.proofs.Common.{◌≡◌, ◌+◌, ◌*◌, ◌/◌, ◌%◌, ◌^◌, ◌<◌, ℕ, bit_xor, arith}
+use Rattle.std.proofs.Common.{◌≡◌, ◌+◌, ◌*◌, ◌^◌, ◌<◌, ℕ, bit_xor, arith}
 use Rattle.can_frame.specs.Crc.{IsRemainder}
 use Rattle.can_frame.proofs.ByteSums.{more-share}
 use Rattle.can_frame.proofs.sequence.header_share.Goals as goal
@@ -14,6 +14,4 @@ three-shares header high mid low behind r s t h k l is first second third =
     rw is (more-share (0x100 * high + mid) low behind (bit_xor r s) t l two third)
 
 pub returns : goal.returns
-returns c = record {
-  remainder = three-shares c.args.header (c.args.header / 0x10000) (c.args.header / 0x100 % 0x100) (c.args.header % 0x100) c.args.behind _ _ _ (omega arith) (omega arith) (omega arith) (omega arith) c.share.ensures.remainder c.share-2.ensures.remainder c.share-3.ensures.remainder;
-}
+returns c = grind (arith, three-shares)

@@ -13,8 +13,7 @@ only_whole bytes count kept within none h =
 and_part : (bytes : List ℕ) (count : ℕ) (kept : Counted) → count ≤ 8 * length bytes → count % 8 ≢ 0
     → WasGiven kept (bits_of (take (count / 8) bytes) ++ bits (count % 8) (get_or bytes (count / 8) 0 / 2 ^ (8 - count % 8)))
     → WasGiven kept (take count (bits_of bytes))
-and_part bytes count kept within some h =
-    rw (taken-part bytes count (count / 8) (count % 8) (8 - count % 8) (omega arith) (omega arith) (omega arith)) h
+and_part bytes count kept within some h = grind (arith, taken-part)
 
 pub returns-then-rest-eq0 : goal.returns-then-rest-eq0
 returns-then-rest-eq0 c = record {
@@ -22,8 +21,7 @@ returns-then-rest-eq0 c = record {
 }
 
 pub then-requires-clause-value : goal.then-requires-clause-value
-then-requires-clause-value c =
-    high-below (c.args.bits % 8) (8 - c.args.bits % 8) (get_or c.args.bytes.now (c.args.bits / 8) 0) (omega arith) (omega (arith, c.type_inv.bytes (c.args.bits / 8)))
+then-requires-clause-value c = grind (arith, high-below)
 
 pub returns : goal.returns
 returns c = record {

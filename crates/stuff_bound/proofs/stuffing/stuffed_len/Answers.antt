@@ -32,8 +32,7 @@ all_sent : (bits : List Bool) (i len : ℕ) → length bits ≤ i → len ≡ le
 all_sent bits i len end e = e ∙ ap (λ sent. length (with_stuff (reverse sent))) (take_all i bits end) ∙ sym (length-reverse _)
 
 pub returns-clause-at_least : goal.returns-clause-at_least
-returns-clause-at_least c =
-    omega (arith, all_sent _ _ _ c.loop-bit-test.false c.loop-bit.invariant.len, length-stuffed-least c.args.bits.now)
+returns-clause-at_least c = grind (arith, all_sent, length-stuffed-least)
 
 pub returns-clause-at_most : goal.returns-clause-at_most
 returns-clause-at_most c some =

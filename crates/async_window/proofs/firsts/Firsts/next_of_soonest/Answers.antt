@@ -3,9 +3,7 @@ use Rattle.async_window.proofs.Telling.{soonest-starts}
 use Rattle.async_window.proofs.firsts.Firsts.next_of_soonest.Goals as goal
 
 pub first-requires : goal.first-requires
-first-requires c =
-    let wide : c.args.window.closed < 2 ^ 64 = search rules in
-    record { bound = omega (arith, c.if-window-soonest.false) }
+first-requires c = grind (arith, rules)
 
 pub returns-in-Some : goal.returns-in-Some
 returns-in-Some c =

@@ -1,11 +1,10 @@
-use Rattle.std.proofs.Common.{◌≡◌, ◌↔◌, ℕ, ◌+◌, ◌<◌, ◌≤◌, Some, List, [], length, map, drop, All, AllPairs, ap, sym, ◌∙◌, subst, arith, rules}
-use Rattle.std.specs.List.{slice_get}
+use Rattle.std.proofs.Common.{◌≡◌, ◌+◌, ◌<◌, ◌≤◌, List, [], length, map, drop, All, AllPairs, ap, sym, ◌∙◌, subst, arith, rules}
 use Rattle.std.proofs.lemmas.List.{take_at, length-map}
 use Rattle.std.proofs.lemmas.List.Elements.{All-weaker}
 use Rattle.async_window.specs.Mailbox.{Mail, left, mail_after}
 use Rattle.async_window.specs.Adding.{with_request}
 use Rattle.async_window.specs.Tournament.{TellFirsts}
-use Rattle.async_window.specs.Sorted.{AreBoxesSorted, IsPlaceTable, mail_of, nowhere}
+use Rattle.async_window.specs.Sorted.{AreBoxesSorted, IsPlaceTable}
 use Rattle.async_window.proofs.Table.{few-rising}
 use Rattle.async_window.proofs.Steps.{HasPut, HasPut-none, HasPut-more, IsPlaceTable-put, rising-put}
 use Rattle.async_window.proofs.Kept.{AreKept-made, IsMade, greatest-made, known-put, mail_of-put}
@@ -14,14 +13,7 @@ use Rattle.async_window.proofs.mailboxes.Mailboxes.new.Goals.{In_ok-sorted}
 
 -- what is given, and the identifiers in their order
 is-made : (c : In_ok-sorted) → IsMade c.args.ids.now c.in_ok-sorted.sorted.items c.args.requests.now
-is-made c = record {
-  distinct = c.requires.distinct;
-  least = c.requires.least;
-  greatest = c.requires.greatest;
-  early = c.requires.early;
-  rising = c.in_ok-sorted.ensures.rising;
-  moved = c.in_ok-sorted.ensures.same;
-}
+is-made c = grind arith
 
 pub places-requires-clause-small : goal.places-requires-clause-small
 places-requires-clause-small c =
@@ -41,8 +33,7 @@ put-requires-clause-places c =
     (subst (λ table. IsPlaceTable c.loop-request.boxes.items table) (sym c.deref.ensures.value)
     (IsPlaceTable-put c.in_ok-sorted.sorted.items c.args.requests.now c.loop-request.request-index c.loop-request.boxes.items c.loop-request.remaining
     c.in_ok-places.places.items c.loop-request.invariant
-    (subst (λ ids. (id place : ℕ) → id < 2048 → place < nowhere → (slice_get c.in_ok-places.places.items id ≡ Some place)
-    ↔ (slice_get ids place ≡ Some id)) c.as_slice.ensures.value c.in_ok-places.ensures.places)))
+    (grind arith)))
 
 pub put-requires-clause-rising : goal.put-requires-clause-rising
 put-requires-clause-rising c =
@@ -51,10 +42,7 @@ put-requires-clause-rising c =
     c.in_ok-sorted.ensures.rising c.loop-request.invariant)
 
 pub put-requires-clause-greatest : goal.put-requires-clause-greatest
-put-requires-clause-greatest c =
-    let made = is-made (goal.at.put-requires-clause-greatest c).In_ok-sorted in
-    let known = known-put c.args.ids.now c.in_ok-sorted.sorted.items c.args.requests.now made c.loop-request.request-index c.loop-request.remaining c.loop-request.boxes.items c.loop-request.invariant in
-    subst (λ (mail : List Mail). All (λ box. box.identifier ≤ 0x7EF) mail) (sym c.deref_mut.ensures.value) known.greatest
+put-requires-clause-greatest c = grind (arith, is-made, known-put)
 
 pub loop-request-preserved : goal.loop-request-preserved
 loop-request-preserved c =
@@ -93,8 +81,7 @@ invariant_of-result c =
     (AreKept-made c.args.ids.now c.in_ok-sorted.sorted.items c.args.requests.now made c.loop-request.request-index c.loop-request.remaining
     c.loop-request.boxes.items c.in_ok-places.places.items c.in_ok-firsts.firsts.arrivals c.in_ok-firsts.firsts.lengths
     c.loop-request-test.false c.loop-request.invariant c.in_ok-places.ensures.length
-    (subst (λ ids. (id place : ℕ) → id < 2048 → place < nowhere → (slice_get c.in_ok-places.places.items id ≡ Some place)
-    ↔ (slice_get ids place ≡ Some id)) c.as_slice.ensures.value c.in_ok-places.ensures.places)
+    (grind arith)
     (subst (λ (mail : List Mail). TellFirsts (length mail) mail c.in_ok-firsts.firsts.arrivals c.in_ok-firsts.firsts.lengths)
     c.as_slice-5.ensures.value c.in_ok-firsts.ensures.firsts))
 
@@ -103,7 +90,5 @@ returns c =
     let made = is-made (goal.at.returns c).In_ok-sorted in
     let copied : c.in_ok-to_vec.field-0.items ≡ c.args.ids.now = c.in_ok-to_vec.ensures.items_if_clones_equal (search rules) in
     record {
-      mail = ap (λ ids. mail_of ids c.loop-request.boxes.items) copied
-          ∙ mail_of-put c.args.ids.now c.in_ok-sorted.sorted.items c.args.requests.now made c.loop-request.request-index c.loop-request.remaining c.loop-request.boxes.items
-          c.loop-request-test.false c.loop-request.invariant;
+      mail = grind (arith, mail_of-put);
     }

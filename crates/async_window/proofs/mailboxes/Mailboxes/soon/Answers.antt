@@ -1,8 +1,8 @@
-use Rattle.std.proofs.Common.{◌≡◌, ℕ, ◌+◌, ◌-◌, ◌/◌, ◌<◌, ◌≤◌, Some, List, length, get_or, min, sym, ap, ◌∙◌, subst, arith, IsSome}
+use Rattle.std.proofs.Common.{◌≡◌, ℕ, ◌-◌, ◌/◌, Some, List, get_or, min, sym, ap, ◌∙◌, subst, arith, IsSome}
 use Rattle.stuff_bound.specs.Stuffing.{worst}
 use Rattle.cycle_layout.specs.Layout.{async_open, sync_start}
 use Rattle.async_window.specs.Mailbox.{IsNextInCycle, Mail, StaysUntil, mail_offer}
-use Rattle.async_window.specs.Tournament.{arrival_within, first_bytes}
+use Rattle.async_window.specs.Tournament.{first_bytes}
 use Rattle.async_window.specs.Sorted.{mail_of}
 use Rattle.async_window.proofs.Soonest.{IsFound, found-stays, next-offer}
 use Rattle.async_window.proofs.mailboxes.Mailboxes.soon.Goals as goal
@@ -34,18 +34,7 @@ returns-in-Some c =
     let closes : c.window_in-window.result.closed ≡ sync_start layout (from / layout.cycle) l
     = closed ∙ ap (λ cycle. sync_start layout cycle l) (sym same) in
     let found : IsFound layout l ids boxes table arrivals lengths c.self.inside.remaining kept from 8 place sooner
-    = record {
-      time = omega arith;
-      known = c.window_in-window.ensures.known;
-      fits = λ bytes few whole. few;
-      opened = subst (λ n. n ≤ from) opens c.in_ok-from.ensures.whole.0;
-      whole = subst (λ n. from + worst 8 ≤ n) closes c.in_ok-from.ensures.whole.1;
-      within = subst (λ (mail : List Mail). place < length mail) slice c.in-Some.ensures.first.0;
-      here = subst (λ (mail : List Mail). (d : Mail) → arrival_within 8 (get_or mail place d).unsent ≤ from) slice c.in-Some.ensures.first.1;
-      later = c.in-Some.ensures.first.2;
-      before = subst (λ (mail : List Mail). (k : ℕ) (d : Mail) → k < place → sooner ≤ arrival_within 8 (get_or mail k d).unsent)
-          slice c.in-Some.ensures.first.3;
-    } in
+    = grind arith in
     let until : c.offer_of.result.until ≡ min (sooner - 1) (sync_start layout (from / layout.cycle) l - worst (first_bytes (get_or boxes place box).unsent))
     = c.offer_of.ensures.until
     ∙ ap (λ end. min (sooner - 1) (end - worst (first_bytes box.unsent))) closes

@@ -13,9 +13,7 @@ returns c =
     = get_or_read nodes 1 c.index.result.now
     (omega (arith, some-leaf c.self.inside.levels nodes c.self.invariant, c.self.invariant.size)) c.index.ensures 0 in
     record {
-      least = subst (λ n. (place : ℕ) → place < length c.args.self.now → n ≤ get_or c.args.self.now place 0) (sym top)
-          (subst (λ (xs : List ℕ). (place : ℕ) → place < length xs → get_or nodes 1 0 ≤ get_or xs place 0) c.self.view_is
-          (least-number c.self.inside.levels nodes c.self.invariant));
+      least = grind (arith, least-number);
       some = subst (λ n. (bound : ℕ) → n ≤ bound → (place : ℕ) × (place < length c.args.self.now) × (get_or c.args.self.now place 0 ≤ bound))
           (sym top)
           (subst (λ (xs : List ℕ). (bound : ℕ) → get_or nodes 1 0 ≤ bound

@@ -1,6 +1,6 @@
 use Rattle.std.proofs.Common.{◌≡◌, ℕ, ◌*◌, ◌^◌, ◌<◌, length, get_or, arith}
 use Rattle.async_window.specs.Tournament.{never}
-use Rattle.async_window.proofs.Trees.{IsTree-never, numbers-length, numbers-never}
+use Rattle.async_window.proofs.Trees.{numbers-length, numbers-never}
 use Rattle.async_window.proofs.tournament.Tournament.new.Goals as goal
 use Rattle.async_window.proofs.tournament.Tournament.new.Goals.{In_ok-nodes}
 
@@ -11,15 +11,7 @@ is-never : (c : In_ok-nodes) (node : ℕ) → node < 2 * 2 ^ c.levels_for-levels
 is-never c node below = c.in_ok-nodes.ensures.nothing node (omega (arith, c.leaves_of.ensures))
 
 pub invariant_of-result : goal.invariant_of-result
-invariant_of-result c =
-    let made = (goal.at.invariant_of-result c).In_ok-nodes in
-    IsTree-never c.levels_for-levels.result c.in_ok-nodes.nodes.items c.levels_for-levels.ensures.low (is-long made) (is-never made)
+invariant_of-result c = grind (arith, is-long, is-never)
 
 pub returns : goal.returns
-returns c =
-    let made = (goal.at.returns c).In_ok-nodes in
-    let tree = IsTree-never c.levels_for-levels.result c.in_ok-nodes.nodes.items c.levels_for-levels.ensures.low (is-long made) (is-never made) in
-    record {
-      room = omega (arith, c.levels_for-levels.ensures.room, numbers-length c.levels_for-levels.result c.in_ok-nodes.nodes.items tree);
-      nothing = numbers-never c.levels_for-levels.result c.in_ok-nodes.nodes.items (is-long made) (is-never made);
-    }
+returns c = grind (arith, is-long, is-never, numbers-length, numbers-never)

@@ -7,8 +7,4 @@ pub loop-place-init : goal.loop-place-init
 loop-place-init c = record { grown = refl; pushed = bits-none _ _ _ }
 
 pub loop-place-preserved : goal.loop-place-preserved
-loop-place-preserved c = record {
-  grown = omega arith;
-  pushed =
-      bits-next _ _ _ _ _ _ c.loop-place-test.true c.loop-place.auto.place c.loop-place.invariant.pushed c.push.ensures.value;
-}
+loop-place-preserved c = grind (arith, bits-next)

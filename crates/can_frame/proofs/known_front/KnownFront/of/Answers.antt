@@ -1,4 +1,4 @@
-use Rattle.std.proofs.Common.{◌≡◌, ◌-◌, length, ap, sym, subst, ◌∙◌}
+use Rattle.std.proofs.Common.{◌≡◌, ◌-◌, length, subst, ◌∙◌}
 use Rattle.can_frame.specs.Begun.{HasBegun}
 use Rattle.can_frame.proofs.LowBytes.{front-bytes}
 use Rattle.can_frame.proofs.known_front.KnownFront.of.Goals as goal

@@ -1,5 +1,5 @@
 -- One bit more was read, and the run follows it.
-use Rattle.std.proofs.Common.{◌≡◌, ℕ, Bool, List, [], ◌∷◌, ◌++◌, drop, take, reverse, sym, ap, ap₂, subst, ◌∙◌, arith}
+use Rattle.std.proofs.Common.{◌≡◌, ℕ, Bool, List, ◌∷◌, drop, take, reverse, sym, ap, ap₂, subst, ◌∙◌, arith}
 use Rattle.stuff_bound.specs.Stuffing.{Tracks}
 use Rattle.can_frame.specs.Progress.{Progress}
 use Rattle.can_frame.proofs.Carried.{reverse_more}
@@ -18,11 +18,4 @@ invariant_of-self c =
     (omega (arith, step.within), subst P (sym (ap reverse step.read ∙ reverse_more (take c.self.inside.place c.self.inside.bits.now) c.args.bit)) (c.then-self-inside.ensures.tracks _ c.self.invariant.1))
 
 pub returns : goal.returns
-returns c =
-    let step = step_of _ _ _ c.args.bit c.self.view_is c.requires.next in
-    let made : List Bool → List Bool → Progress = λ read rest. record { read = read; rest = rest } in
-    record {
-      value =
-          ap₂ made (step.read ∙ ap (λ at. at.read ++ c.args.bit ∷ []) c.self.view_is)
-          (step.rest ∙ ap (λ at. drop 1 at.rest) c.self.view_is);
-    }
+returns c = grind (arith, step_of, ap₂)

@@ -7,11 +7,7 @@ use Rattle.can_frame.proofs.reader.Reader.field.Goals as goal
 
 pub loop-init : goal.loop-init
 unfolding bits
-loop-init c = record {
-  went = went_none c.args.self.now c.requires.expects.no_six;
-  below = lit< tt;
-  last = λ none. absurd (omega arith);
-}
+loop-init c = grind (arith, went_none, lit<)
 
 pub bit-requires : goal.bit-requires
 bit-requires c = record {
