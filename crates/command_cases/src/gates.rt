@@ -1,9 +1,12 @@
-//! A gate that holds threads.
+//! A gate that holds threads, and one that counts its points.
 
 use fttcan_top::{Gate, Point};
+use live_run::OPERATORS;
+use std::alloc::AllocError;
+use std::array;
 use std::hint::spin_loop;
-use std::sync::atomic::AtomicU64;
 use std::sync::atomic::Ordering::SeqCst;
+use std::sync::atomic::{AtomicU8, AtomicU64};
 
 /// How often a thread looks whether it may go on.
 const TURNS: u64 = 200_000_000;
@@ -97,4 +100,89 @@ impl Gate for HoldingGate {
             HeldPoints::Plan => self.pass_held_plan(point),
         }
     }
+}
+
+/// A gate that holds nobody, and counts the points.
+#[derive(Drop)]
+pub struct CountingGate {
+    /// How many points of cycles came in their order: cycle 0 opened, then done, then cycle 1 opened, and so on.
+    in_order: AtomicU64,
+    /// How many points came beside these: of a cycle out of its order, or of a number that no operator has.
+    others: AtomicU64,
+    /// How many changes of each operator were about to be planned, from operator 1 on. Behind 255 comes 0.
+    plans: [AtomicU8; OPERATORS],
+    /// How many acts of each operator were answered, from operator 1 on. Behind 255 comes 0.
+    answers: [AtomicU8; OPERATORS],
+}
+
+impl CountingGate {
+    /// A gate that nobody passed yet.
+    pub fn new() -> CountingGate {
+        CountingGate {
+            in_order: AtomicU64::new(0),
+            others: AtomicU64::new(0),
+            plans: array::from_fn(|_| AtomicU8::new(0)),
+            answers: array::from_fn(|_| AtomicU8::new(0)),
+        }
+    }
+
+    /// Counts a point of a cycle. In its order it comes where so many points of cycles came before it.
+    fn count_cycle(&self, before: u64) {
+        let counted = self
+            .in_order
+            .compare_exchange(before, before.saturating_add(1), SeqCst, SeqCst);
+        if counted.is_err() {
+            self.others.fetch_add(1, SeqCst);
+        }
+    }
+
+    /// Counts a point of an operator, 1 to 8.
+    fn count_operator(&self, counts: &[AtomicU8; OPERATORS], caller: u8) {
+        let place = usize::from(caller).wrapping_sub(1);
+        match counts.get(place) {
+            Some(count) => {
+                count.fetch_add(1, SeqCst);
+            }
+            None => {
+                self.others.fetch_add(1, SeqCst);
+            }
+        }
+    }
+
+    /// Tells what was counted: of the cycles, and of each operator in two hexadecimal digits, from operator 1 on.
+    pub fn put_counts(&self, told: &mut String) -> Result<(), AllocError> {
+        let (in_order, others) = (self.in_order.load(SeqCst), self.others.load(SeqCst));
+        writeln!(
+            told,
+            "{in_order} points of cycles in order, {others} others"
+        )?;
+        put_bytes(told, "plans", &self.plans)?;
+        put_bytes(told, "answers", &self.answers)
+    }
+}
+
+impl Gate for CountingGate {
+    fn pass(&self, point: Point) {
+        match point {
+            Point::CycleOpen { cycle } => self.count_cycle(cycle.saturating_mul(2)),
+            Point::CycleDone { cycle } => {
+                self.count_cycle(cycle.saturating_mul(2).saturating_add(1));
+            }
+            Point::Planning { caller } => self.count_operator(&self.plans, caller),
+            Point::Answered { caller } => self.count_operator(&self.answers, caller),
+        }
+    }
+}
+
+/// Puts a line of these counts behind their name, each in two hexadecimal digits.
+fn put_bytes(
+    told: &mut String,
+    name: &str,
+    counts: &[AtomicU8; OPERATORS],
+) -> Result<(), AllocError> {
+    write!(told, "{name} ")?;
+    for count in counts.iter() {
+        write!(told, "{:02x}", count.load(SeqCst))?;
+    }
+    writeln!(told)
 }

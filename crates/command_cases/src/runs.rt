@@ -1,7 +1,7 @@
 //! Whole calls by threads.
 
 use crate::folder;
-use crate::gates::{HeldPoints, HoldingGate};
+use crate::gates::{CountingGate, HeldPoints, HoldingGate};
 use ftt_io::{FileShelf, MemSink};
 use fttcan_top::{Gate, OpenGate, Status, live};
 use std::alloc::{AllocError, Global};
@@ -121,6 +121,19 @@ fn counted_call<T: Threads + Wait + Sync>(
     )
 }
 
+/// A call of which the points are counted.
+fn points_call<T: Threads + Wait + Sync>(
+    rt: &HostRuntime,
+    threads: &T,
+    words: &str,
+    told: &mut String,
+) -> Result<(), AllocError> {
+    let gate = CountingGate::new();
+    let answer = call(rt, threads, words, &gate)?;
+    writeln!(told, "{:?}", answer.status)?;
+    gate.put_counts(told)
+}
+
 /// Tells of a call. What is given is how it is made, and its words.
 pub fn tell<T: Threads + Wait + Sync>(
     rt: &HostRuntime,
@@ -134,6 +147,7 @@ pub fn tell<T: Threads + Wait + Sync>(
         "held" => held_call(rt, threads, words, HeldPoints::Cycle, told),
         "planned" => held_call(rt, threads, words, HeldPoints::Plan, told),
         "counted" => counted_call(rt, threads, words, told),
+        "points" => points_call(rt, threads, words, told),
         _ => open_call(rt, threads, words, told),
     }
 }

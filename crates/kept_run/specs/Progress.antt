@@ -24,9 +24,9 @@ pub record IsUnderWay (setting : Setting) (history : List Event) (trace : List T
   pub ended : All (λ sent. end_of sent ≤ next_of history * setting.layout.cycle) trace
   pub cycles : RunsCycles setting.sends setting.layout (openings_of history) trace
 
--- the nodes of a run before its next cycle: they send the number of an instance, there is one of each number, they heard
--- the trace, and each knows its entries of a list, which stands for the placed entries where no change was accepted since
--- the last opening
+-- the nodes of a run before its next cycle: they send the number of an instance, there is at least one of each number,
+-- they heard the trace, and each knows its entries of a list, which stands for the placed entries where no change was
+-- accepted since the last opening
 pub record AreNodesReady (setting : Setting) (history : List Event) (trace : List TimedFrame) (nodes : NodesView)
     : Type 0 where
   pub same_layout : nodes.layout ≡ setting.layout

@@ -15,8 +15,9 @@ use Rattle.master_core.specs.declared.event.Event.{Event}
 use Rattle.master_core.specs.declared.event.Event.TheVariants.{Submit, Open}
 use Rattle.master_core.specs.Apart.{CanSettle, IsPlanOf, PlannedView, from_of, snapshot_of}
 use Rattle.master_core.specs.CorePlans.{CorePlannedView}
+use Rattle.master_core.specs.History.{next_of, placed_of}
 use Rattle.master_core.specs.Kept.{kept_from, kept_of}
-use Rattle.master_core.specs.Orders.{IsOrder, IsOrderFor, learned_as}
+use Rattle.master_core.specs.Orders.{IsOrder, IsOrderFor, StandsFor, learned_as}
 use Rattle.live_master.specs.Callers.{number_of}
 use Rattle.live_master.specs.Calls.{AfterWaiting, AtOnce, GaveBack, InTurn, IsAnsweredInTurn, IsOpenedInTurn, IsPlannedIn, IsTurnRefused, Settled, Snapped, Submitted, Waited}
 use Rattle.live_master.specs.Kept.{KeptSettled}
@@ -74,14 +75,16 @@ opened rules old new order found begins is ordered zeroth facts owned =
 opened_within_at : (rules : Rules) (old new : Known Event Rules) (order : Order) (entries : ℕ) (between : List Event)
     → new ≡ knowing old (committed ((old.view.seen ++ between) ++ Open order.cycle order.mask ∷ []) (granted (old.view.seen ++ between) old.view))
     → IsOrderFor rules (old.view.seen ++ between) order → order.learned ≡ learned_as (old.view.seen ++ between) (kept_of (old.view.seen ++ between))
+    → StandsFor (next_of (old.view.seen ++ between)) (placed_of (old.view.seen ++ between)) (kept_of (old.view.seen ++ between))
     → length (kept_of (old.view.seen ++ between)) ≤ entries
     → old.view.number ≡ 0 → Facts number_of old.view → own number_of old.view.number (old.view.seen ++ between) ≡ old.view.mine
     → IsOpenedWithin rules entries old new order
 unfolding answered
-opened_within_at rules old new order entries between is ordered learned few zeroth facts owned = record {
+opened_within_at rules old new order entries between is ordered learned stands few zeroth facts owned = record {
   answered = answered old new (Open order.cycle order.mask) between is;
   is_order = ordered;
   learned = learned;
+  stands = stands;
   alone =
       let at : own number_of 0 old.view.seen ≡ old.view.mine = ap (λ n. own number_of n old.view.seen) (sym zeroth) ∙ facts.own_are in
       let after : own number_of 0 (old.view.seen ++ between) ≡ old.view.mine = ap (λ n. own number_of n (old.view.seen ++ between)) (sym zeroth) ∙ owned in
@@ -94,15 +97,18 @@ opened_within_at rules old new order entries between is ordered learned few zero
 pub opened_within : (rules : Rules) (old new : Known Event Rules) (order : Order) (entries : ℕ) (placed : List Placed) (found : List Event)
     → IsPrefix old.view.seen found
     → new ≡ knowing old (committed (found ++ Open order.cycle order.mask ∷ []) (granted found old.view))
-    → IsOrderFor rules found order → order.learned ≡ learned_as found placed → placed ≡ kept_of found → length placed ≤ entries
+    → IsOrderFor rules found order → order.learned ≡ learned_as found placed → StandsFor (next_of found) (placed_of found) placed
+    → placed ≡ kept_of found → length placed ≤ entries
     → old.view.number ≡ 0 → Facts number_of old.view → own number_of old.view.number found ≡ old.view.mine
     → IsOpenedWithin rules entries old new order
-opened_within rules old new order entries placed found begins is ordered learned kept few zeroth facts owned =
+opened_within rules old new order entries placed found begins is ordered learned stands kept few zeroth facts owned =
     let split = begins.1 in
     opened_within_at rules old new order entries begins.0
     (is ∙ ap (λ (l : List Event). knowing old (committed (l ++ Open order.cycle order.mask ∷ []) (granted l old.view))) (sym split))
     (subst (λ (l : List Event). IsOrderFor rules l order) (sym split) ordered)
     (subst (λ (l : List Event). order.learned ≡ learned_as l (kept_of l)) (sym split) (learned ∙ ap (λ (l : List Placed). learned_as found l) kept))
+    (subst (λ (l : List Event). StandsFor (next_of l) (placed_of l) (kept_of l)) (sym split)
+    (subst (λ (ps : List Placed). StandsFor (next_of found) (placed_of found) ps) kept stands))
     (subst (λ (l : List Event). length (kept_of l) ≤ entries) (sym split) (subst (λ (l : List Placed). length l ≤ entries) kept few))
     zeroth facts
     (ap (λ (l : List Event). own number_of old.view.number l) split ∙ owned)

@@ -23,8 +23,8 @@ pub record IsFirstPass (shared : Lock Rules) (pass : Known Event Rules) : Type 0
   pub is : pass ≡ record { table = shared.table; view = first_view shared.fixed }
   pub standing : IsPassOf shared pass
 
--- nodes as they were made for a setting: they send the number of an instance, and there is one of each number, before
--- cycle 0
+-- nodes as they were made for a setting, before cycle 0: they send the number of an instance, and there is at least one
+-- of each number below that of the rules. That there is no more than one is not said here
 pub record AreFresh (setting : Setting) (nodes : NodesView) : Type 0 where
   pub same_layout : nodes.layout ≡ setting.layout
   pub same_bytes : setting.sends ≡ bytes_of
@@ -39,7 +39,10 @@ pub record HasAnswered (v : View Event Rules) (number : ℕ) (acts : List Act) :
   pub all : own number_of number v.seen ≡ calls
   pub answers : AnswersActs number acts calls
 
--- nodes that stand for the bus after this history and trace have so many requests that are not sent
+-- some nodes that stand for the bus after this history and trace have so many requests that are not sent. Of these nodes
+-- there is at least one of each number, so this alone does not say how many requests are left. The exact number is said
+-- by the clauses `left`: by `left_at` of a run of given nodes, and by `left_of` of a whole run, which makes one node of
+-- each number
 pub record AreRequestsLeft (setting : Setting) (history : List Event) (run : Run) : Type 0 where
   pub nodes : NodesView
   pub ready : AreNodesReady setting history run.trace nodes

@@ -70,6 +70,7 @@ fn open_next<R: Wait>(
     ensures early { IfOk result (λ order. order.cycle < openings_end) }
     ensures next { OnOk result (next_of pass.new.view.mine ≡ next_of pass.old.view.mine + 1) }
     ensures memory { OnErr result (HasSeen shared.now.fixed pass.old.view.seen pass.new.view.seen) }
+    ensures none { OnErr result (next_of pass.new.view.mine ≡ next_of pass.old.view.mine) }
     ensures can_learn { IfOk result (λ order. CanLearn order.learned nodes.new.nodes) }
     ensures spare { HaveSpare entries.new nodes.new.nodes }
     ensures layout { nodes.new.layout ≡ nodes.old.layout }
@@ -129,6 +130,7 @@ fn open_cycle<R: Wait, G: Gate>(
         → IsRunning setting shared.now pass.new.view.seen bus.new }
     ensures numbers { numbers_of (states_of bus.new.nodes.nodes) ≡ numbers_of (states_of bus.old.nodes.nodes) }
     ensures next { OnOk result (next_of pass.new.view.mine ≡ next_of pass.old.view.mine + 1) }
+    ensures none { OnErr result (next_of pass.new.view.mine ≡ next_of pass.old.view.mine) }
     ensures spare { HaveSpare room.new.entries bus.new.nodes.nodes }
     ensures stays { KeepsPasses pass.old.view pass.new.view }
     ensures standing { IsPassOf shared.now pass.new }

@@ -21,7 +21,7 @@ returns-in-Ok-reserve-clause-within c =
     let few : length c.value_mut-desk.result.now.master.placed ≤ c.args.entries =
     subst (λ (ps : List Placed). length ps ≤ c.args.entries) c.placed-needed.ensures.list (omega arith) in
     opened_within _ _ _ _ c.args.entries c.in-Ok.held.value.master.placed c.in-Ok.held.value.master.history c.in-Ok.ensures.begins
-    (search rules) (search rules) (search rules) (search rules)
+    (search rules) (search rules) (search rules) (search rules) (search rules)
     (rw c.value_mut-desk.ensures.value at few) c.requires.dispatcher c.requires.standing.facts c.in-Ok.ensures.own
 
 pub returns-in-Err-clause-facts : goal.returns-in-Err-clause-facts

@@ -11,6 +11,10 @@ returns-in_err-order-clause-memory g c =
     c.args.shared.now.fixed c.args.pass.now.view.seen (c.loop.invariant.stays.number ∙ c.requires.dispatcher)
     c.loop.invariant.standing.facts c.in_err-order.ensures.standing.facts c.in_err-order.ensures.standing.legal c.loop.invariant.seen)
 
+pub returns-in_err-order-clause-none : goal.returns-in_err-order-clause-none
+returns-in_err-order-clause-none g c =
+    on_err c.from_residual.result _ (ap next_of (back-mine c.loop.pass c.open_within.new.pass c.in_err-order.ensures.memory) ∙ c.loop.invariant.next)
+
 pub returns-in-Opened-clause-opened : goal.returns-in-Opened-clause-opened
 returns-in-Opened-clause-opened g c =
     opened-on c.args.shared.now.fixed c.args.pass.now.view.seen c.loop.entries c.in-Opened.order c.loop.pass c.open_within.new.pass
@@ -27,6 +31,14 @@ returns-in_err-reserve-in-Short-clause-memory g c =
     on_err c.from_residual-in_err-reserve-in-Short.result _ (back-seen c.loop.pass c.open_within.new.pass back c.openings_of_dispatchers.ensures.openings
     c.args.shared.now.fixed c.args.pass.now.view.seen (c.loop.invariant.stays.number ∙ c.requires.dispatcher)
     c.loop.invariant.standing.facts c.in_ok-order.ensures.standing.facts c.in_ok-order.ensures.standing.legal c.loop.invariant.seen)
+
+pub returns-in_err-reserve-in-Short-clause-none : goal.returns-in_err-reserve-in-Short-clause-none
+returns-in_err-reserve-in-Short-clause-none g c =
+    let back = short-back c.args.shared.now.fixed c.loop.entries c.in-Short.needed c.loop.pass c.open_within.new.pass
+    (subst (λ o. AfterWaiting (λ one other. OpenedWithin c.args.shared.now.fixed c.loop.entries one other o) c.loop.pass c.open_within.new.pass)
+    c.in-Short.is c.in_ok-order.ensures.within) in
+    on_err c.from_residual-in_err-reserve-in-Short.result _
+    (ap next_of (back-mine c.loop.pass c.open_within.new.pass back) ∙ c.loop.invariant.next)
 
 pub loop-preserved : goal.loop-preserved
 loop-preserved g c =
