@@ -4,6 +4,7 @@
 #     make uninstall [PREFIX=/usr/local] [DESTDIR=]
 #     make deb [PROGRAM=] [LIBRARY=] [MAINTAINER=]
 #     make library
+#     make libraries
 #
 # PROGRAM is the built program: that which ./fttcan where names, where nothing is said. Without one all else is
 # installed. LIBRARY is the folder of the built library for C, which `make library` proves and builds; without one none
@@ -16,7 +17,7 @@ LIBRARY = $(wildcard out/library)
 PYTHON = /usr/bin/env python3
 MAINTAINER = the maintainers of fttcan <maintainers@users.noreply.loqindi.example>
 
-.PHONY: all install uninstall deb library
+.PHONY: all install uninstall deb library libraries
 all:
 	@echo "make install, make uninstall, make deb or make library: the head of the Makefile has their words. ./fttcan builds the program"
 
@@ -33,3 +34,7 @@ deb:
 
 library:
 	@tools/c-library --build
+
+# For the processors of a release, into out/library-NAME.
+libraries:
+	@tools/c-library --all --build

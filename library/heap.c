@@ -8,9 +8,9 @@ static fttcan_heap_block answer(void *at) {
     return block;
 }
 
-fttcan_heap_block fttcan_heap_alloc(size_t size, size_t align) { return answer(malloc(size ? size : align)); }
+fttcan_heap_block fttcan_heap_alloc(fttcan_size size, fttcan_size align) { return answer(malloc(size ? size : align)); }
 
-fttcan_heap_block fttcan_heap_realloc(void *at, size_t kept, size_t size, size_t align) {
+fttcan_heap_block fttcan_heap_realloc(void *at, fttcan_size kept, fttcan_size size, fttcan_size align) {
     (void)kept;
     return answer(realloc(at, size ? size : align));
 }

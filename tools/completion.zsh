@@ -11,26 +11,27 @@ _fttcan_words() {
     'fttcan live') printf %s '--report' ;;
     'fttcan-reference FORM') printf %s 'replay admit check gen audit handover poll elastic' ;;
     'fttcan-reference replay') printf %s '--tail --report' ;;
-    'fttmodel') printf %s '--help --window --turnaround --policy --fill --slots --horizon --nodes --cycles --renumber --period-attribute --requests --seed --from --dbc --instances --strict --signals --from-dbc --from-recording --version' ;;
+    'fttmodel') printf %s '--help --window --turnaround --errors --policy --fill --slots --horizon --nodes --cycles --renumber --keep --map --period-attribute --requests --seed --from --dbc --instances --worst --header --strict --signals --from-dbc --report --compare --from-recording --version' ;;
     'fttmodel --policy') printf %s 'rm dm edf' ;;
     'fttmodel --fill') printf %s 'prefix skip' ;;
     'fttmodel --slots') printf %s '40 96' ;;
-    'fttlint') printf %s '--help --plan --streams --wishes --log --bounds --words --live --replay --all --version' ;;
-    'fttsearch') printf %s '--help --cycle-us --kbits --slots --window --policy --fill --deadline --bounds --turnaround --horizon --refine --headroom --add --rounding --period --part --join --csv --resume --svg --engine --offsets --out --keep --seconds --rounds --seed --scheduler --tls-ca --tls-cert --tls-key --jobs --version' ;;
+    'fttlint') printf %s '--help --plan --streams --wishes --log --bounds --ask --words --live --replay --all --version' ;;
+    'fttsearch') printf %s '--help --cycle-us --kbits --slots --window --policy --fill --deadline --bounds --turnaround --horizon --errors --refine --headroom --add --rounding --period --part --join --csv --resume --svg --engine --switch --ask --offsets --out --keep --seconds --rounds --seed --scheduler --tls-ca --tls-cert --tls-key --jobs --version' ;;
     'fttsearch --engine') printf %s 'module program' ;;
-    'fttlog FORM') printf %s 'say late svg html json accepted candump pcap from-candump conform bits' ;;
-    'fttlog say') printf %s '--help --kbits --names --steps --all' ;;
-    'fttlog late') printf %s '--help --kbits --names --cycle --requests --bounds --system --steps --streams --svg' ;;
+    'fttlog FORM') printf %s 'say late svg html json accepted candump pcap from-candump conform bits traffic' ;;
+    'fttlog say') printf %s '--help --kbits --names --steps --all --from --to --changes' ;;
+    'fttlog late') printf %s '--help --kbits --names --cycle --requests --bounds --system --steps --plan --streams --svg' ;;
     'fttlog svg') printf %s '--help --kbits --names --cycle' ;;
-    'fttlog html') printf %s '--help --kbits --names --cycle --title' ;;
+    'fttlog html') printf %s '--help --kbits --names --cycle --steps --title' ;;
     'fttlog json') printf %s '--help --names' ;;
     'fttlog accepted') printf %s '--help' ;;
     'fttlog candump') printf %s '--help --at --starts --ends --interface' ;;
     'fttlog pcap') printf %s '--help --at --starts --ends' ;;
     'fttlog from-candump') printf %s '--help --cycle --starts --ends --interface --strict --calls --snap --moved' ;;
-    'fttlog conform') printf %s '--help --names --cycle --starts --ends --interface --strict --tolerance --ppm --requests --any-data --csv --json --show --all' ;;
+    'fttlog conform') printf %s '--help --names --cycle --starts --ends --interface --strict --tolerance --ppm --requests --reserve --turnaround --any-data --csv --json --show --all' ;;
     'fttlog conform --requests') printf %s 'own any' ;;
     'fttlog bits') printf %s '--help --until' ;;
+    'fttlog traffic') printf %s '--help' ;;
     esac
 }
 

@@ -100,6 +100,18 @@ public:
     std::uint64_t place;
 };
 
+/// A node was made for fewer entries, or a room is too small for a message.
+class full : public fault {
+public:
+    using fault::fault;
+};
+
+/// A change that no master accepts: fttcan::apply.
+class not_accepted : public fault {
+public:
+    using fault::fault;
+};
+
 /// A change that was refused: `verdict` has its numbers, and each kind has a class.
 class refused : public fault {
 public:
@@ -189,6 +201,7 @@ inline void check(std::uint32_t status, const char *call) {
     case FTTCAN_MISS: throw would_miss(status, told);
     case FTTCAN_CLOSED: throw closed(status, told);
     case FTTCAN_TEXT: throw bad_text(told);
+    case FTTCAN_FULL: throw full(status, told);
     default: throw fault(status, told);
     }
 }
@@ -208,14 +221,14 @@ inline accepted taken(const fttcan_verdict &verdict) {
 /// Calls with a room that is as large as the call says it must be, and answers what was written.
 template <class List, class Call> List filled(const char *name, Call call) {
     List room(16, typename List::value_type{});
-    std::size_t count = 0;
+    fttcan_size count = 0;
     std::uint32_t status = call(room.data(), room.size(), &count);
     if (status == FTTCAN_ROOM) {
-        room.resize(count);
+        room.resize(static_cast<std::size_t>(count));
         status = call(room.data(), room.size(), &count);
     }
     check(status, name);
-    room.resize(count);
+    room.resize(static_cast<std::size_t>(count));
     return room;
 }
 
@@ -237,7 +250,7 @@ public:
     /// The handle, for calls of fttcan.h.
     Handle *get() noexcept { return &held_; }
     /// Whether something is held.
-    explicit operator bool() const noexcept { return held_.at != nullptr; }
+    explicit operator bool() const noexcept { return held_.wide != 0; }
 
 private:
     Handle held_{};
@@ -299,7 +312,7 @@ public:
 
     /// What led to the last answer, if that was a miss.
     std::vector<fttcan_mask> trail() {
-        return of::filled<std::vector<fttcan_mask>>("master::trail", [this](fttcan_mask *room, std::size_t size, std::size_t *count) {
+        return of::filled<std::vector<fttcan_mask>>("master::trail", [this](fttcan_mask *room, std::size_t size, fttcan_size *count) {
             return fttcan_master_trail(get(), room, size, count);
         });
     }
@@ -341,7 +354,7 @@ public:
 
     /// The placed entries that still count.
     std::vector<fttcan_placed> table() {
-        return of::filled<std::vector<fttcan_placed>>("master::table", [this](fttcan_placed *room, std::size_t size, std::size_t *count) {
+        return of::filled<std::vector<fttcan_placed>>("master::table", [this](fttcan_placed *room, std::size_t size, fttcan_size *count) {
             return fttcan_master_table(get(), room, size, count);
         });
     }
@@ -349,7 +362,7 @@ public:
     /// The text of the plan from the next cycle on.
     std::string certificate() {
         const auto text = of::filled<std::vector<std::uint8_t>>(
-            "master::certificate", [this](std::uint8_t *room, std::size_t size, std::size_t *count) {
+            "master::certificate", [this](std::uint8_t *room, std::size_t size, fttcan_size *count) {
                 return fttcan_master_certificate(get(), room, size, count);
             });
         return std::string(text.begin(), text.end());
@@ -357,7 +370,7 @@ public:
 
     /// The state as bytes.
     std::vector<std::uint8_t> saved() {
-        return of::filled<std::vector<std::uint8_t>>("master::saved", [this](std::uint8_t *room, std::size_t size, std::size_t *count) {
+        return of::filled<std::vector<std::uint8_t>>("master::saved", [this](std::uint8_t *room, std::size_t size, fttcan_size *count) {
             return fttcan_master_save(get(), room, size, count);
         });
     }
@@ -415,6 +428,14 @@ public:
             throw not_followed(why);
         of::check(status, "standby::trigger");
     }
+    /// The same for triggers whose window is longer by a reserve.
+    void trigger_reserved(std::uint32_t reserve, span<const fttcan_frame> frames) {
+        fttcan_follow why{};
+        const std::uint32_t status = fttcan_standby_trigger_reserved(get(), reserve, of::at(frames), frames.size(), &why);
+        if (status == FTTCAN_NO)
+            throw not_followed(why);
+        of::check(status, "standby::trigger_reserved");
+    }
 
     /// The next cycle whose trigger is expected.
     std::uint64_t next() {
@@ -431,6 +452,201 @@ public:
     }
 };
 
+/// A node: its entries, requests and bytes, and the cycle that is open for it. Times are bit times from the start of the first
+/// trigger frame of that cycle. fttcan_node_.. of fttcan.h say what each call does. What a call did not find is nothing, or
+/// false, and no exception.
+class node : public of::owner<fttcan_node, fttcan_node_free> {
+public:
+    node(const fttcan_layout &layout, const fttcan_settings &settings, span<const fttcan_owner> owners) {
+        of::check(fttcan_node_new(get(), &layout, &settings, of::at(owners), owners.size()), "node");
+    }
+
+    /// Replaces what the node knows by the entries of its number in a table. fttcan::full: they are too many.
+    void learn(span<const fttcan_placed> table) { of::check(fttcan_node_learn(get(), of::at(table), table.size()), "node::learn"); }
+
+    /// The next trigger that is taken is that of a cycle, or of a later one.
+    void go_to(std::uint64_t cycle) { of::check(fttcan_node_go_to(get(), cycle), "node::go_to"); }
+
+    /// Tells a frame that may be a trigger frame: FTTCAN_OPENED and so on.
+    std::uint8_t trigger(const fttcan_frame &heard, std::uint32_t cycles_passed = 0) {
+        std::uint8_t what = 0;
+        of::check(fttcan_node_trigger(get(), &heard, cycles_passed, &what), "node::trigger");
+        return what;
+    }
+
+    /// Sets the bytes that a slot sends from the next `load` on.
+    void set(std::uint8_t slot, bytes list) { of::check(fttcan_node_set(get(), slot, of::at(list), list.size()), "node::set"); }
+
+    /// Puts a request. It answers whether there was room.
+    bool put(const fttcan_frame &request) {
+        const std::uint32_t status = fttcan_node_put(get(), &request);
+        if (status == FTTCAN_FULL)
+            return false;
+        of::check(status, "node::put");
+        return true;
+    }
+
+    /// Drops the oldest request that waits under an identifier, if one does that is not in flight.
+    bool drop(std::uint16_t id) { return found(fttcan_node_drop(get(), id), "node::drop"); }
+
+    /// How many requests wait under an identifier.
+    std::size_t waiting(std::uint16_t id) {
+        fttcan_size count = 0;
+        of::check(fttcan_node_waiting(get(), id, &count), "node::waiting");
+        return static_cast<std::size_t>(count);
+    }
+
+    /// What it offers at a time.
+    std::optional<fttcan_offer> offered(std::uint64_t into) {
+        fttcan_offer answer{};
+        return found(fttcan_node_offer(get(), into, &answer), "node::offered") ? std::optional<fttcan_offer>(answer) : std::nullopt;
+    }
+
+    /// The first later time at which it offers something.
+    std::optional<std::uint64_t> wake(std::uint64_t into) {
+        std::uint64_t time = 0;
+        return found(fttcan_node_wake(get(), into, &time), "node::wake") ? std::optional<std::uint64_t>(time) : std::nullopt;
+    }
+
+    /// The frame of what it offers at a time: a look.
+    std::optional<fttcan_frame> frame_of(std::uint64_t into, std::uint16_t id) {
+        fttcan_frame answer{};
+        return found(fttcan_node_frame(get(), into, id, &answer), "node::frame_of") ? std::optional<fttcan_frame>(answer) : std::nullopt;
+    }
+
+    /// Takes the frame of what it offers at a time, for the controller.
+    std::optional<fttcan_loaded> load(std::uint64_t into, std::uint16_t id) {
+        fttcan_loaded answer{};
+        return found(fttcan_node_load(get(), into, id, &answer), "node::load") ? std::optional<fttcan_loaded>(answer) : std::nullopt;
+    }
+
+    /// Tells that the frame of a ticket was sent. It answers whether that counts.
+    bool sent(const fttcan_ticket &ticket) { return found(fttcan_node_sent(get(), &ticket), "node::sent"); }
+
+    /// Tells that the frame of a ticket was not sent, and will not be. It answers whether it was in flight.
+    bool withdrawn(const fttcan_ticket &ticket) { return found(fttcan_node_withdrawn(get(), &ticket), "node::withdrawn"); }
+
+    /// The slots that it owes in the open cycle.
+    fttcan_mask due() {
+        fttcan_mask slots{};
+        of::check(fttcan_node_due(get(), &slots), "node::due");
+        return slots;
+    }
+
+    /// When a slot that it owes may start.
+    std::optional<fttcan_due> slot_due(std::uint8_t slot) {
+        fttcan_due answer{};
+        return found(fttcan_node_slot_due(get(), slot, &answer), "node::slot_due") ? std::optional<fttcan_due>(answer) : std::nullopt;
+    }
+
+    /// The frame of a slot that it owes: a look.
+    std::optional<fttcan_frame> slot_frame(std::uint8_t slot) {
+        fttcan_frame answer{};
+        return found(fttcan_node_slot_frame(get(), slot, &answer), "node::slot_frame") ? std::optional<fttcan_frame>(answer) : std::nullopt;
+    }
+
+    /// The least cycle whose trigger it can take.
+    std::uint64_t next() {
+        std::uint64_t cycle = 0;
+        of::check(fttcan_node_next(get(), &cycle), "node::next");
+        return cycle;
+    }
+
+    /// The open cycle, with its flags and its window.
+    std::optional<fttcan_trigger> opened() {
+        fttcan_trigger answer{};
+        return found(fttcan_node_opened(get(), &answer), "node::opened") ? std::optional<fttcan_trigger>(answer) : std::nullopt;
+    }
+
+private:
+    static bool found(std::uint32_t status, const char *call) {
+        if (status == FTTCAN_NO)
+            return false;
+        of::check(status, call);
+        return true;
+    }
+};
+
+/// The table after a change that a master has accepted, without a plan. not_accepted: no master accepts it.
+inline std::vector<fttcan_placed> apply(span<const fttcan_placed> table, std::uint64_t start, span<const fttcan_op> ops) {
+    std::vector<fttcan_placed> made(table.size() + ops.size() + 1);
+    fttcan_size count = 0;
+    const std::uint32_t status =
+        fttcan_apply(of::at(table), table.size(), start, of::at(ops), ops.size(), made.data(), made.size(), &count);
+    if (status == FTTCAN_NO)
+        throw not_accepted(status, "apply: no master accepts the change");
+    of::check(status, "apply");
+    made.resize(static_cast<std::size_t>(count));
+    return made;
+}
+
+/// How much longer a window has to be for so many disturbances, in bit times, if no frame has more data bytes.
+inline std::uint32_t reserve(std::uint16_t errors, std::uint8_t bytes_of_frame = 8) {
+    std::uint32_t bits = 0;
+    of::check(fttcan_reserve(errors, bytes_of_frame, &bits), "reserve");
+    return bits;
+}
+
+/// For how many disturbances a reserve of so many bit times is enough.
+inline std::uint32_t errors_within(std::uint32_t bits, std::uint8_t bytes_of_frame = 8) {
+    std::uint32_t errors = 0;
+    of::check(fttcan_errors_within(bits, bytes_of_frame, &errors), "errors_within");
+    return errors;
+}
+
+/// The frames that tell an accepted change.
+inline std::vector<fttcan_frame> encode_change(std::uint16_t id, std::uint32_t number, std::uint64_t start, span<const fttcan_op> ops) {
+    return of::filled<std::vector<fttcan_frame>>("encode_change", [&](fttcan_frame *room, fttcan_size size, fttcan_size *count) {
+        return fttcan_change_encode(id, number, start, of::at(ops), ops.size(), room, size, count);
+    });
+}
+
+/// The frames that tell a table.
+inline std::vector<fttcan_frame> encode_table(std::uint16_t id, std::uint32_t number, span<const fttcan_placed> table) {
+    return of::filled<std::vector<fttcan_frame>>("encode_table", [&](fttcan_frame *room, fttcan_size size, fttcan_size *count) {
+        return fttcan_table_encode(id, number, of::at(table), table.size(), room, size, count);
+    });
+}
+
+/// Collects the frames of one identifier into messages. Of a table with so many entries there is room.
+class collector {
+public:
+    explicit collector(std::size_t entries = 96) : room_(FTTCAN_COLLECT_ROOM(entries < 9 ? 9 : entries)) {}
+
+    /// Takes a frame. If it makes a message whole, that is the answer: read it before the next frame. fttcan::full: the message
+    /// is longer than the room.
+    std::optional<fttcan_told> hear(const fttcan_frame &heard) {
+        fttcan_told told{};
+        const std::uint32_t status = fttcan_collect(&collected_, &heard, room_.data(), room_.size(), &told);
+        if (status == FTTCAN_NO || status == FTTCAN_TEXT)
+            return std::nullopt;
+        if (status == FTTCAN_ROOM)
+            throw full(status, "collector::hear: the message is longer than the room");
+        of::check(status, "collector::hear");
+        return told;
+    }
+
+    /// The operations of a change that is whole.
+    std::vector<fttcan_op> ops() {
+        fttcan_told told{};
+        return of::filled<std::vector<fttcan_op>>("collector::ops", [&](fttcan_op *list, fttcan_size size, fttcan_size *count) {
+            return fttcan_change_decode(room_.data(), room_.size(), &told, list, size, count);
+        });
+    }
+
+    /// The entries of a table that is whole.
+    std::vector<fttcan_placed> table() {
+        fttcan_told told{};
+        return of::filled<std::vector<fttcan_placed>>("collector::table", [&](fttcan_placed *list, fttcan_size size, fttcan_size *count) {
+            return fttcan_table_decode(room_.data(), room_.size(), &told, list, size, count);
+        });
+    }
+
+private:
+    std::vector<std::uint8_t> room_;
+    fttcan_collected collected_{};
+};
+
 /// What was decided of a change of a table that the caller keeps: the verdict, and the changed table if it is accepted.
 struct decision {
     fttcan_verdict verdict;
@@ -441,11 +657,11 @@ struct decision {
 inline decision decide(const fttcan_rules &rules, span<const fttcan_placed> table, const fttcan_state &state, std::uint64_t start,
                        span<const fttcan_op> ops) {
     decision made{{}, std::vector<fttcan_placed>(table.size() + ops.size() + 1)};
-    std::size_t count = 0;
+    fttcan_size count = 0;
     of::check(fttcan_decide(&rules, of::at(table), table.size(), &state, start, of::at(ops), ops.size(), &made.verdict,
                             made.table.data(), made.table.size(), &count),
               "decide");
-    made.table.resize(made.verdict.kind == FTTCAN_ACCEPTED ? count : 0);
+    made.table.resize(made.verdict.kind == FTTCAN_ACCEPTED ? static_cast<std::size_t>(count) : 0);
     return made;
 }
 
@@ -477,7 +693,7 @@ inline std::uint32_t wire_length(std::uint16_t id, bytes data) {
 
 /// The bits of a frame on the wire, one a byte.
 inline std::vector<std::uint8_t> wire_bits(std::uint16_t id, bytes data) {
-    return of::filled<std::vector<std::uint8_t>>("wire_bits", [&](std::uint8_t *room, std::size_t size, std::size_t *count) {
+    return of::filled<std::vector<std::uint8_t>>("wire_bits", [&](std::uint8_t *room, std::size_t size, fttcan_size *count) {
         return fttcan_wire_bits(id, of::at(data), data.size(), room, size, count);
     });
 }
@@ -485,7 +701,7 @@ inline std::vector<std::uint8_t> wire_bits(std::uint16_t id, bytes data) {
 /// The frame that has these bits on the wire.
 inline fttcan_frame read_wire(bytes bits) {
     fttcan_frame frame{};
-    std::size_t place = 0;
+    fttcan_size place = 0;
     const std::uint32_t status = fttcan_read_wire(of::at(bits), bits.size(), &frame, &place);
     if (status == FTTCAN_TEXT)
         throw bad_text("read_wire: no frame has these bits", place);
@@ -495,7 +711,7 @@ inline fttcan_frame read_wire(bytes bits) {
 
 /// The trigger frames of a cycle.
 inline std::vector<fttcan_frame> encode(std::uint8_t slots, const fttcan_trigger &trigger) {
-    return of::filled<std::vector<fttcan_frame>>("encode", [&](fttcan_frame *room, std::size_t size, std::size_t *count) {
+    return of::filled<std::vector<fttcan_frame>>("encode", [&](fttcan_frame *room, std::size_t size, fttcan_size *count) {
         return fttcan_trigger_encode(slots, &trigger, room, size, count);
     });
 }
@@ -503,6 +719,14 @@ inline std::vector<fttcan_frame> encode(std::uint8_t slots, const fttcan_trigger
 /// The trigger frames of an opened cycle.
 inline std::vector<fttcan_frame> encode(std::uint8_t slots, const fttcan_order &order) {
     return encode(slots, fttcan_trigger{order.flags, order.cycle, order.window});
+}
+
+/// The same, with a window that is longer by a reserve.
+inline std::vector<fttcan_frame> encode_reserved(std::uint8_t slots, const fttcan_order &order, std::uint32_t reserve) {
+    const fttcan_trigger trigger{order.flags, order.cycle, order.window};
+    return of::filled<std::vector<fttcan_frame>>("encode_reserved", [&](fttcan_frame *room, fttcan_size size, fttcan_size *count) {
+        return fttcan_trigger_encode_reserved(slots, &trigger, reserve, room, size, count);
+    });
 }
 
 /// What trigger frames say; the cycle is its low 8 bits.
@@ -558,7 +782,7 @@ inline command run(const std::vector<std::string> &words, const std::array<std::
     }
     for (std::size_t size = std::size_t(1) << 20;; size *= 4) {
         std::vector<std::uint8_t> out(size), err(4096);
-        std::size_t out_count = 0, err_count = 0;
+        fttcan_size out_count = 0, err_count = 0;
         const std::uint32_t status = fttcan_run(of::at(lent[4]), lent[4].size(), of::at(lent[0]), lent[0].size(), of::at(lent[1]),
                                                 lent[1].size(), of::at(lent[2]), lent[2].size(), of::at(lent[3]), lent[3].size(),
                                                 out.data(), out.size(), &out_count, err.data(), err.size(), &err_count);

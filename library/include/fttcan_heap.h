@@ -5,8 +5,7 @@
  * library's until it is given back. */
 #ifndef FTTCAN_HEAP_H
 #define FTTCAN_HEAP_H
-#include <stddef.h>
-#include <stdint.h>
+#include "fttcan.h"
 #ifdef __cplusplus
 extern "C" {
 #endif
@@ -19,11 +18,11 @@ typedef struct {
 } fttcan_heap_block;
 
 /* A new block of `size` bytes, of `align` bytes if the size is 0. The alignment divides 16, and the size is below 2^63. */
-fttcan_heap_block fttcan_heap_alloc(size_t size, size_t align);
+fttcan_heap_block fttcan_heap_alloc(fttcan_size size, fttcan_size align);
 
 /* Makes the block at `at` one of `size` bytes, of `align` bytes if the size is 0. It may move. Its first `kept` bytes
  * stay. If it can't, the block is as it was. */
-fttcan_heap_block fttcan_heap_realloc(void *at, size_t kept, size_t size, size_t align);
+fttcan_heap_block fttcan_heap_realloc(void *at, fttcan_size kept, fttcan_size size, fttcan_size align);
 
 /* Takes back a block. */
 void fttcan_heap_free(void *at);

@@ -3,21 +3,21 @@
  *     audit SYSTEM STEPS LOG [REQUESTS] */
 #include "support.h"
 
-static uint8_t *read_all(const char *path, size_t *len) {
+static uint8_t *read_all(const char *path, fttcan_size *len) {
     FILE *file = fopen(path, "rb");
     uint8_t *bytes;
     long size;
     if (file == NULL || fseek(file, 0, SEEK_END) || (size = ftell(file)) < 0 || fseek(file, 0, SEEK_SET)
-        || (bytes = malloc((size_t)size + 1)) == NULL || fread(bytes, 1, (size_t)size, file) != (size_t)size)
+        || (bytes = malloc((fttcan_size)size + 1)) == NULL || fread(bytes, 1, (fttcan_size)size, file) != (fttcan_size)size)
         exit(99);
     fclose(file);
-    *len = (size_t)size;
+    *len = (fttcan_size)size;
     return bytes;
 }
 
 int main(int count, char **words) {
     uint8_t *files[4];
-    size_t lens[4] = {0, 0, 0, 0};
+    fttcan_size lens[4] = {0, 0, 0, 0};
     uint64_t row = 0;
     uint32_t status;
     int place;

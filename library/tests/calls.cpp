@@ -33,6 +33,8 @@ static_assert(!std::is_copy_constructible<fttcan::master>::value, "a master is n
 static_assert(!std::is_copy_assignable<fttcan::standby>::value, "a standby is not copied");
 static_assert(std::is_nothrow_move_constructible<fttcan::master>::value, "a master is moved");
 static_assert(std::is_nothrow_move_assignable<fttcan::planned>::value, "a planned change is moved");
+static_assert(!std::is_copy_constructible<fttcan::node>::value, "a node is not copied");
+static_assert(std::is_nothrow_move_assignable<fttcan::node>::value, "a node is moved");
 static_assert(sizeof(fttcan::snapshot) == sizeof(void *), "a snapshot is its handle");
 
 const fttcan_rules rules = {10000, 540, 5, 40, FTTCAN_RM, FTTCAN_PREFIX};
@@ -149,6 +151,74 @@ void of_frames() {
     WANT(throws<fttcan::bad_argument>([&] { fttcan::async_bound({1000, 30, 135, 40}, streams, 2); }));
 }
 
+void of_node() {
+    const std::vector<fttcan_owner> owners = {{0x210, 1}};
+    const std::vector<fttcan_placed> table = {{0, 0, first.entry, 0}, {0, 0, {0, 1, 1, 6, 1, 0, 0}, 0}};
+    const fttcan_op more = {FTTCAN_ADD, {0, 4, 1, 7, 1, 0, 0}};
+    fttcan::node n({1000, 20, 400, 40}, {1, 2, 1, 1, 0}, owners);
+    WANT(throws<fttcan::bad_argument>([&] { fttcan::node none({1000, 20, 400, 41}, {1, 2, 1, 1, 0}, owners); }));
+    n.learn(table);
+    const std::vector<fttcan_placed> longer = fttcan::apply(table, 3, std::vector<fttcan_op>{more});
+    WANT(longer.size() == 3 && longer[2].origin == 3);
+    WANT(throws<fttcan::full>([&] { n.learn(longer); }));
+    WANT(throws<fttcan::not_accepted>([&] { fttcan::apply(table, 3, std::vector<fttcan_op>{first}); }));
+    n.go_to(0);
+    WANT(throws<fttcan::bad_argument>([&] { n.go_to(~std::uint64_t{0}); }));
+    const fttcan_trigger trigger = {{0x60, 0}, 0, 190};
+    WANT(!n.opened() && n.trigger(fttcan::encode(40, trigger)[0]) == FTTCAN_OPENED && n.opened()->window == 190 && n.next() == 1);
+    fttcan_frame request{0x210, 1, {9, 0, 0, 0, 0, 0, 0, 0}};
+    WANT(n.put(request) && !n.put(request) && n.waiting(0x210) == 1);
+    request.id = 0x211;
+    WANT(throws<fttcan::bad_argument>([&] { n.put(request); }));
+    /* The asynchronous window opens at 155; the synchronous one begins at 810, and 65 bits end there from 745 on. */
+    WANT(n.wake(0) == std::uint64_t{155} && !n.offered(154) && n.offered(155)->id == 0x210 && n.offered(155)->until == 745);
+    WANT(n.frame_of(155, 0x210)->bytes[0] == 9 && !n.frame_of(155, 0x105) && !n.load(155, 0x105));
+    const fttcan_ticket ticket = n.load(155, 0x210)->ticket;
+    WANT(!n.offered(155) && !n.drop(0x210) && n.withdrawn(ticket) && !n.withdrawn(ticket) && n.sent(ticket) && !n.sent(ticket));
+    const std::vector<std::uint8_t> data = {1, 2, 3, 4, 5, 6, 7, 8};
+    n.set(5, data);
+    WANT(throws<fttcan::bad_argument>([&] { n.set(40, data); }));
+    WANT(n.due().low == 0x60 && n.slot_due(5)->start == 810 && n.slot_due(5)->last == 865 && !n.slot_due(7));
+    WANT(n.slot_frame(5)->bytes[7] == 8 && !n.slot_frame(7) && !n.wake(945));
+    fttcan::node other = std::move(n);
+    WANT(!n && other && throws<fttcan::closed>([&] { n.due(); }) && other.due().low == 0x60);
+}
+
+void of_reserve() {
+    WANT(fttcan::reserve(2) == 326 && fttcan::reserve(1, 0) == 83 && fttcan::errors_within(325) == 1);
+    WANT(throws<fttcan::bad_argument>([&] { fttcan::reserve(1, 9); }));
+    fttcan::master m(rules);
+    fttcan::standby s(rules);
+    m.submit(1, 0, {first});
+    s.change(1, 0, {first});
+    const std::vector<fttcan_frame> frames = fttcan::encode_reserved(40, m.open(), 326);
+    WANT(fttcan::decode(40, frames).window == 461);
+    WANT((throws<fttcan::not_followed>([&] { s.trigger(frames); }, [](const fttcan::not_followed &f) { return f.why.kind == 2; })));
+    WANT((throws<fttcan::not_followed>([&] { s.trigger_reserved(325, frames); })));
+    s.trigger_reserved(326, frames);
+    WANT(s.next() == 1);
+}
+
+void of_changes() {
+    const std::vector<fttcan_op> ops = {first, {FTTCAN_REMOVE, {0, 0, 0, 9, 0, 0, 0}}};
+    const std::vector<fttcan_placed> table = {{7, 9, first.entry, 1}};
+    fttcan::collector c(1);
+    std::optional<fttcan_told> told;
+    for (const fttcan_frame &frame : fttcan::encode_change(0x7EF, 3, 12, ops))
+        told = c.hear(frame);
+    WANT(told && told->kind == FTTCAN_TELLS_CHANGE && told->number == 3 && told->start == 12 && c.ops().size() == 2 && c.ops()[1].kind == FTTCAN_REMOVE);
+    WANT(throws<fttcan::bad_text>([&] { c.table(); }));
+    told.reset();
+    for (const fttcan_frame &frame : fttcan::encode_table(0x7EF, 4, table))
+        told = c.hear(frame);
+    WANT(told && told->kind == FTTCAN_TELLS_TABLE && told->number == 4 && c.table().size() == 1 && c.table()[0].end == 9);
+    WANT(throws<fttcan::full>([&] {
+        for (const fttcan_frame &frame : fttcan::encode_table(0x7EF, 5, std::vector<fttcan_placed>(10, table[0])))
+            c.hear(frame);
+    }));
+    WANT(throws<fttcan::bad_argument>([&] { fttcan::encode_change(0x1FF, 3, 12, ops); }));
+}
+
 } // namespace
 
 int main() {
@@ -158,6 +228,9 @@ int main() {
     of_standby();
     of_pair();
     of_frames();
+    of_node();
+    of_reserve();
+    of_changes();
     if (wrong)
         std::printf("calls.cpp: %d wrong\n", wrong);
     return wrong != 0;

@@ -10,9 +10,9 @@ static void is_accepted(const fttcan_verdict *verdict, uint64_t from, uint64_t l
 }
 
 static void of_apart(void) {
-    fttcan_master m = {NULL};
-    fttcan_snapshot apart = {NULL}, second = {NULL};
-    fttcan_planned planned = {NULL}, later = {NULL};
+    fttcan_master m = {0};
+    fttcan_snapshot apart = {0}, second = {0};
+    fttcan_planned planned = {0}, later = {0};
     fttcan_verdict v = {0, 0, 0, 0, 0, 0, 0};
     fttcan_order order;
     fttcan_op op = first;
@@ -48,9 +48,9 @@ static void of_apart(void) {
 
 /* A plan that was made for one master settles with another one: it is planned anew where the two differ. */
 static void of_another(void) {
-    fttcan_master m = {NULL}, other = {NULL};
-    fttcan_snapshot apart = {NULL};
-    fttcan_planned planned = {NULL};
+    fttcan_master m = {0}, other = {0};
+    fttcan_snapshot apart = {0};
+    fttcan_planned planned = {0};
     fttcan_verdict v = {0, 0, 0, 0, 0, 0, 0};
     STATUS(FTTCAN_OK, fttcan_master_new(&m, &rules));
     STATUS(FTTCAN_OK, fttcan_master_new(&other, &rules));
@@ -66,9 +66,9 @@ static void of_another(void) {
 /* What each call of a change that is planned apart answers where a handle holds nothing, or something else. Then all is as
  * before. A full handle comes first, then an empty one, and then the other arguments. */
 static void of_refusals(void) {
-    fttcan_master m = {NULL}, empty = {NULL};
-    fttcan_snapshot apart = {NULL}, none = {NULL};
-    fttcan_planned planned = {NULL}, unplanned = {NULL};
+    fttcan_master m = {0}, empty = {0};
+    fttcan_snapshot apart = {0}, none = {0};
+    fttcan_planned planned = {0}, unplanned = {0};
     fttcan_verdict v = {9, 9, 9, 9, 9, 9, 9};
     fttcan_op odd = first;
     void *at;

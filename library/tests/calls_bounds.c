@@ -4,8 +4,36 @@
 
 static const fttcan_layout layout = {1000, 30, 135, 40};
 
+/* The reserve of docs/LIBRARY.md: 55 + 10n bit times of a frame, and 28 of the recovery, for each disturbance. */
+static void of_reserves(void) {
+    static const uint32_t cost[9] = {83, 93, 103, 113, 123, 133, 143, 153, 163};
+    uint32_t bits = 7, errors = 7;
+    uint8_t bytes;
+    for (bytes = 0; bytes < 9; bytes++) {
+        STATUS(FTTCAN_OK, fttcan_reserve(1, bytes, &bits));
+        WANT(bits == cost[bytes]);
+        STATUS(FTTCAN_OK, fttcan_reserve(0, bytes, &bits));
+        WANT(bits == 0);
+        STATUS(FTTCAN_OK, fttcan_reserve(65535, bytes, &bits));
+        WANT(bits == 65535 * cost[bytes]);
+        STATUS(FTTCAN_OK, fttcan_errors_within(bits, bytes, &errors));
+        WANT(errors == 65535);
+        STATUS(FTTCAN_OK, fttcan_errors_within(bits - 1, bytes, &errors));
+        WANT(errors == 65534);
+        STATUS(FTTCAN_OK, fttcan_errors_within(cost[bytes] - 1, bytes, &errors));
+        WANT(errors == 0);
+        STATUS(FTTCAN_OK, fttcan_errors_within(UINT32_MAX, bytes, &errors));
+        WANT(errors == UINT32_MAX / cost[bytes]);
+    }
+    bits = errors = 7;
+    STATUS(FTTCAN_ARGUMENT, fttcan_reserve(1, 9, &bits));
+    STATUS(FTTCAN_ARGUMENT, fttcan_reserve(0, 255, &bits));
+    STATUS(FTTCAN_ARGUMENT, fttcan_errors_within(500, 9, &errors));
+    WANT(bits == 7 && errors == 7);
+}
+
 /* The bound of a stream, and 0 where it has none. */
-static uint64_t bound(const fttcan_layout *of, const fttcan_stream *streams, size_t count, size_t which) {
+static uint64_t bound(const fttcan_layout *of, const fttcan_stream *streams, fttcan_size count, fttcan_size which) {
     uint64_t start = 0;
     const uint32_t status = fttcan_async_bound(of, streams, count, which, &start);
     if (status == FTTCAN_NO)
@@ -66,7 +94,7 @@ static void of_ranges(void) {
     static fttcan_stream many[2049];
     fttcan_layout bad = layout;
     uint64_t start = 9;
-    size_t place;
+    fttcan_size place;
     STATUS(FTTCAN_OK, changed(9000, 1, 0x200, 8));
     STATUS(FTTCAN_ARGUMENT, changed(0, 1, 0x200, 8));
     STATUS(FTTCAN_ARGUMENT, changed((uint64_t)1 << 32, 1, 0x200, 8));
@@ -94,6 +122,7 @@ static void of_ranges(void) {
 }
 
 int main(void) {
+    of_reserves();
     of_one();
     of_some();
     of_ranges();

@@ -7,7 +7,7 @@ static void of_frames(void) {
     fttcan_frame frames[3];
     uint8_t bits[FTTCAN_MOST_FRAME_BITS], payload[8];
     uint32_t length = 9;
-    size_t count = 9, place;
+    fttcan_size count = 9, place;
     memset(frames, 0, sizeof frames);
     STATUS(FTTCAN_OK, fttcan_wire_length(0, data, 8, &length));
     WANT(length == 124);

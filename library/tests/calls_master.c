@@ -17,8 +17,8 @@ static void of_version(void) {
 
 /* Each rule out of its range. */
 static void of_rules(void) {
-    fttcan_master m = {NULL};
-    size_t place;
+    fttcan_master m = {0};
+    fttcan_size place;
     fttcan_rules bad[12];
     for (place = 0; place < 12; place++)
         bad[place] = rules;
@@ -42,16 +42,16 @@ static void of_rules(void) {
 
 /* A handle that holds nothing. */
 static void of_closed(void) {
-    fttcan_master m = {NULL};
-    fttcan_snapshot apart = {NULL};
-    fttcan_planned planned = {NULL};
+    fttcan_master m = {0};
+    fttcan_snapshot apart = {0};
+    fttcan_planned planned = {0};
     fttcan_verdict v = {9, 9, 9, 9, 9, 9, 9};
     fttcan_order order = {9, {9, 9}, 9, 9};
     fttcan_mask mask = {9, 9};
     fttcan_placed room;
     fttcan_rules told = rules;
     uint64_t cycle = 9;
-    size_t count = 9;
+    fttcan_size count = 9;
     uint8_t byte = 9;
     STATUS(FTTCAN_CLOSED, fttcan_master_submit(&m, 1, 0, &first, 1, &v));
     STATUS(FTTCAN_CLOSED, fttcan_master_trail(&m, &mask, 1, &count));
@@ -80,13 +80,13 @@ static void of_closed(void) {
 /* The first three cycles of the first change, and refusals. */
 static void of_master(void) {
     static const uint64_t flags[3] = {0x20, 0, 0x20};
-    fttcan_master m = {NULL};
+    fttcan_master m = {0};
     fttcan_verdict v = {0, 0, 0, 0, 0, 0, 0};
     fttcan_order order = {0, {0, 0}, 0, 0};
     fttcan_placed room[2];
     fttcan_op op = first;
     uint64_t cycle = 0;
-    size_t count = 0;
+    fttcan_size count = 0;
     unsigned place;
     STATUS(FTTCAN_OK, fttcan_master_new(&m, &rules));
     STATUS(FTTCAN_OPEN, fttcan_master_new(&m, &rules));
@@ -130,11 +130,11 @@ static void of_master(void) {
 static void of_trail(void) {
     static const uint64_t wanted[6] = {1, 2, 4, 1, 2, 4};
     static const fttcan_rules narrow = {10000, 135, 1, 40, FTTCAN_RM, FTTCAN_PREFIX};
-    fttcan_master m = {NULL};
+    fttcan_master m = {0};
     fttcan_verdict v = {0, 0, 0, 0, 0, 0, 0};
     fttcan_mask trail[6];
     fttcan_op ops[4];
-    size_t count = 1, place;
+    fttcan_size count = 1, place;
     char words[160];
     memset(ops, 0, sizeof ops);
     for (place = 0; place < 4; place++)
@@ -177,11 +177,11 @@ static void of_trail(void) {
 
 static void of_certificate(void) {
     static const char wanted[] = "fttcan plan 2\nfrom 1\npending 0000000000\nfirst 1\nlength 2\n0000000000 1\n0000000020 1\nend\n";
-    fttcan_master m = {NULL};
+    fttcan_master m = {0};
     fttcan_verdict v = {0, 0, 0, 0, 0, 0, 0};
     fttcan_order order;
     uint8_t text[256];
-    size_t len = 0;
+    fttcan_size len = 0;
     STATUS(FTTCAN_OK, fttcan_master_new(&m, &rules));
     STATUS(FTTCAN_OK, fttcan_master_submit(&m, 1, 0, &first, 1, &v));
     STATUS(FTTCAN_OK, fttcan_master_open(&m, &order));
@@ -194,11 +194,11 @@ static void of_certificate(void) {
 
 static void of_save(void) {
     fttcan_rules told;
-    fttcan_master m = {NULL}, other = {NULL};
+    fttcan_master m = {0}, other = {0};
     fttcan_verdict v = {0, 0, 0, 0, 0, 0, 0};
     fttcan_order order, again;
     uint8_t bytes[4096];
-    size_t len = 0, place;
+    fttcan_size len = 0, place;
     STATUS(FTTCAN_OK, fttcan_master_new(&m, &rules));
     STATUS(FTTCAN_OK, fttcan_master_submit(&m, 1, 0, &first, 1, &v));
     STATUS(FTTCAN_OK, fttcan_master_open(&m, &order));

@@ -16,7 +16,7 @@ static void of_pair(void) {
     fttcan_placed table[2], twice[2];
     fttcan_plan plan = {{0, 0}, 0};
     fttcan_op op = first;
-    size_t count = 9;
+    fttcan_size count = 9;
     memset(table, 0, sizeof table);
     STATUS(FTTCAN_ROOM, fttcan_decide(&rules, twice, 0, &state, 0, &first, 1, &v, table, 0, &count));
     WANT(count == 1);
@@ -78,7 +78,7 @@ static void of_check(void) {
         {"", 135, FTTCAN_TEXT, 9, 9, 1, 9},
     };
     fttcan_placed table[1];
-    size_t place;
+    fttcan_size place;
     memset(table, 0, sizeof table);
     table[0].entry = first.entry;
     for (place = 0; place < sizeof cases / sizeof cases[0]; place++) {
@@ -100,7 +100,7 @@ static void of_rules(void) {
     fttcan_plan plan = {{7, 7}, 7};
     fttcan_verdict v = {7, 7, 7, 7, 7, 7, 7};
     fttcan_placed room[1];
-    size_t place, count = 7;
+    fttcan_size place, count = 7;
     for (place = 0; place < 3; place++)
         bad[place] = rules;
     bad[0].window = 54;

@@ -10,8 +10,8 @@ static void is_accepted(const fttcan_verdict *verdict, uint64_t from, uint64_t l
 }
 
 static void of_closed_standby(void) {
-    fttcan_standby s = {NULL};
-    fttcan_master m = {NULL};
+    fttcan_standby s = {0};
+    fttcan_master m = {0};
     fttcan_verdict v = {9, 9, 9, 9, 9, 9, 9};
     fttcan_follow fault;
     fttcan_frame frame;
@@ -28,16 +28,16 @@ static void of_closed_standby(void) {
 }
 
 static void of_standby(void) {
-    fttcan_standby s = {NULL}, other = {NULL};
+    fttcan_standby s = {0}, other = {0};
     fttcan_rules bad = rules;
-    fttcan_master m = {NULL};
+    fttcan_master m = {0};
     fttcan_verdict v = {0, 0, 0, 0, 0, 0, 0};
     fttcan_follow fault;
     fttcan_trigger trigger = {{0x20, 0}, 0, 135};
     fttcan_frame frame, three[3];
     fttcan_op op = first;
     fttcan_order order = {0, {0, 0}, 0, 0};
-    size_t count = 0;
+    fttcan_size count = 0;
     uint64_t next = 9;
     memset(&frame, 0, sizeof frame);
     memset(&fault, 0, sizeof fault);
@@ -102,8 +102,82 @@ static void of_standby(void) {
     fttcan_master_free(&m);
 }
 
+/* A master that adds a reserve of two disturbances to its windows, and a standby that takes it off. */
+static void of_reserve(void) {
+    fttcan_standby s = {0};
+    fttcan_verdict v;
+    fttcan_follow fault;
+    fttcan_trigger trigger = {{0x20, 0}, 0, 135}, said;
+    fttcan_frame frame, other, frames[2];
+    fttcan_size count = 9;
+    uint64_t next = 9;
+    memset(&fault, 0, sizeof fault);
+    memset(&frame, 0, sizeof frame);
+    STATUS(FTTCAN_CLOSED, fttcan_standby_trigger_reserved(&s, 326, &frame, 1, &fault));
+    STATUS(FTTCAN_OK, fttcan_standby_new(&s, &rules));
+    STATUS(FTTCAN_OK, fttcan_standby_change(&s, 1, 0, &first, 1, &v));
+    STATUS(FTTCAN_OK, fttcan_trigger_encode_reserved(40, &trigger, 326, &frame, 1, &count));
+    WANT(count == 1);
+    STATUS(FTTCAN_OK, fttcan_trigger_decode(40, &frame, 1, &said));
+    WANT(said.window == 461 && said.flags.low == 0x20 && said.flags.high == 0 && said.cycle == 0);
+    /* The reserve is missing, another one is expected, or there is none in the trigger. */
+    STATUS(FTTCAN_NO, fttcan_standby_trigger(&s, &frame, 1, &fault));
+    WANT(fault.kind == 2 && fault.first == 461 && fault.second == 135);
+    STATUS(FTTCAN_NO, fttcan_standby_trigger_reserved(&s, 325, &frame, 1, &fault));
+    WANT(fault.kind == 2 && fault.first == 461 && fault.second == 460);
+    STATUS(FTTCAN_NO, fttcan_standby_trigger_reserved(&s, 327, &frame, 1, &fault));
+    WANT(fault.second == 462);
+    STATUS(FTTCAN_NO, fttcan_standby_trigger_reserved(&s, UINT32_MAX, &frame, 1, &fault));
+    WANT(fault.kind == 2 && fault.second == UINT64_C(4294967430));
+    STATUS(FTTCAN_OK, fttcan_trigger_encode(40, &trigger, &other, 1, &count));
+    STATUS(FTTCAN_NO, fttcan_standby_trigger_reserved(&s, 326, &other, 1, &fault));
+    WANT(fault.first == 135 && fault.second == 461);
+    frames[0] = frames[1] = frame;
+    STATUS(FTTCAN_NO, fttcan_standby_trigger_reserved(&s, 326, frames, 2, &fault));
+    WANT(fault.kind == 0 && fault.first == 0);
+    frames[0].len = 9;
+    fault.kind = 9;
+    STATUS(FTTCAN_ARGUMENT, fttcan_standby_trigger_reserved(&s, 326, frames, 1, &fault));
+    STATUS(FTTCAN_OK, fttcan_standby_next(&s, &next));
+    WANT(next == 0 && fault.kind == 9);
+    STATUS(FTTCAN_OK, fttcan_standby_trigger_reserved(&s, 326, &frame, 1, &fault));
+    STATUS(FTTCAN_OK, fttcan_standby_next(&s, &next));
+    WANT(next == 1);
+    /* A cycle without a flag has the reserve all the same, and without a reserve both calls are one. */
+    trigger.cycle = 1;
+    trigger.flags.low = 0;
+    trigger.window = 0;
+    STATUS(FTTCAN_OK, fttcan_trigger_encode_reserved(40, &trigger, 326, &frame, 1, &count));
+    STATUS(FTTCAN_OK, fttcan_standby_trigger_reserved(&s, 326, &frame, 1, &fault));
+    trigger.cycle = 2;
+    trigger.flags.low = 0x20;
+    trigger.window = 135;
+    STATUS(FTTCAN_OK, fttcan_trigger_encode_reserved(40, &trigger, 0, &frame, 1, &count));
+    STATUS(FTTCAN_OK, fttcan_standby_trigger_reserved(&s, 0, &frame, 1, &fault));
+    /* Window and reserve together. */
+    count = 9;
+    trigger.window = 16383;
+    STATUS(FTTCAN_ARGUMENT, fttcan_trigger_encode_reserved(40, &trigger, 1, &frame, 1, &count));
+    STATUS(FTTCAN_ARGUMENT, fttcan_trigger_encode_reserved(40, &trigger, UINT32_MAX, &frame, 1, &count));
+    trigger.window = UINT32_MAX;
+    STATUS(FTTCAN_ARGUMENT, fttcan_trigger_encode_reserved(40, &trigger, 1, &frame, 1, &count));
+    trigger.window = 0;
+    STATUS(FTTCAN_ARGUMENT, fttcan_trigger_encode_reserved(40, &trigger, 16384, &frame, 1, &count));
+    STATUS(FTTCAN_ARGUMENT, fttcan_trigger_encode_reserved(41, &trigger, 1, &frame, 1, &count));
+    trigger.flags.high = 1;
+    STATUS(FTTCAN_ARGUMENT, fttcan_trigger_encode_reserved(40, &trigger, 1, &frame, 1, &count));
+    WANT(count == 9);
+    STATUS(FTTCAN_ROOM, fttcan_trigger_encode_reserved(96, &trigger, 16383, &frame, 1, &count));
+    WANT(count == 2);
+    STATUS(FTTCAN_OK, fttcan_trigger_encode_reserved(96, &trigger, 16383, frames, 2, &count));
+    STATUS(FTTCAN_OK, fttcan_trigger_decode(96, frames, 2, &said));
+    WANT(said.window == 16383 && said.flags.high == 1 && said.cycle == 2);
+    fttcan_standby_free(&s);
+}
+
 int main(void) {
     of_closed_standby();
     of_standby();
+    of_reserve();
     return ended("calls_standby");
 }

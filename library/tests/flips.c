@@ -6,7 +6,7 @@
 static fttcan_master made(unsigned entries) {
     static const uint16_t periods[] = {4, 5, 8, 10, 20, 40};
     const fttcan_rules rules = {1000, 2000, 5, 96, FTTCAN_EDF, FTTCAN_SKIP};
-    fttcan_master m = {NULL};
+    fttcan_master m = {0};
     fttcan_order order;
     fttcan_verdict v = {0, 0, 0, 0, 0, 0, 0};
     unsigned n;
@@ -24,11 +24,11 @@ static fttcan_master made(unsigned entries) {
 }
 
 /* What bytes give: refused, or a master that opens cycles and saves itself as bytes that restore. */
-static int is_master(const uint8_t *bytes, size_t len) {
+static int is_master(const uint8_t *bytes, fttcan_size len) {
     static uint8_t again[1 << 16];
-    fttcan_master m = {NULL}, other = {NULL};
+    fttcan_master m = {0}, other = {0};
     fttcan_order order = {0, {0, 0}, 0, 0};
-    size_t saved = 0;
+    fttcan_size saved = 0;
     unsigned cycle;
     const uint32_t status = fttcan_master_restore(&m, bytes, len);
     if (status != FTTCAN_OK) {
@@ -50,20 +50,20 @@ static int is_master(const uint8_t *bytes, size_t len) {
 int main(int count, char **words) {
     static uint8_t bytes[1 << 16];
     fttcan_master m = made(count > 1 ? (unsigned)atoi(words[1]) : 8);
-    size_t len = 0, bit, round, taken = 0;
+    fttcan_size len = 0, bit, round, taken = 0;
     uint64_t seed = 88172645463325252u;
     STATUS(FTTCAN_OK, fttcan_master_save(&m, bytes, sizeof bytes, &len));
     fttcan_master_free(&m);
     WANT(is_master(bytes, len));
     for (bit = 0; bit < 8 * len && !wrong; bit++) {
         bytes[bit / 8] ^= (uint8_t)(1u << bit % 8);
-        taken += (size_t)is_master(bytes, len);
+        taken += (fttcan_size)is_master(bytes, len);
         bytes[bit / 8] ^= (uint8_t)(1u << bit % 8);
     }
-    printf("%zu bytes: %zu of %zu turned bits give another state\n", len, taken, 8 * len);
+    printf("%" PRIu64 " bytes: %" PRIu64 " of %" PRIu64 " turned bits give another state\n", len, taken, 8 * len);
     for (round = 0; round < 2000 && !wrong; round++) {
         static uint8_t other[1 << 16];
-        size_t place, spoiled = 1 + round % 4;
+        fttcan_size place, spoiled = 1 + round % 4;
         memcpy(other, bytes, len);
         for (place = 0; place < spoiled; place++) {
             seed ^= seed << 13;

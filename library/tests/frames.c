@@ -2,9 +2,9 @@
  * bits and read from them again; with one bit turned, or one bit short, it is none, or another one. */
 #include "support.h"
 
-static void turned(const uint8_t *bits, size_t count, const fttcan_frame *frame) {
+static void turned(const uint8_t *bits, fttcan_size count, const fttcan_frame *frame) {
     uint8_t other[FTTCAN_MOST_FRAME_BITS];
-    size_t turn, place;
+    fttcan_size turn, place;
     for (turn = 0; turn < count; turn++) {
         fttcan_frame found;
         uint32_t status;
@@ -19,7 +19,7 @@ static void turned(const uint8_t *bits, size_t count, const fttcan_frame *frame)
     }
     for (place = 0; place < count; place += 7) {
         fttcan_frame found;
-        size_t where = 0;
+        fttcan_size where = 0;
         STATUS(FTTCAN_TEXT, fttcan_read_wire(bits, place, &found, &where));
         WANT(where == place);
     }
@@ -28,7 +28,7 @@ static void turned(const uint8_t *bits, size_t count, const fttcan_frame *frame)
 static void one(uint32_t length, const fttcan_frame *frame, int is_whole) {
     uint8_t bits[FTTCAN_MOST_FRAME_BITS + 1];
     uint32_t said = 0;
-    size_t count = 0, place = 0;
+    fttcan_size count = 0, place = 0;
     fttcan_frame read;
     memset(&read, 0, sizeof read);
     STATUS(FTTCAN_OK, fttcan_wire_length(frame->id, frame->bytes, frame->len, &said));

@@ -40,7 +40,7 @@ void *memset(void *to, int byte, size_t count) {
     return to;
 }
 
-fttcan_heap_block fttcan_heap_alloc(size_t size, size_t align) {
+fttcan_heap_block fttcan_heap_alloc(fttcan_size size, fttcan_size align) {
     fttcan_heap_block block = {0, arena};
     const size_t all = rounded(size ? size : align);
     if (all > ARENA - used)
@@ -52,7 +52,7 @@ fttcan_heap_block fttcan_heap_alloc(size_t size, size_t align) {
     return block;
 }
 
-fttcan_heap_block fttcan_heap_realloc(void *at, size_t kept, size_t size, size_t align) {
+fttcan_heap_block fttcan_heap_realloc(void *at, fttcan_size kept, fttcan_size size, fttcan_size align) {
     fttcan_heap_block block;
     if (at == last && rounded(size ? size : align) <= ARENA - (size_t)(last - arena)) {
         used = (size_t)(last - arena) + rounded(size ? size : align);

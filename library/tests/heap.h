@@ -29,6 +29,25 @@ static int is_refused(void) {
     return 1;
 }
 
+/* New memory for a head, so many bytes and a tail, aligned to 16 whatever malloc does, or null. The head has the size in its
+ * first half, and in its second one where the memory begins. */
+static unsigned char *new_whole(size_t all) {
+    unsigned char *begin = malloc(HEAD + all + TAIL + 15), *whole;
+    if (begin == NULL)
+        return NULL;
+    whole = begin + (16 - (uintptr_t)begin % 16) % 16;
+    memcpy(whole + HEAD / 2, &begin, sizeof begin);
+    return whole;
+}
+
+/* Gives back the memory of a block, of which nothing is left. */
+static void give_whole(void *at, size_t size) {
+    unsigned char *begin;
+    memcpy(&begin, (unsigned char *)at - HEAD / 2, sizeof begin);
+    memset((unsigned char *)at - HEAD, 0xEE, HEAD + size);
+    free(begin);
+}
+
 static unsigned char *with_head(unsigned char *whole, size_t size, size_t new_from) {
     memcpy(whole, &size, sizeof size);
     if (new_from < size)
@@ -48,29 +67,28 @@ static size_t size_of(const unsigned char *at) {
     return size;
 }
 
-fttcan_heap_block fttcan_heap_alloc(size_t size, size_t align) {
+fttcan_heap_block fttcan_heap_alloc(fttcan_size size, fttcan_size align) {
     fttcan_heap_block block = {1, NULL};
     size_t all = size ? size : align;
     unsigned char *whole;
     WANT(align == 1 || align == 2 || align == 4 || align == 8 || align == 16);
-    if (is_refused() || (whole = malloc(HEAD + all + TAIL)) == NULL)
+    if (is_refused() || (whole = new_whole(all)) == NULL)
         return refused_block();
     taken++;
     block.at = with_head(whole, all, 0);
     return block;
 }
 
-fttcan_heap_block fttcan_heap_realloc(void *at, size_t kept, size_t size, size_t align) {
+fttcan_heap_block fttcan_heap_realloc(void *at, fttcan_size kept, fttcan_size size, fttcan_size align) {
     fttcan_heap_block block = {1, NULL};
     size_t all = size ? size : align, old = size_of(at);
     unsigned char *whole;
     WANT(kept <= old && kept <= all);
-    if (is_refused() || (whole = malloc(HEAD + all + TAIL)) == NULL)
+    if (is_refused() || (whole = new_whole(all)) == NULL)
         return refused_block();
     memcpy(whole + HEAD, at, kept);
     bytes_taken -= old;
-    memset((unsigned char *)at - HEAD, 0xEE, HEAD + old);
-    free((unsigned char *)at - HEAD);
+    give_whole(at, old);
     block.at = with_head(whole, all, kept);
     return block;
 }
@@ -79,7 +97,6 @@ void fttcan_heap_free(void *at) {
     size_t old = size_of(at);
     taken--;
     bytes_taken -= old;
-    memset((unsigned char *)at - HEAD, 0xEE, HEAD + old);
-    free((unsigned char *)at - HEAD);
+    give_whole(at, old);
 }
 #endif

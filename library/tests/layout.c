@@ -92,14 +92,56 @@ static void answers(void) {
     AT(fttcan_follow, kind, 48);
 }
 
+static void nodes(void) {
+    SIZE(fttcan_owner, 4, 2);
+    AT(fttcan_owner, id, 0);
+    AT(fttcan_owner, node, 2);
+    SIZE(fttcan_settings, 24, 8);
+    AT(fttcan_settings, room, 0);
+    AT(fttcan_settings, entries, 8);
+    AT(fttcan_settings, number, 16);
+    AT(fttcan_settings, tolerance, 17);
+    AT(fttcan_settings, silent, 18);
+    SIZE(fttcan_offer, 8, 4);
+    AT(fttcan_offer, until, 0);
+    AT(fttcan_offer, id, 4);
+    SIZE(fttcan_ticket, 24, 8);
+    AT(fttcan_ticket, cycle, 0);
+    AT(fttcan_ticket, number, 8);
+    AT(fttcan_ticket, id, 16);
+    SIZE(fttcan_loaded, 40, 8);
+    AT(fttcan_loaded, ticket, 0);
+    AT(fttcan_loaded, frame, 24);
+    AT(fttcan_loaded, users, 36);
+    SIZE(fttcan_due, 12, 4);
+    AT(fttcan_due, start, 0);
+    AT(fttcan_due, last, 4);
+    AT(fttcan_due, loaded, 8);
+    AT(fttcan_due, users, 9);
+    SIZE(fttcan_told, 16, 8);
+    AT(fttcan_told, start, 0);
+    AT(fttcan_told, number, 8);
+    AT(fttcan_told, count, 12);
+    AT(fttcan_told, kind, 14);
+    SIZE(fttcan_collected, 16, 4);
+    AT(fttcan_collected, parts, 0);
+    AT(fttcan_collected, wanted, 4);
+    AT(fttcan_collected, last, 8);
+    AT(fttcan_collected, number, 12);
+    AT(fttcan_collected, begun, 13);
+    AT(fttcan_collected, whole, 14);
+}
+
 int main(void) {
     numbers();
     table();
     answers();
+    nodes();
+    SIZE(fttcan_node, 8, 8);
     SIZE(fttcan_master, 8, 8);
     SIZE(fttcan_standby, 8, 8);
     SIZE(fttcan_snapshot, 8, 8);
     SIZE(fttcan_planned, 8, 8);
-    WANT(sizeof(size_t) == 8);
+    WANT(sizeof(fttcan_size) == 8);
     return ended("layout");
 }

@@ -41,7 +41,7 @@ typedef struct {
     fttcan_master master, saved, apart;
     fttcan_standby standby;
     fttcan_placed tables[2][MOST];
-    size_t count;
+    fttcan_size count;
     int current;
     fttcan_state state;
 } beside;
@@ -50,8 +50,8 @@ static beside all;
 static unsigned kinds[5];
 
 /* Whether a table has all of what another one has that is not over by a cycle; both in the order of their placing. */
-static int covers(const fttcan_placed *whole, size_t count, const fttcan_placed *part, size_t parts, uint64_t cycle) {
-    size_t at = 0, place;
+static int covers(const fttcan_placed *whole, fttcan_size count, const fttcan_placed *part, fttcan_size parts, uint64_t cycle) {
+    fttcan_size at = 0, place;
     for (place = 0; place < count; place++) {
         const fttcan_placed *p = &whole[place];
         if (at < parts && same_placed(p, &part[at]))
@@ -65,11 +65,11 @@ static int covers(const fttcan_placed *whole, size_t count, const fttcan_placed 
 static void submit(void) {
     fttcan_verdict verdict = {0, 0, 0, 0, 0, 0, 0}, other = verdict;
     fttcan_op ops[18];
-    size_t many = below(4) ? 1 : below(18), place, changed = 0;
+    fttcan_size many = below(4) ? 1 : below(18), place, changed = 0;
     uint64_t start = all.state.cycle + below(6), next = 0;
     const uint8_t caller = (uint8_t)(1 + below(8));
-    fttcan_snapshot apart = {NULL};
-    fttcan_planned planned = {NULL};
+    fttcan_snapshot apart = {0};
+    fttcan_planned planned = {0};
     if (start && !below(9))
         start--;
     memset(ops, 0, sizeof ops);
@@ -113,7 +113,7 @@ static void open_cycle(void) {
         fttcan_trigger trigger = {order.flags, order.cycle, order.window};
         fttcan_frame frames[2];
         fttcan_follow fault;
-        size_t count = 0;
+        fttcan_size count = 0;
         memset(frames, 0, sizeof frames);
         memset(&fault, 0, sizeof fault);
         STATUS(FTTCAN_OK, fttcan_trigger_encode(all.rules.slots, &trigger, frames, 2, &count));
@@ -123,7 +123,7 @@ static void open_cycle(void) {
 
 static void save(void) {
     static uint8_t bytes[1 << 18], again[1 << 18];
-    size_t len = 0, len_again = 0;
+    fttcan_size len = 0, len_again = 0;
     STATUS(FTTCAN_OK, fttcan_master_save(&all.saved, bytes, sizeof bytes, &len));
     fttcan_master_free(&all.saved);
     STATUS(FTTCAN_OK, fttcan_master_restore(&all.saved, bytes, len));
@@ -141,7 +141,7 @@ static void take_over(void) {
 
 static void compare(void) {
     static fttcan_placed table[MOST];
-    size_t count = 0;
+    fttcan_size count = 0;
     uint64_t next = 0;
     STATUS(FTTCAN_OK, fttcan_master_next(&all.master, &next));
     WANT(next == all.state.cycle);

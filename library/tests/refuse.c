@@ -4,13 +4,13 @@
 #include "heap.h"
 
 static const fttcan_rules rules = {1000, 540, 5, 40, FTTCAN_EDF, FTTCAN_SKIP};
-static unsigned long sum;      /* of all that the calls answered */
+static uint64_t sum;      /* of all that the calls answered */
 static long takes;             /* allocations of a whole round */
 
-static void add(const void *bytes, size_t count) {
+static void add(const void *bytes, fttcan_size count) {
     const unsigned char *at = bytes;
     while (count--)
-        sum = (sum ^ *at++) * 1099511628211u;
+        sum = (sum ^ *at++) * UINT64_C(1099511628211);
 }
 
 static void add_verdict(const fttcan_verdict *v) {
@@ -22,9 +22,9 @@ static void add_verdict(const fttcan_verdict *v) {
 }
 
 /* The state of a master, as bytes, in a room of this test. Its own allocations are not refused. */
-static size_t state_of(fttcan_master *m, uint8_t *room, size_t size) {
+static fttcan_size state_of(fttcan_master *m, uint8_t *room, fttcan_size size) {
     const long kept = until_refusal;
-    size_t len = 0;
+    fttcan_size len = 0;
     until_refusal = -1;
     if (m->at != NULL)
         STATUS(FTTCAN_OK, fttcan_master_save(m, room, size, &len));
@@ -40,7 +40,7 @@ static long done_without;
 #define TRY(wanted, master, call) \
     do { \
         static uint8_t before_[8192], after_[8192]; \
-        const size_t len_ = state_of((master), before_, sizeof before_); \
+        const fttcan_size len_ = state_of((master), before_, sizeof before_); \
         const long refused_ = refusals; \
         const uint32_t status_ = (call); \
         if (refusals != refused_ && status_ == FTTCAN_MEMORY) { \
@@ -71,7 +71,7 @@ static void of_master(fttcan_master *m, fttcan_standby *s) {
     fttcan_placed table[8];
     fttcan_op remove = {FTTCAN_REMOVE, {0, 0, 0, 6, 0, 0, 0}}, wide = {FTTCAN_ADD, {0, 1, 1, 9, 0, 8, 0}};
     uint64_t next = 0;
-    size_t count = 0, place;
+    fttcan_size count = 0, place;
     TRY(FTTCAN_OK, m, fttcan_master_new(m, &rules));
     TRY(FTTCAN_OK, m, fttcan_standby_new(s, &rules));
     TRY(FTTCAN_OK, m, fttcan_master_submit(m, 1, 0, ops, 2, &v));
@@ -110,9 +110,9 @@ static void of_master(fttcan_master *m, fttcan_standby *s) {
 static void of_texts(fttcan_master *m) {
     static uint8_t text[4096], bytes[4096], bits[FTTCAN_MOST_FRAME_BITS];
     fttcan_placed table[8];
-    fttcan_master other = {NULL};
+    fttcan_master other = {0};
     fttcan_breach breach = {0, 0, 0, 0};
-    size_t len = 0, saved = 0, count = 0;
+    fttcan_size len = 0, saved = 0, count = 0;
     TRY(FTTCAN_OK, m, fttcan_master_certificate(m, text, sizeof text, &len));
     add(text, len);
     TRY(FTTCAN_OK, m, fttcan_master_save(m, bytes, sizeof bytes, &saved));
@@ -128,7 +128,7 @@ static void of_texts(fttcan_master *m) {
 /* Settles a change that begins in cycle 12, for operator 4. Where memory ran out before, the planned change was let go, and
  * it is planned anew. */
 static uint32_t settled(fttcan_master *m, fttcan_planned *planned, const fttcan_op *op, fttcan_verdict *v) {
-    fttcan_snapshot apart = {NULL};
+    fttcan_snapshot apart = {0};
     if (planned->at == NULL) {
         STATUS(FTTCAN_OK, fttcan_master_snapshot(m, &apart));
         STATUS(FTTCAN_OK, fttcan_plan_apart(&apart, 12, op, 1, planned));
@@ -137,8 +137,8 @@ static uint32_t settled(fttcan_master *m, fttcan_planned *planned, const fttcan_
 }
 
 static void of_apart(fttcan_master *m) {
-    fttcan_snapshot apart = {NULL};
-    fttcan_planned planned = {NULL};
+    fttcan_snapshot apart = {0};
+    fttcan_planned planned = {0};
     fttcan_verdict v = {0, 0, 0, 0, 0, 0, 0};
     fttcan_op last = ops[2];
     fttcan_order order;
@@ -161,8 +161,8 @@ static void of_pair(void) {
     fttcan_plan plan = {{0, 0}, 0};
     fttcan_placed table[4], room[4];
     fttcan_verdict v = {0, 0, 0, 0, 0, 0, 0};
-    fttcan_master none = {NULL};
-    size_t count = 0;
+    fttcan_master none = {0};
+    fttcan_size count = 0;
     memset(table, 0, sizeof table);
     memset(room, 0, sizeof room);
     TRY(FTTCAN_OK, &none, fttcan_decide(&rules, table, 0, &state, 0, ops, 2, &v, room, 4, &count));
@@ -172,13 +172,65 @@ static void of_pair(void) {
     add(&plan.flags, sizeof plan.flags);
 }
 
+/* A node. Only its making and its learning take memory; what the second takes it gives back. */
+static void of_node(void) {
+    static const fttcan_layout layout = {1000, 20, 400, 40};
+    static const fttcan_settings settings = {3, 8, 1, 1, 0};
+    static const fttcan_owner owners[2] = {{0x210, 1}, {0x220, 2}};
+    fttcan_node n = {0};
+    fttcan_master none = {0};
+    fttcan_placed table[2] = {{0, 0, {0, 1, 1, 5, 1, 8, 0}, 0}, {0, 0, {0, 2, 1, 6, 1, 2, 0}, 0}}, room[4];
+    fttcan_trigger trigger = {{0x60, 0}, 0, 210};
+    fttcan_frame frame;
+    fttcan_loaded loaded;
+    fttcan_offer offer;
+    fttcan_due due;
+    fttcan_mask slots;
+    fttcan_size count = 0;
+    uint64_t number = 0;
+    uint8_t heard = 0;
+    long kept;
+    TRY(FTTCAN_OK, &none, fttcan_node_new(&n, &layout, &settings, owners, 2));
+    kept = taken;
+    TRY(FTTCAN_OK, &none, fttcan_node_learn(&n, table, 2));
+    WANT(taken == kept);
+    FREE(fttcan_node_go_to(&n, 0));
+    FREE(fttcan_trigger_encode_reserved(40, &trigger, 0, &frame, 1, &count));
+    FREE(fttcan_node_trigger(&n, &frame, 0, &heard));
+    FREE(fttcan_node_set(&n, 5, frame.bytes, 8));
+    frame.id = 0x210;
+    FREE(fttcan_node_put(&n, &frame));
+    FREE(fttcan_node_put(&n, &frame));
+    FREE(fttcan_node_put(&n, &frame));
+    FREE(fttcan_node_waiting(&n, 0x210, &count));
+    FREE(fttcan_node_wake(&n, 0, &number));
+    FREE(fttcan_node_offer(&n, number, &offer));
+    FREE(fttcan_node_frame(&n, number, offer.id, &frame));
+    FREE(fttcan_node_load(&n, number, offer.id, &loaded));
+    FREE(fttcan_node_withdrawn(&n, &loaded.ticket));
+    FREE(fttcan_node_drop(&n, 0x210));
+    FREE(fttcan_node_load(&n, number, offer.id, &loaded));
+    FREE(fttcan_node_sent(&n, &loaded.ticket));
+    FREE(fttcan_node_due(&n, &slots));
+    FREE(fttcan_node_slot_due(&n, 5, &due));
+    FREE(fttcan_node_slot_frame(&n, 5, &frame));
+    FREE(fttcan_node_next(&n, &number));
+    FREE(fttcan_node_opened(&n, &trigger));
+    WANT(taken == kept && slots.low == 0x60 && loaded.ticket.number == 1);
+    add(&loaded.ticket.number, 8);
+    TRY(FTTCAN_OK, &none, fttcan_apply(table, 2, 9, ops + 2, 1, room, 4, &count));
+    add(&room[2].origin, 8);
+    fttcan_node_free(&n);
+}
+
 static void play(void) {
-    fttcan_master m = {NULL};
-    fttcan_standby s = {NULL};
+    fttcan_master m = {0};
+    fttcan_standby s = {0};
     of_master(&m, &s);
     of_texts(&m);
     of_apart(&m);
     of_pair();
+    of_node();
     fttcan_master_free(&m);
     TRY(FTTCAN_OK, &m, fttcan_standby_take_over(&s, &m));
     fttcan_master_free(&m);
@@ -187,16 +239,16 @@ static void play(void) {
 }
 
 int main(void) {
-    unsigned long whole;
+    uint64_t whole;
     until_refusal = 1 << 30;
-    sum = 14695981039346656037u;
+    sum = UINT64_C(14695981039346656037);
     play();
     takes = (1 << 30) - until_refusal;
     whole = sum;
     for (long at = 0; at < takes && !wrong; at++) {
         refusals = 0;
         until_refusal = at;
-        sum = 14695981039346656037u;
+        sum = UINT64_C(14695981039346656037);
         play();
         WANT(refusals == 1);
         WANT(sum == whole);
@@ -204,6 +256,6 @@ int main(void) {
             printf("with allocation %ld refused\n", at);
     }
     until_refusal = -1;
-    printf("%ld allocations, each refused once, %ld of them without a trace; at most %zu bytes\n", takes, done_without, most_bytes);
+    printf("%ld allocations, each refused once, %ld of them without a trace; at most %lu bytes\n", takes, done_without, (unsigned long)most_bytes);
     return ended("refuse");
 }

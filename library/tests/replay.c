@@ -19,7 +19,7 @@ static unsigned long at_opened;
 static fttcan_master master;
 static fttcan_standby standby;
 static fttcan_placed tables[2][MOST_PLACED];
-static size_t placed_count;
+static fttcan_size placed_count;
 static int current;
 static fttcan_state state;
 static unsigned long opened;
@@ -45,7 +45,7 @@ static uint64_t next_cycle(void) {
 static void save_and_restore(void) {
     static uint8_t bytes[1 << 18];
     static fttcan_placed before[MOST_PLACED], after[MOST_PLACED];
-    size_t len = 0, count = 0, count_after = 0, place;
+    fttcan_size len = 0, count = 0, count_after = 0, place;
     fttcan_mask flags = {0, 0}, flags_after = {0, 0};
     uint64_t next = next_cycle();
     STATUS(FTTCAN_OK, fttcan_master_table(&master, before, MOST_PLACED, &count));
@@ -65,7 +65,7 @@ static void save_and_restore(void) {
 /* The plan from the next cycle on keeps the table. */
 static void certify(void) {
     static fttcan_placed table[MOST_PLACED];
-    size_t len = 0, count = 0;
+    fttcan_size len = 0, count = 0;
     uint8_t *text, none = 0;
     fttcan_breach breach = {0, 0, 0, 0};
     STATUS(FTTCAN_OK, fttcan_master_table(&master, table, MOST_PLACED, &count));
@@ -97,7 +97,7 @@ static void put_verdict(uint8_t caller, uint64_t from, const fttcan_verdict *ver
 
 static void put_trail(uint64_t from, const fttcan_verdict *verdict) {
     static fttcan_mask trail[MOST_TRAIL];
-    size_t count = 77, place;
+    fttcan_size count = 77, place;
     STATUS(FTTCAN_OK, fttcan_master_trail(&master, trail, MOST_TRAIL, &count));
     WANT(count == (verdict->kind == FTTCAN_MISSED ? verdict->second - from + 1 : 0));
     for (place = 0; place < count; place++) {
@@ -116,9 +116,9 @@ static void hand_over(void) {
     WANT(standby.at == NULL);
 }
 
-static void answer(uint8_t caller, uint64_t start, const fttcan_op *ops, size_t count, fttcan_verdict *verdict) {
+static void answer(uint8_t caller, uint64_t start, const fttcan_op *ops, fttcan_size count, fttcan_verdict *verdict) {
     if (is("stateless")) {
-        size_t changed = placed_count;
+        fttcan_size changed = placed_count;
         STATUS(FTTCAN_OK, fttcan_decide(&rules, tables[current], placed_count, &state, start, ops, count, verdict,
                                         tables[!current], MOST_PLACED, &changed));
         if (verdict->kind == FTTCAN_ACCEPTED) {
@@ -126,8 +126,8 @@ static void answer(uint8_t caller, uint64_t start, const fttcan_op *ops, size_t 
             placed_count = changed;
         }
     } else if (is("apart")) {
-        fttcan_snapshot snapshot = {NULL};
-        fttcan_planned planned = {NULL};
+        fttcan_snapshot snapshot = {0};
+        fttcan_planned planned = {0};
         fttcan_verdict apart = {0, 0, 0, 0, 0, 0, 0};
         STATUS(FTTCAN_OK, fttcan_master_snapshot(&master, &snapshot));
         STATUS(FTTCAN_OK, fttcan_plan_apart(&snapshot, start, ops, count, &planned));
@@ -140,7 +140,7 @@ static void answer(uint8_t caller, uint64_t start, const fttcan_op *ops, size_t 
     }
 }
 
-static void submit(uint8_t caller, uint64_t start, const fttcan_op *ops, size_t count) {
+static void submit(uint8_t caller, uint64_t start, const fttcan_op *ops, fttcan_size count) {
     fttcan_verdict verdict = {0, 0, 0, 0, 0, 0, 0};
     uint64_t from;
     hand_over();
@@ -164,7 +164,7 @@ static void submit(uint8_t caller, uint64_t start, const fttcan_op *ops, size_t 
 static void put_trigger(const fttcan_order *order) {
     fttcan_trigger trigger = {order->flags, order->cycle, order->window}, told = {{0, 0}, 0, 0};
     fttcan_frame frames[2];
-    size_t count = 0, place;
+    fttcan_size count = 0, place;
     uint64_t start = order->cycle * cycle_length;
     memset(frames, 0, sizeof frames);
     STATUS(FTTCAN_OK, fttcan_trigger_encode(rules.slots, &trigger, frames, 2, &count));
@@ -215,8 +215,8 @@ static void open_cycle(void) {
 }
 
 /* The numbers of a row from a field on. */
-static size_t numbers(char **fields, size_t count, size_t from, uint64_t *room) {
-    size_t place;
+static fttcan_size numbers(char **fields, fttcan_size count, fttcan_size from, uint64_t *room) {
+    fttcan_size place;
     for (place = from; place < count; place++)
         room[place - from] = strtoull(fields[place], NULL, 10);
     return count > from ? count - from : 0;
@@ -239,8 +239,8 @@ static fttcan_op op_of(const char *word, const uint64_t *n) {
     return op;
 }
 
-static size_t split(char *line, char **fields) {
-    size_t count = 0;
+static fttcan_size split(char *line, char **fields) {
+    fttcan_size count = 0;
     line[strcspn(line, "\r\n")] = 0;
     for (;;) {
         while (*line == ' ')
@@ -256,7 +256,7 @@ static size_t split(char *line, char **fields) {
 static void play(FILE *steps) {
     char line[512], *fields[12];
     static fttcan_op ops[1024];
-    size_t many = 0, count;
+    fttcan_size many = 0, count;
     uint64_t n[12] = {0}, start = 0;
     uint8_t caller = 0;
     while (fgets(line, sizeof line, steps)) {

@@ -5,27 +5,27 @@
  * ROOM is how many bytes the output may have. In the words the files are named 0, 1, 2 and 3. */
 #include "support.h"
 
-static uint8_t *read_all(const char *path, size_t *len) {
+static uint8_t *read_all(const char *path, fttcan_size *len) {
     FILE *file = fopen(path, "rb");
     uint8_t *bytes;
     long size;
     if (file == NULL || fseek(file, 0, SEEK_END) || (size = ftell(file)) < 0 || fseek(file, 0, SEEK_SET)
-        || (bytes = malloc((size_t)size + 1)) == NULL || fread(bytes, 1, (size_t)size, file) != (size_t)size)
+        || (bytes = malloc((fttcan_size)size + 1)) == NULL || fread(bytes, 1, (fttcan_size)size, file) != (fttcan_size)size)
         exit(99);
     fclose(file);
-    *len = (size_t)size;
+    *len = (fttcan_size)size;
     return bytes;
 }
 
 int main(int count, char **words) {
     static uint8_t err[1 << 16];
     uint8_t joined[4096], *files[4], *out;
-    size_t joined_len = 0, lens[4] = {0, 0, 0, 0}, out_count = 0, err_count = 0;
-    const size_t room = count > 1 ? strtoull(words[1], NULL, 10) : 0;
+    fttcan_size joined_len = 0, lens[4] = {0, 0, 0, 0}, out_count = 0, err_count = 0;
+    const fttcan_size room = count > 1 ? strtoull(words[1], NULL, 10) : 0;
     int at = 2, place;
     uint32_t status;
     for (; at < count && strcmp(words[at], "--"); at++) {
-        const size_t len = strlen(words[at]);
+        const fttcan_size len = strlen(words[at]);
         if (joined_len + len + 1 > sizeof joined)
             return 99;
         if (at > 2)

@@ -20,8 +20,8 @@ static void *plan(void *word) {
     const uint8_t own = *(const uint8_t *)word;
     int is_placed = 0, goes_on = 1;
     while (goes_on) {
-        fttcan_snapshot apart = {NULL};
-        fttcan_planned planned = {NULL};
+        fttcan_snapshot apart = {0};
+        fttcan_planned planned = {0};
         fttcan_verdict v = {0, 0, 0, 0, 0, 0, 0};
         fttcan_op op = {FTTCAN_ADD, {0, 0, 0, 0, 0, 8, 0}};
         uint64_t next = 0;
@@ -47,7 +47,7 @@ static void *plan(void *word) {
 static void *open_all(void *unused) {
     static fttcan_placed table[MOST];
     fttcan_state state = {0, {0, 0}};
-    size_t count = 0;
+    fttcan_size count = 0;
     unsigned cycle;
     (void)unused;
     for (cycle = 0; cycle < CYCLES; cycle++) {

@@ -1,6 +1,8 @@
 """What the commands share: how words are read, which Python is needed, and how lines are written."""
 import argparse
+import itertools
 import sys
+import textwrap
 
 
 class Parser(argparse.ArgumentParser):
@@ -9,6 +11,19 @@ class Parser(argparse.ArgumentParser):
     def error(self, message):
         self.print_usage(sys.stderr)
         self.exit(4, f"{self.prog}: {message}\n")
+
+
+class Help(argparse.RawDescriptionHelpFormatter):
+    """Writes a help. On a narrow terminal the paragraphs of its text are wrapped; rows of calls and lists stay."""
+
+    def _fill_text(self, text, width, indent):
+        parts = []
+        for is_row, lines in itertools.groupby(text.splitlines(), key=lambda line: not line or line[0] == " "):
+            lines = list(lines)
+            if not is_row and max(map(len, lines)) > width:
+                lines = textwrap.wrap(" ".join(lines), max(width, 20), break_long_words=False, break_on_hyphens=False)
+            parts += lines
+        return "\n".join(f"{indent}{line}".rstrip() for line in parts)
 
 
 class Version(argparse.Action):
@@ -44,3 +59,10 @@ def put_lines(lines):
         sys.stdout = None
         return None if isinstance(fault, BrokenPipeError) else f"standard output: {fault.strerror}"
     return None
+
+
+def stop(name):
+    """Says that a tool was interrupted by Ctrl-C. The status, which is that of a shell for it."""
+    sys.stdout = None
+    print(f"{name}: interrupted", file=sys.stderr)
+    return 130

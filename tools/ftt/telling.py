@@ -41,9 +41,14 @@ def close(word, known):
     return near[0] if near else None
 
 
-def why_no_text(data):
-    """What is said of a file that is no text in UTF-8 at all, by its first bytes; None where nothing is."""
-    if data[:2] in (b"\xff\xfe", b"\xfe\xff"):
+# The marks with which a text in UTF-16 begins.
+UTF_16 = (b"\xff\xfe", b"\xfe\xff")
+
+
+def why_no_text(data, is_wide_taken=False):
+    """What is said of a file that is no text in UTF-8 at all, by its first bytes; None where nothing is. UTF-16 may be
+    taken too."""
+    if data.startswith(UTF_16) and not is_wide_taken:
         return "the file is UTF-16. Save it as UTF-8 (Excel: CSV UTF-8)."
     if data[:4] in (b"PK\x03\x04", b"\xd0\xcf\x11\xe0"):
         return "the file is an Excel workbook. Save it as text (Excel: CSV UTF-8, comma delimited)."

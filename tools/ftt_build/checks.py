@@ -8,7 +8,7 @@ import sys
 import tempfile
 
 from . import archive, exports, replays
-from .archive import AARCH64, HOST, LIBRARY, TOP
+from .archive import LIBRARY, TOP
 from .kit import BuildFault
 from .parts import LeftOut
 
@@ -17,13 +17,14 @@ sys.path.insert(0, str(TOP / "tools"))
 TESTS = LIBRARY / "tests"
 WARNINGS = ["-Wall", "-Wextra", "-Wpedantic", "-Wshadow", "-Werror"]
 # The programs of library/tests that are run alone: their words, and those under valgrind.
-CALLS = ("calls_bounds", "calls_frames", "calls_pair", "calls_master", "calls_apart", "calls_standby")
+CALLS = ("calls_bounds", "calls_frames", "calls_pair", "calls_master", "calls_apart", "calls_standby", "calls_node")
 PROGRAMS = {
     "layout": ([], None),
     **{name: ([], []) for name in CALLS},
     "refuse": ([], []),
     "random": (["1", "300"], ["2", "6"]),
     "flips": (["12"], ["2"]),
+    "changes": (["1", "1000"], ["2", "20"]),
     "threads": ([], None),
 }
 OF_LIBC = {"malloc", "realloc", "free", "memcpy", "memmove", "memset", "memcmp", "bcmp"}
@@ -57,9 +58,9 @@ def ran(words, wanted=0, **how):
 class Built:
     """A built library for a target, and the programs that are linked with it."""
 
-    def __init__(self, folder, room, target=HOST):
-        self.folder, self.room, self.target = pathlib.Path(folder), pathlib.Path(room), target
-        names = archive.run([f"{archive.PREFIX[target]}nm", "-g", "--defined-only", self.folder / "libfttcan.a"])
+    def __init__(self, folder, room, tools=""):
+        self.folder, self.room, self.tools = pathlib.Path(folder), pathlib.Path(room), tools
+        names = archive.run([f"{tools}nm", "-g", "--defined-only", self.folder / "libfttcan.a"])
         self.names = set(re.findall(r"^[0-9a-f]+ [A-Z] (\S+)$", names, re.MULTILINE))
 
     def program(self, name, compiler, flags=(), link=(), is_shared=False):
@@ -76,7 +77,7 @@ class Built:
 
     def lacks(self, object_):
         """Leaves a part out whose calls the library does not have: the part on the exports says so too."""
-        used = archive.run([f"{archive.PREFIX[self.target]}nm", "-u", object_])
+        used = archive.run([f"{self.tools}nm", "-u", object_])
         missing = sorted(set(re.findall(r"\bU (fttcan_\w+)", used)) - self.names)
         if missing:
             raise LeftOut(told_missing(missing))
@@ -231,12 +232,12 @@ def of_freestanding(built, compiler, runner=()):
     built.lacks(object_)
     archive.run([path, "-nostdlib", "-static", "-Wl,--gc-sections", object_, built.folder / "libfttcan.a", "-o", made])
     ran([*runner, made])
-    return f"{len_of_code(made, built.target)} bytes of code and constants"
+    return f"{len_of_code(made, built.tools)} bytes of code and constants"
 
 
-def len_of_code(made, target):
+def len_of_code(made, tools=""):
     """The bytes of code and of what is read only in a program."""
-    told = archive.run([f"{archive.PREFIX[target]}size", "-A", made])
+    told = archive.run([f"{tools}size", "-A", made])
     return sum(int(size) for name, size in re.findall(r"^(\.\w+)\S*\s+(\d+)", told, re.MULTILINE) if name in (".text", ".rodata"))
 
 
@@ -272,18 +273,3 @@ def of_sanitizers(built, name):
     """A program of the tests passes with the checks of the compiler in its own code."""
     made = built.program(name, "gcc", ["-g", "-fsanitize=address,undefined", "-fno-sanitize-recover=all"])
     ran([made, *PROGRAMS[name][1]])
-
-
-def qemu():
-    """The command that runs programs for aarch64."""
-    return shutil.which("qemu-aarch64") or shutil.which("qemu-aarch64-static") or command("qemu-aarch64")
-
-
-def of_aarch64(built, name):
-    """A program of the tests passes on aarch64, as qemu plays it."""
-    runner = qemu()
-    made = built.program(name, "aarch64-linux-gnu-gcc", link=["-static"])
-    ran([runner, made, *(PROGRAMS[name][1] or [])])
-
-
-TARGETS = {"this machine": HOST, "aarch64": AARCH64}

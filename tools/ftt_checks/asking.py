@@ -111,6 +111,42 @@ def recording():
                    for time, identifier, length in sorted(rows))
 
 
+def line_through(times):
+    """The period and the jitter of some sends in milliseconds, by all of them at once: the line of least squares through
+    their numbers, and how far they are off it from first to last."""
+    gaps = [later - time for time, later in zip(times, times[1:])]
+    guess, places = sorted(gaps)[len(gaps) // 2], [0]
+    for gap in gaps:
+        places.append(places[-1] + max(1, round(gap / guess)))
+    many, middle, mean = len(times), sum(places) / len(times), sum(times) / len(times)
+    slope = sum((place - middle) * (time - mean) for place, time in zip(places, times)) / sum(
+        (place - middle) ** 2 for place in places)
+    off = [time - slope * place for place, time in zip(places, times)]
+    return slope, max(off) - min(off), places[-1] + 1 - many
+
+
+def check_long(tools):
+    """A recording with more sends than are looked at for a first guess: what is told of it follows from all of them. Sends
+    are lost, and the clock bends."""
+    chance, sent = random.Random(8), {0x110: [], 0x111: []}
+    for place in range(3000):
+        for identifier, period in ((0x110, 10), (0x111, 7)):
+            if chance.random() > 0.01:
+                time = 5 + place * period * 1.0003 + chance.random() * 0.5 + 3e-7 * (place * period / 10) ** 2
+                sent[identifier].append(round(time * 1000))
+    rows = sorted((time, identifier) for identifier, times in sent.items() for time in times)
+    tools.put("long.log", "".join(f"({time // 10 ** 6 + 1000:010d}.{time % 10 ** 6:06d}) can0 {identifier:03X}#00\n"
+                                  for time, identifier in rows))
+    out, err, _ = tools.call("fttmodel", "--from-recording", "long.log")
+    found = {row["id"]: row for row in csv.DictReader(io.StringIO(out))}
+    for identifier, times in sent.items():
+        period, jitter, lost = line_through([time / 1000 for time in times])
+        row = found.get(f"{identifier:#05x}", {})
+        tools.case(f"recording: {len(times)} sends of {identifier:#x}, by all of them at once", row.get("kind") == "sync" and
+                   abs(float(row["#measured_ms"]) - period) <= 0.0006 and abs(float(row["#jitter_ms"]) - jitter) <= 0.0015
+                   and int(row["#lost"]) == lost > 10, f"{period} {jitter} {lost}\n{out}{err}")
+
+
 def check_recordings(tools):
     """A list of a recording, and the model of that list."""
     text = recording()
@@ -146,3 +182,4 @@ def check(tools):
     check_requests(tools)
     check_lists(tools)
     check_recordings(tools)
+    check_long(tools)

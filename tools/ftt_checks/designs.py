@@ -97,6 +97,53 @@ def by_hand(desk, environment):
         "three=5:20:5"), 0, ["500 kbit/s: accepted deadline with the rest as there: 2 of 3 tried, from 2.5 to 3 ms"])
 
 
+def polled_cut(desk, environment):
+    """The least deadline of a polled message is that of the list: its slot's PERIOD and DEADLINE follow from it. In a
+    window of 195 one cycle takes the 135 of `a` or the 65 of `p`, and `a` comes in each second cycle. A deadline of 4
+    is a PERIOD of 2 and a DEADLINE of 2, so each second cycle is that of `p`. One of 3 is 2 and 1: by edf `p` goes before
+    `a` then, and by rate `a`, whose slot is lower, goes first. One of 2 is a poll in each cycle."""
+    desk.put("polled.csv", f"{HEAD}a,x,8,2,,sync\np,x,0,,12,polled\n")
+    for policy, least in (("rm", "4"), ("edf", "3")):
+        out = said(f"headroom: the least deadline of a polled message, {policy}", asked(
+            desk, environment, "polled.csv", "--kbits", "500", "--cycle-us", "1000", "--policy", policy, "--fill", "prefix",
+            "--window", "195", "--headroom", "--add", "2"), 0, [])
+        row = next((row.split() for row in out.splitlines() if row.startswith("p ")), [])
+        case(f"headroom: it is {least} ms by {policy}", row[:4] == ["p", "6", "12", least], out)
+    for deadline, status in ((4, 0), (3, 1)):
+        desk.put("polled.csv", f"{HEAD}a,x,8,2,,sync\np,x,0,,{deadline},polled\n")
+        said(f"headroom: a list with a deadline of {deadline} ms has the same answer", asked(
+            desk, environment, "polled.csv", "--kbits", "500", "--cycle-us", "1000", "--policy", "rm", "--fill", "prefix",
+            "--window", "195"), status, [])
+
+
+def horizon(desk, environment):
+    """Cycles that fall to the horizon alone. In cycles of 2 ms the periods are 7, 11, 13 and 10 cycles, 10010 in common; in
+    those of 1 ms 15, 22, 27 and 20, 5940 in common. A window of 135 takes a frame in each cycle, and four have to go in 7.
+    So cycles of 2 ms leave 1000 - 135 - 135. With 11 cycles in place of 13 the plan repeats after 770."""
+    desk.put("late.csv", f"{HEAD}a,x,8,15,,sync\nb,x,8,22,,sync\nc,x,8,27,,sync\nd,x,8,20,,sync\n")
+    words = ("late.csv", "--kbits", "500", "--cycle-us", "1000,2000", "--policy", "rm", "--fill", "prefix")
+    front = "500 kbit/s: horizon: 1 cycle fell to the horizon of 10000 alone; "
+    shorter = "500 kbit/s: at 2000 us the plan repeats after 770 cycles in place of 10010 with c every 22 ms in place of 26"
+    left, is_quick = f"{front}1 line of them may leave more: --horizon 100000 tries all", environment or desk.program.name != "reference"
+    if is_quick:
+        left = (f"{front}with --horizon 10010 the best cycle is 2000 us, prefix rm: least window 135 of 1000 bit times, 730 "
+                "left (73 %); 1 line tried")
+    said("a list: cycles that fall to the horizon alone", asked(desk, environment, *words), 0, [
+        "500 kbit/s: best cycle 1000 us, with 40 slots, prefix rm: least window 135 of 500 bit times",
+        "500 kbit/s: cycles that fell: 1 to the horizon", left, shorter])
+    # 5940 cycles are too many too, and what leaves more is known without asking
+    said("a list: a horizon that is asked for", asked(desk, environment, *words, "--horizon", "5000"), 1, [
+        "500 kbit/s: horizon: 2 cycles fell to the horizon of 5000 alone; 2 lines of them may leave more: --horizon 100000 "
+        "tries all", shorter])
+    if is_quick:
+        said("a list: the horizon that the sentence names", asked(desk, environment, *words, "--horizon", "10010"), 0, [
+            "500 kbit/s: best cycle 2000 us, with 40 slots, prefix rm: least window 135 of 1000 bit times"])
+    # 101 * 103 * 107 cycles of 1 ms are above 100000
+    desk.put("late.csv", f"{HEAD}a,x,8,101,,sync\nb,x,8,103,,sync\nc,x,8,107,,sync\n")
+    said("a list: no horizon is long enough", asked(desk, environment, "late.csv", *words[1:4], "1000", *words[5:]), 1, [
+        "500 kbit/s: horizon: 1 cycle fell to the horizon of 10000 alone, and to one of 100000 too"])
+
+
 def refined(desk, environment):
     """Grids that are refined: the border is that of the whole grid where acceptance is monotone."""
     desk.put("system.toml", "[bus]\ncycle = 1000\nwindow = 135\nnodes = 1\n")
@@ -118,10 +165,19 @@ def bounded(desk, environment):
     said("--bounds: the windows that leave a stream in time", asked(desk, environment, *words, "--bounds", "async.csv",
                                                                     "--csv", "-"), 0,
          ["135,yes,,", "270,yes,,", "405,yes,,", '540,no,,"late,0x300,1075,940"', '675,no,,"late,0x300,1210,940"'])
+    # no planner is at fault where a bound is the reason, and no file
+    out = said("--bounds: the reason is the bound", asked(desk, environment, *words, "--bounds", "async.csv", "--svg", "-"),
+               0, ["window: in 1 of 1 line: 405 is accepted, and at 540 the bound of 0x300 is 1075 bit times, and its deadline "
+                   "940 bit times",
+                   "along the window nothing else is refused above what is accepted, in 1 line of tried points"])
+    case("--bounds: the picture has a colour for it", ">late bound</text>" in out and "540 to 675: late bound" in out
+         and "refused file" not in out, out)
     desk.put("mixed.csv", "name,sender,length,period,deadline,kind,id\none,a,8,4,,sync,\ntwo,b,8,20,1.88,async,0x300\n")
     out = said("a list: an asynchronous message that has a deadline", asked(
         desk, environment, "mixed.csv", "--kbits", "500", "--cycle-us", "2000", "--policy", "rm", "--fill", "prefix", "--csv",
-        "-"), 0, ["500 kbit/s: best cycle 2000 us, with 40 slots, prefix rm: least window 135 of 1000 bit times"])
+        "-"), 0, ["500 kbit/s: best cycle 2000 us, with 40 slots, prefix rm: least window 135 of 1000 bit times"],
+               # 535 + 410 bit times
+               ["405 is accepted, and at 410 the bound of two (0x300) is 1.89 ms, and its deadline 1.88 ms"])
     rows = [row.split(",", 6) for row in out.splitlines()[2:]]
     wide = [row for row in rows if int(row[5]) > 405]
     case("a list: a wide window leaves no time for it", wide and all(row[6].startswith(('no,,"late,0x300,',
@@ -341,6 +397,8 @@ def check(desk):
     """All of it. What was left out."""
     environment = library_words()
     by_hand(desk, environment)
+    polled_cut(desk, environment)
+    horizon(desk, environment)
     refined(desk, environment)
     bounded(desk, environment)
     case("a table of a list is not joined", asked(desk, environment, "--join", "joined.csv")[2] == 2)

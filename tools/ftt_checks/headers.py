@@ -6,9 +6,8 @@ import subprocess
 
 NUMBERS = {"uint8_t": ctypes.c_uint8, "uint16_t": ctypes.c_uint16, "uint32_t": ctypes.c_uint32,
            "uint64_t": ctypes.c_uint64}
-# ctypes has one type for these two, where both have 64 bits: so `size_t` is told as the other one.
-if ctypes.c_size_t is not ctypes.c_uint64:
-    NUMBERS["size_t"] = ctypes.c_size_t
+# Sizes have 64 bits everywhere, and are told as such numbers.
+SIZE = re.compile(r"\bfttcan_size\b")
 
 
 class Header:
@@ -17,11 +16,10 @@ class Header:
     def __init__(self, path):
         self.path = path
         text = re.sub(r"/\*.*?\*/|//[^\n]*", " ", path.read_text(encoding="utf-8"), flags=re.DOTALL)
-        if "size_t" not in NUMBERS:
-            text = re.sub(r"\bsize_t\b", "uint64_t", text)
-        # By its name the fields of a struct, each a name, a type, and how many of it in a row.
+        text = SIZE.sub("uint64_t", text)
+        # By its name the fields of a struct or a union, each a name, a type, and how many of it in a row.
         self.structs = {name: self.fields_of(body) for body, name in
-                        re.findall(r"typedef struct(?: \w+)? \{([^}]*)\} (\w+);", text)}
+                        re.findall(r"typedef (?:struct|union)(?: \w+)? \{([^}]*)\} (\w+);", text)}
         self.numbers = {name: int(number) for body in re.findall(r"enum(?: \w+)? \{([^}]*)\}", text)
                         for name, number in re.findall(r"(\w+) = (\d+)", body)}
         # By its name what a call answers, and the types of its arguments.
@@ -61,7 +59,7 @@ def layouts(header, folder):
 
 
 def layout_in(struct):
-    """The size of a struct of ctypes, and the offsets of its fields."""
+    """The size of a struct or a union of ctypes, and the offsets of its fields."""
     return [ctypes.sizeof(struct)] + [getattr(struct, name).offset for name, _ in struct._fields_]
 
 

@@ -415,7 +415,6 @@ MESSAGES = [
              f"{HEAD}\na,x,8,10\nb,y,8,10\n"),
     messages("nine data bytes", f"{HEAD}\na,x,9,10\n", "Part longer messages into frames of at most 8 bytes.",
              f"{HEAD}\na,x,8,10\nb,x,1,10\n"),
-    messages("UTF-16 messages", ONE.encode("utf-16"), "the file is UTF-16. Save it as UTF-8", ONE),
     messages("a workbook of messages", b"PK\x03\x04\x14\x00", "the file is an Excel workbook. Save it as text", ONE),
     messages("a deadline above the period", f"{HEAD},deadline\na,x,8,10,11\n", "Take at most the period.",
              f"{HEAD},deadline\na,x,8,10,10\n"),

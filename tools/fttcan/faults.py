@@ -38,6 +38,14 @@ class MemoryRanOut(Error, MemoryError):
     `Master.settle` the plan is closed, and the change is planned anew."""
 
 
+class Full(Error):
+    """A node was made for fewer entries, or a collector for shorter messages."""
+
+
+class NotAccepted(Error, ValueError):
+    """No master accepts this change of this table: it breaks a rule."""
+
+
 class OutOfRange(Error, ValueError):
     """An argument is out of its range."""
 

@@ -9,7 +9,8 @@ from collections.abc import Iterable
 from typing import Any
 
 from . import faults
-from .library import (SIZE, TEXT, U8, U32, CFrame, CLayout, CTrigger, bytes_from, calls, listed, mask_in, must)
+from .library import (SIZE, TEXT, U8, U32, CFrame, CTrigger, bytes_from, calls, frame_in, frame_out, layout_in, listed, mask_in,
+                      must)
 from .values import Frame, Layout, Trigger, mask_of, whole
 
 __all__ = ["Frame", "Layout", "Trigger", "decode", "encode", "fits", "payload", "read_wire", "wire_bits", "wire_length"]
@@ -17,13 +18,8 @@ __all__ = ["Frame", "Layout", "Trigger", "decode", "encode", "fits", "payload", 
 
 def frames_in(frames: Iterable[Frame]) -> tuple[Any, int]:
     """Frames for the library, and how many these are."""
-    made = [CFrame(frame.identifier, len(frame.data), (U8 * 8)(*frame.data)) for frame in frames]
+    made = [frame_in(frame) for frame in frames]
     return (CFrame * max(1, len(made)))(*made), len(made)
-
-
-def _frame_out(frame: CFrame) -> Frame:
-    """A frame of the library."""
-    return Frame(frame.id, bytes(frame.bytes[:frame.len]))
 
 
 def wire_length(identifier: int, data: bytes = b"") -> int:
@@ -50,15 +46,17 @@ def read_wire(bits: bytes) -> Frame:
     if status == TEXT:
         raise faults.BadText(f"the bits are no frame: the first fault is at place {place.value}", place.value)
     must(status)
-    return _frame_out(frame)
+    return frame_out(frame)
 
 
-def encode(trigger: Trigger, slots: int = 40) -> list[Frame]:
-    """The frames of a trigger: one with 40 slots, two with 96. OutOfRange: a flag, the window or the cycle is."""
+def encode(trigger: Trigger, slots: int = 40, *, reserve: int = 0) -> list[Frame]:
+    """The frames of a trigger: one with 40 slots, two with 96. The window that they say is longer by the reserve, in bit
+    times. OutOfRange: a flag, the cycle, or window and reserve together are."""
     given = CTrigger(mask_in(mask_of(trigger.flags)), trigger.cycle, trigger.window)
-    room, count = listed(lambda room, size, count: int(calls.trigger_encode(whole("slots", slots, 8), given, room, size,
-                                                                            count)), CFrame, 2)
-    return [_frame_out(room[place]) for place in range(count)]
+    more = whole("reserve", reserve, 32)
+    room, count = listed(lambda room, size, count: int(calls.trigger_encode_reserved(whole("slots", slots, 8), given, more, room,
+                                                                                     size, count)), CFrame, 2)
+    return [frame_out(room[place]) for place in range(count)]
 
 
 def decode(frames: Iterable[Frame], slots: int = 40) -> Trigger:
@@ -85,6 +83,6 @@ def fits(layout: Layout, at: int, length: int, window: int) -> bool:
     OutOfRange: the layout, more than 8 data bytes, or a window above that of the layout.
     """
     is_fitting = U8()
-    given = CLayout(layout.cycle, layout.turnaround, layout.window, layout.slots)
+    given = layout_in(layout)
     must(calls.fits(given, whole("at", at, 64), whole("length", length, 8), whole("window", window, 32), is_fitting))
     return is_fitting.value != 0

@@ -26,7 +26,7 @@ class Handle:
 
     _free: Callable[[Any], None] | None = None
 
-    def __init__(self, struct: ctypes.Structure, free: Callable[[Any], None]) -> None:
+    def __init__(self, struct: ctypes.Union, free: Callable[[Any], None]) -> None:
         self._struct, self._lock = struct, threading.Lock()
         self._free = free
 
@@ -263,15 +263,16 @@ class Standby(Handle):
             must(status)
         return accepted(verdict_out(verdict))
 
-    def trigger(self, *frames: Frame) -> None:
-        """Follows the opening of a cycle by its trigger: one frame, or two with 96 slots.
+    def trigger(self, *frames: Frame, reserve: int = 0) -> None:
+        """Follows the opening of a cycle by its trigger: one frame, or two with 96 slots. The window that they say is longer by
+        the reserve, in bit times.
 
         NoTrigger, OtherFlags, OtherWindow: this is not the trigger that is planned. It is as before. OutOfRange: a frame
         that is none. BadState: no cycle may be opened any more. Closed.
         """
-        given, fault = frames_in(frames), CFollow()
+        given, fault, more = frames_in(frames), CFollow(), whole("reserve", reserve, 32)
         with self._lock:
-            status = calls.standby_trigger(self._struct, *given, fault)
+            status = calls.standby_trigger_reserved(self._struct, more, *given, fault)
         if status == NO and fault.kind == 0:
             raise faults.NoTrigger(fault.first)
         if status == NO and fault.kind == 1:

@@ -20,20 +20,20 @@ from collections.abc import Callable, Iterable, Sequence
 from typing import Any
 
 from . import faults
-from .values import Accepted, Add, Change, Entry, Operation, Placed, Remove, Rules, whole
+from .values import Accepted, Add, Change, Entry, Frame, Layout, Operation, Placed, Remove, Rules, whole
 
 NAME = "libfttcan.so.1"
 VARIABLE = "FTTCAN_LIBRARY"
 # The version of the calls below. The library has to have the same first number, and at least this second one.
 MAJOR, MINOR = 0, 4
 
-OK, MEMORY, ARGUMENT, TABLE, STATE, ROOM, MISS, CLOSED, OPEN, TEXT, NO, UNFINISHED = range(12)
+OK, MEMORY, ARGUMENT, TABLE, STATE, ROOM, MISS, CLOSED, OPEN, TEXT, NO, UNFINISHED, FULL = range(13)
 STATUSES = {"FTTCAN_OK": OK, "FTTCAN_MEMORY": MEMORY, "FTTCAN_ARGUMENT": ARGUMENT, "FTTCAN_TABLE": TABLE,
             "FTTCAN_STATE": STATE, "FTTCAN_ROOM": ROOM, "FTTCAN_MISS": MISS, "FTTCAN_CLOSED": CLOSED,
-            "FTTCAN_OPEN": OPEN, "FTTCAN_TEXT": TEXT, "FTTCAN_NO": NO, "FTTCAN_UNFINISHED": UNFINISHED}
+            "FTTCAN_OPEN": OPEN, "FTTCAN_TEXT": TEXT, "FTTCAN_NO": NO, "FTTCAN_UNFINISHED": UNFINISHED, "FTTCAN_FULL": FULL}
 LOW = (1 << 64) - 1
 
-U8, U16, U32, U64, SIZE = ctypes.c_uint8, ctypes.c_uint16, ctypes.c_uint32, ctypes.c_uint64, ctypes.c_size_t
+U8, U16, U32, U64, SIZE = ctypes.c_uint8, ctypes.c_uint16, ctypes.c_uint32, ctypes.c_uint64, ctypes.c_uint64
 
 
 class CMask(ctypes.Structure):
@@ -191,35 +191,114 @@ class CStream(ctypes.Structure):
     _fields_ = [("gap", U64), ("burst", U32), ("id", U16), ("bytes", U8)]
 
 
-class CMaster(ctypes.Structure):
+class COwner(ctypes.Structure):
+    """fttcan_owner."""
+
+    id: int
+    node: int
+    _fields_ = [("id", U16), ("node", U8)]
+
+
+class CSettings(ctypes.Structure):
+    """fttcan_settings."""
+
+    room: int
+    entries: int
+    number: int
+    tolerance: int
+    silent: int
+    _fields_ = [("room", SIZE), ("entries", SIZE), ("number", U8), ("tolerance", U8), ("silent", U8)]
+
+
+class COffer(ctypes.Structure):
+    """fttcan_offer."""
+
+    until: int
+    id: int
+    _fields_ = [("until", U32), ("id", U16)]
+
+
+class CTicket(ctypes.Structure):
+    """fttcan_ticket."""
+
+    cycle: int
+    number: int
+    id: int
+    _fields_ = [("cycle", U64), ("number", U64), ("id", U16)]
+
+
+class CLoaded(ctypes.Structure):
+    """fttcan_loaded."""
+
+    ticket: CTicket
+    frame: CFrame
+    users: int
+    _fields_ = [("ticket", CTicket), ("frame", CFrame), ("users", U8)]
+
+
+class CDue(ctypes.Structure):
+    """fttcan_due."""
+
+    start: int
+    last: int
+    loaded: int
+    users: int
+    _fields_ = [("start", U32), ("last", U32), ("loaded", U8), ("users", U8)]
+
+
+class CTold(ctypes.Structure):
+    """fttcan_told."""
+
+    start: int
+    number: int
+    count: int
+    kind: int
+    _fields_ = [("start", U64), ("number", U32), ("count", U16), ("kind", U8)]
+
+
+class CCollected(ctypes.Structure):
+    """fttcan_collected: all zero is nothing."""
+
+    _fields_ = [("parts", U32), ("wanted", U32), ("last", U32), ("number", U8), ("begun", U8), ("whole", U8)]
+
+
+class CNode(ctypes.Union):
+    """fttcan_node."""
+
+    _fields_ = [("wide", U64), ("at", ctypes.c_void_p)]
+
+
+class CMaster(ctypes.Union):
     """fttcan_master: all zero holds nothing."""
 
-    _fields_ = [("at", ctypes.c_void_p)]
+    _fields_ = [("wide", U64), ("at", ctypes.c_void_p)]
 
 
-class CStandby(ctypes.Structure):
+class CStandby(ctypes.Union):
     """fttcan_standby."""
 
-    _fields_ = [("at", ctypes.c_void_p)]
+    _fields_ = [("wide", U64), ("at", ctypes.c_void_p)]
 
 
-class CSnapshot(ctypes.Structure):
+class CSnapshot(ctypes.Union):
     """fttcan_snapshot."""
 
-    _fields_ = [("at", ctypes.c_void_p)]
+    _fields_ = [("wide", U64), ("at", ctypes.c_void_p)]
 
 
-class CPlanned(ctypes.Structure):
+class CPlanned(ctypes.Union):
     """fttcan_planned."""
 
-    _fields_ = [("at", ctypes.c_void_p)]
+    _fields_ = [("wide", U64), ("at", ctypes.c_void_p)]
 
 
-STRUCTS: dict[str, type[ctypes.Structure]] = {
+STRUCTS: dict[str, type[ctypes.Structure] | type[ctypes.Union]] = {
     "fttcan_mask": CMask, "fttcan_frame": CFrame, "fttcan_trigger": CTrigger, "fttcan_rules": CRules,
     "fttcan_entry": CEntry, "fttcan_placed": CPlaced, "fttcan_op": COp, "fttcan_state": CState,
     "fttcan_verdict": CVerdict, "fttcan_plan": CPlan, "fttcan_order": COrder, "fttcan_breach": CBreach,
-    "fttcan_follow": CFollow, "fttcan_layout": CLayout, "fttcan_stream": CStream, "fttcan_master": CMaster, "fttcan_standby": CStandby,
+    "fttcan_follow": CFollow, "fttcan_layout": CLayout, "fttcan_stream": CStream, "fttcan_owner": COwner, "fttcan_settings": CSettings,
+    "fttcan_offer": COffer, "fttcan_ticket": CTicket, "fttcan_loaded": CLoaded, "fttcan_due": CDue, "fttcan_told": CTold,
+    "fttcan_collected": CCollected, "fttcan_node": CNode, "fttcan_master": CMaster, "fttcan_standby": CStandby,
     "fttcan_snapshot": CSnapshot, "fttcan_planned": CPlanned}
 
 _P = ctypes.POINTER
@@ -229,7 +308,8 @@ _IN = (TEXT_IN, SIZE)
 _OUT = (ROOM_OUT, SIZE, _P(SIZE))
 _CHANGE = (U64, _P(COp), SIZE)
 _MASTER, _STANDBY = _P(CMaster), _P(CStandby)
-_SNAPSHOT, _PLANNED = _P(CSnapshot), _P(CPlanned)
+_SNAPSHOT, _PLANNED, _NODE = _P(CSnapshot), _P(CPlanned), _P(CNode)
+_TABLE_IN, _TABLE_OUT = (_P(CPlaced), SIZE), (_P(CPlaced), SIZE, _P(SIZE))
 
 # By its name the types of the arguments of a call. All answer a status, but for those of WITHOUT, and `fttcan_version`.
 CALLS: dict[str, Sequence[Any]] = {
@@ -257,6 +337,7 @@ CALLS: dict[str, Sequence[Any]] = {
     "fttcan_standby_free": (_STANDBY,),
     "fttcan_standby_change": (_STANDBY, U8, *_CHANGE, _P(CVerdict)),
     "fttcan_standby_trigger": (_STANDBY, _P(CFrame), SIZE, _P(CFollow)),
+    "fttcan_standby_trigger_reserved": (_STANDBY, U32, _P(CFrame), SIZE, _P(CFollow)),
     "fttcan_standby_next": (_STANDBY, _P(U64)),
     "fttcan_standby_take_over": (_STANDBY, _MASTER),
     "fttcan_decide": (_P(CRules), _P(CPlaced), SIZE, _P(CState), *_CHANGE, _P(CVerdict), _P(CPlaced), SIZE, _P(SIZE)),
@@ -266,14 +347,43 @@ CALLS: dict[str, Sequence[Any]] = {
     "fttcan_wire_bits": (U16, *_IN, *_OUT),
     "fttcan_read_wire": (*_IN, _P(CFrame), _P(SIZE)),
     "fttcan_trigger_encode": (U8, _P(CTrigger), _P(CFrame), SIZE, _P(SIZE)),
+    "fttcan_trigger_encode_reserved": (U8, _P(CTrigger), U32, _P(CFrame), SIZE, _P(SIZE)),
     "fttcan_trigger_decode": (U8, _P(CFrame), SIZE, _P(CTrigger)),
     "fttcan_payload": (U64, ROOM_OUT, SIZE),
     "fttcan_fits": (_P(CLayout), U64, U8, U32, _P(U8)),
     "fttcan_async_bound": (_P(CLayout), _P(CStream), SIZE, SIZE, _P(U64)),
+    "fttcan_reserve": (U16, U8, _P(U32)),
+    "fttcan_errors_within": (U32, U8, _P(U32)),
+    "fttcan_node_new": (_NODE, _P(CLayout), _P(CSettings), _P(COwner), SIZE),
+    "fttcan_node_free": (_NODE,),
+    "fttcan_node_learn": (_NODE, *_TABLE_IN),
+    "fttcan_apply": (*_TABLE_IN, *_CHANGE, *_TABLE_OUT),
+    "fttcan_node_go_to": (_NODE, U64),
+    "fttcan_node_trigger": (_NODE, _P(CFrame), U32, _P(U8)),
+    "fttcan_node_set": (_NODE, U8, *_IN),
+    "fttcan_node_put": (_NODE, _P(CFrame)),
+    "fttcan_node_drop": (_NODE, U16),
+    "fttcan_node_waiting": (_NODE, U16, _P(SIZE)),
+    "fttcan_node_offer": (_NODE, U64, _P(COffer)),
+    "fttcan_node_wake": (_NODE, U64, _P(U64)),
+    "fttcan_node_frame": (_NODE, U64, U16, _P(CFrame)),
+    "fttcan_node_load": (_NODE, U64, U16, _P(CLoaded)),
+    "fttcan_node_sent": (_NODE, _P(CTicket)),
+    "fttcan_node_withdrawn": (_NODE, _P(CTicket)),
+    "fttcan_node_due": (_NODE, _P(CMask)),
+    "fttcan_node_slot_due": (_NODE, U8, _P(CDue)),
+    "fttcan_node_slot_frame": (_NODE, U8, _P(CFrame)),
+    "fttcan_node_next": (_NODE, _P(U64)),
+    "fttcan_node_opened": (_NODE, _P(CTrigger)),
+    "fttcan_change_encode": (U16, U32, *_CHANGE, _P(CFrame), SIZE, _P(SIZE)),
+    "fttcan_table_encode": (U16, U32, *_TABLE_IN, _P(CFrame), SIZE, _P(SIZE)),
+    "fttcan_collect": (_P(CCollected), _P(CFrame), ROOM_OUT, SIZE, _P(CTold)),
+    "fttcan_change_decode": (*_IN, _P(CTold), _P(COp), SIZE, _P(SIZE)),
+    "fttcan_table_decode": (*_IN, _P(CTold), *_TABLE_OUT),
     "fttcan_run": (*_IN * 5, *_OUT * 2),
     "fttcan_audit": (*_IN * 4, _P(U64)),
 }
-WITHOUT = ("fttcan_master_free", "fttcan_standby_free", "fttcan_snapshot_free", "fttcan_planned_free")
+WITHOUT = ("fttcan_master_free", "fttcan_standby_free", "fttcan_snapshot_free", "fttcan_planned_free", "fttcan_node_free")
 
 _LOADED: list[ctypes.CDLL] = []
 _LOADING = threading.Lock()
@@ -356,7 +466,8 @@ _CAUSES: dict[int, Callable[[], Exception]] = {
     STATE: lambda: faults.BadState("the state can't be planned from, or no cycle may be opened any more"),
     MISS: lambda: faults.WouldMiss("an instance would miss its deadline in this cycle"),
     CLOSED: lambda: faults.Closed("the object is closed"),
-    TEXT: lambda: faults.BadText("the text, the bytes or the frames are none of the form")}
+    TEXT: lambda: faults.BadText("the text, the bytes or the frames are none of the form"),
+    FULL: lambda: faults.Full("the node has room for no more")}
 
 
 def fault_of(status: int) -> Exception:
@@ -404,6 +515,16 @@ def change_in(start: int, operations: Iterable[Operation]) -> tuple[int, Any, in
     return whole("start", start, 64), (COp * max(1, len(made)))(*made), len(made)
 
 
+def layout_in(layout: Layout) -> CLayout:
+    """A layout for the library."""
+    return CLayout(layout.cycle, layout.turnaround, layout.window, layout.slots)
+
+
+def frame_in(frame: Frame) -> CFrame:
+    """A frame for the library."""
+    return CFrame(frame.identifier, len(frame.data), (U8 * 8)(*frame.data))
+
+
 def placed_in(placed: Placed) -> CPlaced:
     """A placed entry for the library."""
     return CPlaced(placed.origin, placed.end or 0, entry_in(placed.entry), placed.end is not None)
@@ -421,6 +542,21 @@ def entry_out(entry: CEntry) -> Entry:
     """An entry of the library."""
     return Entry(slot=entry.slot, node=entry.node, length=entry.length, period=entry.period, deadline=entry.deadline,
                  phase=entry.phase, priority=entry.priority)
+
+
+def frame_out(frame: CFrame) -> Frame:
+    """A frame of the library."""
+    return Frame(frame.id, bytes(frame.bytes[:frame.len]))
+
+
+def operation_out(op: COp) -> Operation:
+    """An operation of the library."""
+    entry = op.entry
+    if op.kind == 1:
+        return Remove(entry.slot)
+    made: type[Change] | type[Add] = Change if op.kind == 2 else Add
+    return made(slot=entry.slot, node=entry.node, length=entry.length, period=entry.period, deadline=entry.deadline,
+                phase=entry.phase, priority=entry.priority)
 
 
 def placed_out(placed: CPlaced) -> Placed:

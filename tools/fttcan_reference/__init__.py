@@ -58,6 +58,9 @@ def main():
     except Unsure:
         print("reference: its readers don't tell what a file means", file=sys.stderr)
         return 9
+    except KeyboardInterrupt:
+        print("reference: interrupted", file=sys.stderr)
+        return 130
     sys.stdout.write("".join(f"{row}\n" for row in rows))
     sys.stderr.write("".join(f"{line}\n" for line in lines))
     return status

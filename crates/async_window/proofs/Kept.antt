@@ -16,7 +16,7 @@ use Rattle.async_window.specs.Sorted.{AreBoxesSorted, AreShort, IsPlaceOf, mail_
 use Rattle.async_window.proofs.Unsent.{AllPairs-map, Contains-later, IsMail-after, IsMail-without, taken_from-identifier, taken_from-keeps, unsent_of-among, unsent_of-elsewhere, unsent_of-without, without_first-identifiers, without_head}
 use Rattle.async_window.proofs.Order.{distinct-permutation}
 use Rattle.async_window.proofs.Table.{few-rising, no_place, place-identifier, unsent_of-at, unsent_of-nowhere}
-use Rattle.async_window.proofs.Steps.{HasPut, IsMail-put, IsPlaceTable-put, left-without, rising-put, set-without_first, without_first-nothing}
+use Rattle.async_window.proofs.Steps.{HasPut, identifiers-after, IsMail-put, IsPlaceTable-put, left-without, rising-put, set-without_first, without_first-nothing}
 use Rattle.async_window.proofs.Telling.{TellFirsts-noted}
 
 contains_or : (ids : List ℕ) (id : ℕ) → Contains ids id ⊎ (Contains ids id → ⊥)
@@ -92,6 +92,9 @@ module _ (ids sorted : List ℕ) (requests : List Request) (made : IsMade ids so
             (IsMail-after sorted requests [] (distinct-permutation ids sorted made.moved made.distinct)
             (All-permutation (λ id. 0x200 ≤ id) ids sorted made.moved made.least) greatest-made made.early);
         rising = rising-put sorted requests i boxes remaining made.rising has;
+        owned = λ id. subst (λ (xs : List ℕ). Contains ids id ↔ Contains xs id)
+            (sym (ap (λ (mail : List Mail). map (λ x. x.identifier) mail) whole ∙ identifiers-after sorted requests []))
+            (Contains-permutation ids sorted id made.moved, Contains-permutation sorted ids id (IsPermutation-sym ids sorted made.moved));
         short = subst (λ (mail : List Mail). All (λ box. AreShort box.unsent) mail) (sym whole)
             (All-map (λ (box : Mail). AreShort box.unsent) (λ id. record { identifier = id; unsent = unsent_after requests [] id }) sorted
             (λ k d within. All-drop (λ (request : Request). length request.frame.bytes ≤ 8) 0 (requests_of requests (get_or sorted k d))
@@ -192,6 +195,8 @@ module _ (ids : List ℕ) (boxes : List Mail) (table arrivals lengths : List ℕ
           (λ i j d before within.
           subst (λ n. n < (taken_from id (get_or boxes j d)).identifier) (sym (taken_from-identifier id (get_or boxes i d)))
           (subst (λ n. (get_or boxes i d).identifier < n) (sym (taken_from-identifier id (get_or boxes j d))) (kept.rising i j d before within))));
+      owned = λ n. subst (λ (xs : List ℕ). Contains ids n ↔ Contains xs n)
+          (sym (ap (λ (mail : List Mail). map (λ x. x.identifier) mail) set-taken ∙ without_first-identifiers id boxes)) (kept.owned n);
       short = subst (λ (mail : List Mail). All (λ x. AreShort x.unsent) mail) (sym set-taken)
           (All-map (λ (x : Mail). AreShort x.unsent) (taken_from id) boxes
           (λ k d within. taken_from-keeps (λ x. AreShort x.unsent) id (get_or boxes k d)

@@ -9,3 +9,6 @@ mod Table
 mod Telling
 mod Trees
 mod Unsent
+mod Putting
+mod Online
+mod Arrivals

@@ -144,7 +144,7 @@ unsent_of-elsewhere (first ∷ ids) requests past id none =
     unsent_of-later (mail_at requests past first) (mail_after ids requests past) id (λ same. none (0, omega arith, same))
     ∙ unsent_of-elsewhere ids requests past id (λ (among : Contains ids id). none (suc among.0, omega arith, among.2))
 
-frames_with-next : (past : List TimedFrame) (sent : TimedFrame) (id : ℕ)
+pub frames_with-next : (past : List TimedFrame) (sent : TimedFrame) (id : ℕ)
     → frames_with (past ++ sent ∷ []) id ≡ frames_with past id + cond (eqb sent.frame.identifier id) 1 0
 frames_with-next past sent id = sum_by-append (λ x. cond (eqb x.frame.identifier id) 1 0) past (sent ∷ []) ∙ omega arith
 

@@ -4,3 +4,4 @@ pub mod Adding
 pub mod Owners
 pub mod Tournament
 pub mod Sorted
+pub mod Online

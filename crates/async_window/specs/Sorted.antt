@@ -1,6 +1,6 @@
 -- Mailboxes in the order of their identifiers, which stand for mail in another order: words for contracts inside the
 -- crate.
-use Rattle.std.specs.Prelude.{◌≡◌, ◌↔◌, ℕ, ◌<◌, ◌≤◌, Some, List, length, map, slice_get, All, AllPairs}
+use Rattle.std.specs.Prelude.{◌≡◌, ◌↔◌, ℕ, ◌<◌, ◌≤◌, Some, List, length, map, slice_get, All, AllPairs, Contains}
 use Rattle.async_window.specs.declared.request.Request.{Request}
 use Rattle.async_window.specs.Mailbox.{Mail, IsMail, unsent_of, left}
 use Rattle.async_window.specs.Tournament.{TellFirsts}
@@ -35,6 +35,7 @@ pub record AreBoxesSorted (ids : List ℕ) (boxes : List Mail) (table arrivals l
   pub same : (id : ℕ) → unsent_of (mail_of ids boxes) id ≡ unsent_of boxes id
   pub known : IsMail boxes
   pub rising : AllPairs (λ one other. one.identifier < other.identifier) boxes
+  pub owned : (id : ℕ) → Contains ids id ↔ Contains (map (λ box. box.identifier) boxes) id
   pub short : All (λ box. AreShort box.unsent) boxes
   pub long : length table ≡ 2048
   pub places : IsPlaceTable boxes table

@@ -9,6 +9,9 @@ ghost use Rattle.async_window.specs.declared.request.Request.{Request};
 ghost use Rattle.async_window.specs.Waiting.{MayStart, unsent_after};
 ghost use Rattle.async_window.specs.Mailbox.{IsLeastWith, IsMail, Mail, OffersIdentifier, mail_after};
 ghost use Rattle.async_window.specs.Mailbox.{mail_offer, may_start, unsent_of, without_first};
+ghost use Rattle.async_window.specs.Adding.{with_request};
+ghost use Rattle.async_window.specs.Online.{ComeLater, HaveArrived, WereRequests, arrived_by, coming_after};
+ghost use Rattle.async_window.specs.Online.{forgotten, forgotten_mail};
 
 /// What is not sent once some frames have started.
 pub fn unsent_laws()
@@ -61,4 +64,25 @@ pub fn offer_laws()
     // The test is the relation.
     ensures may_start { (layout : CycleLayout) (c l : ℕ) (unsent : List Request) (at : ℕ)
         → IsTrue (may_start layout c l at unsent) ↔ ((request : Request) × MayStart layout c l unsent at request) }
+{}
+
+/// Requests that come while the bus runs. One that is put is behind the unsent ones of its identifier; those that come
+/// later change nothing of what may start; and where all unsent ones have arrived, their arrivals may be forgotten.
+pub fn online_laws()
+    ensures put { (ids : List ℕ) (requests : List Request) (request : Request) (past : List TimedFrame)
+        → All (λ id. least_asynchronous ≤ id) ids → WereRequests requests past
+        → mail_after ids (requests ++ request ∷ []) past ≡ map (with_request request) (mail_after ids requests past) }
+    ensures later { (layout : CycleLayout) (c l : ℕ) (requests later : List Request) (past : List TimedFrame)
+        (id at : ℕ) (request : Request) → least_asynchronous ≤ id → WereRequests requests past → ComeLater at later
+        → MayStart layout c l (unsent_after (requests ++ later) past id) at request
+        ↔ MayStart layout c l (unsent_after requests past id) at request }
+    ensures forgotten { (layout : CycleLayout) (l at : ℕ) (mail : List Mail)
+        → All (λ box. HaveArrived at box.unsent) mail
+        → mail_offer layout l (forgotten_mail mail) at ≡ mail_offer layout l mail at }
+    ensures split { (at : ℕ) (requests : List Request) → AllPairs (λ one other. one.at ≤ other.at) requests
+        → requests ≡ arrived_by at requests ++ coming_after at requests }
+    ensures known { (ids : List ℕ) (requests : List Request) (past : List TimedFrame)
+        → AllPairs (λ one other. one ≢ other) ids
+        → All (λ id. least_asynchronous ≤ id) ids → All (λ id. id ≤ greatest_identifier) ids
+        → IsMail (forgotten_mail (mail_after ids requests past)) }
 {}

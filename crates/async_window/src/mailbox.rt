@@ -1,6 +1,7 @@
 //! One mailbox: the requests of one identifier, first in, first out.
 
-ghost use Rattle.std.specs.Prelude.{◌≡◌, ◌≤◌, [], ◌∷◌, ◌++◌, IfOk, drop, is_some, option_map, slice_get};
+ghost use Rattle.std.specs.Prelude.{◌≡◌, ◌≤◌, [], ◌∷◌, ◌++◌, IfOk, OnErr, OnOk, drop, false, is_some, length, nat_lt};
+ghost use Rattle.std.specs.Prelude.{option_map, slice_get, true};
 ghost use Rattle.async_window.specs.Tournament.{arrival_within, first_bytes, first_length};
 
 use crate::request::Request;
@@ -49,6 +50,7 @@ impl Mailbox {
     pub fn push(&mut self, request: &Request) -> Result<(), AllocError>
         ensures pushed { IfOk result (λ _. self.new
             ≡ record { identifier = self.old.identifier; unsent = self.old.unsent ++ request.now ∷ [] }) }
+        ensures same { OnErr result (self.new ≡ self.old) }
     {
         if self.requests.len() < self.requests.capacity() {
             self.requests.push_reserved(*request);
@@ -56,6 +58,33 @@ impl Mailbox {
         }
         self.requests.push(*request)?;
         Ok(())
+    }
+
+    /// Adds a request behind the others where fewer than `room` are not sent, and answers whether it did. What is sent
+    /// gives its place back first, so a mailbox that was made with such a room takes no memory.
+    pub fn put(&mut self, request: &Request, room: usize) -> Result<bool, AllocError>
+        ensures room { IfOk result (λ put. put ≡ nat_lt (length self.old.unsent) room) }
+        ensures put { IfOk result (λ put. put ≡ true → self.new
+            ≡ record { identifier = self.old.identifier; unsent = self.old.unsent ++ request.now ∷ [] }) }
+        ensures full { IfOk result (λ put. put ≡ false → self.new ≡ self.old) }
+        ensures same { OnErr result (self.new ≡ self.old) }
+    {
+        if self.requests.len() - self.sent >= room {
+            return Ok(false);
+        }
+        self.make_room();
+        self.push(request)?;
+        Ok(true)
+    }
+
+    /// Gives back the places of the requests that are sent, where there is no other place.
+    fn make_room(&mut self)
+        ensures same { self.new ≡ self.old }
+    {
+        if self.requests.len() == self.requests.capacity() {
+            drop_first(&mut self.requests, self.sent);
+            self.sent = 0;
+        }
     }
 
     /// The identifier.
@@ -132,4 +161,12 @@ impl Mailbox {
             self.sent += 1;
         }
     }
+}
+
+/// Drops the first requests of a list, in place.
+fn drop_first(requests: &mut Vec<Request>, count: usize)
+    requires within { count ≤ length requests.old.items }
+    ensures left { requests.new.items ≡ drop count requests.old.items }
+{
+    requests.drain(..count);
 }

@@ -1,8 +1,9 @@
 //! Mailboxes: the requests of some identifiers, first in, first out for each identifier.
 
 ghost use Rattle.std.specs.Prelude.{◌≡◌, ◌≢◌, ◌↔◌, ℕ, ◌+◌, ◌-◌, ◌/◌, ◌<◌, ◌≤◌, ◌==◌, [], ◌++◌, All};
-ghost use Rattle.std.specs.Prelude.{AllPairs, IfOk, IfSome, IsSome, MatchOption, None, Some, false, true, drop};
-ghost use Rattle.std.specs.Prelude.{if◌then◌else◌, is_some, length, map, min, option_map, slice_get, slice_index_or};
+ghost use Rattle.std.specs.Prelude.{AllPairs, Contains, IfOk, IfSome, IsSome, MatchOption, None, OnErr, Some, false, true};
+ghost use Rattle.std.specs.Prelude.{drop, if◌then◌else◌, is_some, length, map, min, nat_lt, option_map, slice_get};
+ghost use Rattle.std.specs.Prelude.{slice_index_or, ◌&&◌, ◌^◌};
 ghost use Rattle.std.specs.Option.{option_map_or, option_to_list};
 ghost use Rattle.profile.specs.Limits.{arrivals_end, greatest_identifier, least_asynchronous, times_end};
 ghost use Rattle.cycle_layout.specs.Layout.{CycleLayout};
@@ -23,6 +24,9 @@ use cycle_layout::Layout;
 use profile::TIMES_END;
 use std::alloc::{AllocError, Global};
 use std::marker::Model;
+
+/// The most requests that mailboxes hold together.
+const MOST_LEFT: usize = 1 << 32;
 
 /// What mailboxes offer, and how long they do while nothing is taken away.
 #[derive(Clone, Copy, PartialEq, Eq, Debug)]
@@ -177,6 +181,36 @@ impl Mailboxes {
         } else {
             None
         }
+    }
+
+    /// Whether an identifier has a mailbox.
+    pub fn has(&self, id: u16) -> bool
+        ensures has { result ≡ true ↔ Contains (map (λ box. box.identifier) self.now) id }
+    {
+        place_of(self.places.as_slice(), id) < self.boxes.len()
+    }
+
+    /// Puts a request behind the unsent ones of its identifier, where fewer than `room` of these are left, and fewer than
+    /// 2^32 in all. The answer is whether it did.
+    pub fn put(&mut self, request: &Request, room: usize) -> Result<bool, AllocError>
+        requires early { request.now.at < arrivals_end }
+        requires own { Contains (map (λ box. box.identifier) self.old) request.now.frame.identifier }
+        ensures room { IfOk result (λ put. put ≡ (nat_lt (left self.old) (2 ^ 32)
+            && nat_lt (length (unsent_of self.old request.now.frame.identifier)) room)) }
+        ensures put { IfOk result (λ put. put ≡ true → self.new ≡ map (with_request request.now) self.old) }
+        ensures full { IfOk result (λ put. put ≡ false → self.new ≡ self.old) }
+        ensures same { OnErr result (self.new ≡ self.old) }
+    {
+        if self.remaining >= MOST_LEFT {
+            return Ok(false);
+        }
+        let place = place_of(self.places.as_slice(), request.frame.id());
+        if !put_at(&mut self.boxes, place, request, room)? {
+            return Ok(false);
+        }
+        self.firsts.note(self.boxes.as_slice(), place);
+        self.remaining += 1;
+        Ok(true)
     }
 
     /// Takes away the first unsent request of an identifier.
@@ -340,4 +374,24 @@ fn put(boxes: &mut [Mailbox], places: &[u16], request: &Request) -> Result<usize
     } else {
         Ok(0)
     }
+}
+
+/// Puts a request into the mailbox at a place, which is that of its identifier, where fewer than `room` are not sent.
+fn put_at(
+    boxes: &mut Vec<Mailbox>,
+    place: usize,
+    request: &Request,
+    room: usize,
+) -> Result<bool, AllocError>
+    requires place { place < length boxes.old.items }
+    requires own { (d : Mail) → (slice_index_or boxes.old.items place d).identifier ≡ request.now.frame.identifier }
+    requires distinct { AllPairs (λ one other. one.identifier ≢ other.identifier) boxes.old.items }
+    ensures room { (d : Mail) → IfOk result (λ put. put
+        ≡ nat_lt (length (slice_index_or boxes.old.items place d).unsent) room) }
+    ensures put { IfOk result (λ put. put ≡ true → boxes.new.items ≡ map (with_request request.now) boxes.old.items) }
+    ensures full { IfOk result (λ put. put ≡ false → boxes.new.items ≡ boxes.old.items) }
+    ensures same { OnErr result (boxes.new.items ≡ boxes.old.items) }
+{
+    let put = boxes[place].put(request, room)?;
+    Ok(put)
 }

@@ -12,6 +12,7 @@ pub struct Request {
 }
 
 /// The node that sends the frames of an asynchronous identifier.
+#[repr(C)]
 #[derive(Clone, Copy, PartialEq, Eq, Debug)]
 pub struct Owner {
     /// The identifier, 0x200 to 0x7EF.

@@ -1,5 +1,5 @@
 -- Requests of streams start within their bound.
-use Rattle.std.proofs.Common.{◌≡◌, ℕ, zero, suc, ◌+◌, ◌-◌, ◌*◌, ◌<◌, ◌≤◌, min, Bool, true, false, cond, List, length, Contains, Some, inl, inr, sym, ap, ◌∙◌, subst, arith, drop, slice_get, get_or, mul-le-mul_right}
+use Rattle.std.proofs.Common.{◌≡◌, ℕ, zero, suc, ◌+◌, ◌-◌, ◌*◌, ◌<◌, ◌≤◌, min, Bool, true, false, cond, List, All, length, Contains, Some, inl, inr, sym, ap, ◌∙◌, subst, arith, drop, slice_get, get_or, mul-le-mul_right}
 use Rattle.std.specs.Prelude.{nat_lt, nat_le, ◌==◌, ◌&&◌, ◌||◌}
 use Rattle.std.proofs.lemmas.Bool.{and_from, and_parts, cases_lt, eq-eqb, eqb-true, leb-true, le-leb, lt-ltb, or_left, or_right}
 use Rattle.std.proofs.lemmas.List.Elements.{All-contains, All-drop, All-filter, Contains-get_or, filter_passes}
@@ -8,15 +8,14 @@ use Rattle.can_frame.specs.Wire.{wire_length}
 use Rattle.can_frame.specs.declared.data_frame.TimedFrame.{TimedFrame}
 use Rattle.can_frame.proofs.Shared.{wire-most}
 use Rattle.stuff_bound.specs.Stuffing.{worst}
-use Rattle.cycle_layout.specs.Layout.{CycleLayout, IsLayout}
-use Rattle.requirement_table.specs.Instance.{Instance}
-use Rattle.requirement_table.specs.Opening.{Opening}
+use Rattle.cycle_layout.specs.Layout.{CycleLayout}
 use Rattle.async_window.specs.declared.request.Request.{Request}
 use Rattle.async_window.specs.Waiting.{IsRequestWaiting, requests_of, unsent_after}
 use Rattle.bus_line.specs.Trace.{started_before}
 use Rattle.async_bound.specs.declared.stream.BurstStream.{BurstStream}
-use Rattle.bounded_runs.specs.Runs.{EndSoon, IsBoundedRun, is_ahead, is_inside}
-use Rattle.async_bound.specs.Bound.{IsBound, own_before}
+use Rattle.bounded_runs.specs.Runs.{EndSoon, is_ahead, is_inside}
+use Rattle.async_bound.specs.Bound.{IsBound, demand, own_before}
+use Rattle.async_bound.specs.Room.{count_below, is_usable}
 use Rattle.async_bound.specs.Streams.{AreStreams, IsStream}
 use Rattle.bounded_runs.specs.Requests.{AreOfStreams, IsApart, IsOfStream}
 use Rattle.bounded_runs.specs.Runs.{StartsWithin}
@@ -26,7 +25,7 @@ use Rattle.bounded_runs.proofs.Clear.{IsBehind, IsClearOf, last-clear}
 use Rattle.bounded_runs.proofs.Demand.{begun-split, inside, is_own, own-time, time-demand}
 use Rattle.async_bound.proofs.Shared.{sum-le-two}
 use Rattle.bounded_runs.proofs.Fills.{IsFilled, fills}
-use Rattle.bounded_runs.proofs.Requests.{begun-arrived, of-request, some-long}
+use Rattle.bounded_runs.proofs.Requests.{IsAnswering, begun-arrived, some-long}
 
 same-one : (one other : Request) (rs : List Request) (place : ℕ) → slice_get (drop place rs) 0 ≡ Some one → slice_get (drop place rs) 0 ≡ Some other → one ≡ other
 same-one one other rs place is also = cc
@@ -36,8 +35,19 @@ either true c len = omega arith
 either false true len = omega arith
 either false false len = omega arith
 
-module _ (sends : Instance → List ℕ) (layout : CycleLayout) (known : IsLayout layout) (requests : List Request) (openings : List Opening)
-    (count : ℕ) (trace : List TimedFrame) (run : IsBoundedRun sends layout requests openings count trace)
+-- a bound by the times that are usable, whichever these are
+pub record IsBoundBy (usable : ℕ → Bool) (streams : List BurstStream) (stream : BurstStream) (longest blocked span : ℕ) : Type 0 where
+  pub among : Contains streams stream
+  pub short : All (λ other. other.id ≤ stream.id → worst other.bytes ≤ longest) streams
+  pub blocking : All (λ other. worst other.bytes ≤ blocked + 1) streams
+  pub within : span ≤ stream.gap
+  pub room : (low : ℕ) → count_below usable (low + blocked) + (demand streams stream.id span + own_before stream longest) < count_below usable (low + span)
+
+pub bound-by : (layout : CycleLayout) (streams : List BurstStream) (stream : BurstStream) (longest blocked span : ℕ) → IsBound layout streams stream longest blocked span
+    → IsBoundBy (is_usable layout longest) streams stream longest blocked span
+bound-by layout streams stream longest blocked span is = record { among = is.among; short = is.short; blocking = is.blocking; within = is.within; room = is.room }
+
+module _ (requests : List Request) (trace : List TimedFrame) (usable : ℕ → Bool) (longest until : ℕ) (answering : IsAnswering requests trace usable longest until)
     (streams : List BurstStream) (are : AreStreams streams) (of : AreOfStreams streams requests) where
   -- the request at a place of an identifier's
   abbrev IsAt : ℕ → ℕ → Request → Type 0
@@ -64,7 +74,7 @@ module _ (sends : Instance → List ℕ) (layout : CycleLayout) (known : IsLayou
   async-of stream has = (All-contains IsStream streams stream are has).asynchronous
 
   started-arrived : (stream : BurstStream) → Contains streams stream → (at : ℕ) → begun stream.id at trace ≤ arrived at (requests_of requests stream.id)
-  started-arrived stream has at = begun-arrived sends layout requests openings count trace run stream.id (async-of stream has)
+  started-arrived stream has at = begun-arrived requests trace answering.ordered answering.of_request stream.id (async-of stream has)
       (rise-of stream has) at
 
   -- the stream of a request's frame
@@ -76,9 +86,9 @@ module _ (sends : Instance → List ℕ) (layout : CycleLayout) (known : IsLayou
 
   frame-of : (sent : TimedFrame) → Contains trace sent → least_asynchronous ≤ sent.frame.identifier → IsFrameOf sent
   frame-of sent has high =
-      let its = of-request sends layout requests openings count trace run sent has high in
+      let its = answering.of_request sent has high in
       let own = of-stream sent.frame.identifier (begun sent.frame.identifier sent.start trace) its.request its.is in
-      let whole = All-contains (λ s. s.len ≡ wire_length s.frame) trace sent run.can_trace.ordered.lengths has in
+      let whole = All-contains (λ s. s.len ≡ wire_length s.frame) trace sent answering.ordered.lengths has in
       let few : length sent.frame.bytes ≤ own.stream.bytes = subst (λ f. length f.bytes ≤ own.stream.bytes) (sym its.its_frame) own.short in
       record {
         stream = own.stream;
@@ -87,7 +97,7 @@ module _ (sends : Instance → List ℕ) (layout : CycleLayout) (known : IsLayou
         short = omega (arith, whole, few, wire-most sent.frame);
       }
 
-  module _ (stream : BurstStream) (longest blocked span : ℕ) (bound : IsBound layout streams stream longest blocked span) where
+  module _ (stream : BurstStream) (blocked span : ℕ) (bound : IsBoundBy usable streams stream longest blocked span) where
     ends-soon : (at : ℕ) → EndSoon blocked at trace
     ends-soon at k d within high early =
         let sent = get_or trace k d in
@@ -107,10 +117,10 @@ module _ (sends : Instance → List ℕ) (layout : CycleLayout) (known : IsLayou
         (and_from (nat_le low sent.start) (nat_lt sent.start (low + span)) (le-leb low sent.start (omega (arith, now, from))) (lt-ltb sent.start (low + span) (omega (arith, now, before))))
         (and_from (nat_le least_asynchronous sent.frame.identifier) (nat_lt sent.frame.identifier stream.id) (le-leb least_asynchronous sent.frame.identifier high) (lt-ltb sent.frame.identifier stream.id below))
 
-    module _ (place : ℕ) (q : Request) (is : IsAt stream.id place q) (within : q.at + span ≤ count * layout.cycle)
+    module _ (place : ℕ) (q : Request) (is : IsAt stream.id place q) (within : q.at + span ≤ until)
         (sofar : place + 1 ≤ stream.burst + begun stream.id q.at trace) (not_yet : begun stream.id (q.at + span) trace ≤ place) where
       module _ (low : ℕ) (before : low ≤ q.at) (behind : (later : ℕ) → low < later → later ≤ q.at → IsBehind requests trace stream.id later streams)
-          (inside_run : low + span ≤ count * layout.cycle) where
+          (inside_run : low + span ≤ until) where
         abbrev mid : ℕ
         mid = min q.at (low + span)
 
@@ -121,7 +131,7 @@ module _ (sends : Instance → List ℕ) (layout : CycleLayout) (known : IsLayou
         both sent = is_ahead stream.id low (low + span) sent || is_own mid (low + span) mid-order stream.id sent
 
         abbrev Filled : ℕ → Type 0
-        Filled at = IsFilled sends layout known requests openings count trace run longest blocked low (low + span) both inside_run (ends-soon low) at
+        Filled at = IsFilled requests trace usable longest until answering blocked low (low + span) both inside_run (ends-soon low) at
 
         -- up to the arrival a request of a lower identifier waits
         filled-before : (at : ℕ) → low ≤ at → at < low + span → at < q.at → Filled at
@@ -196,7 +206,7 @@ module _ (sends : Instance → List ℕ) (layout : CycleLayout) (known : IsLayou
         refuted : IsClearOf requests trace stream.id low streams → ⊥
         refuted clear =
             let order : low ≤ low + span = omega arith in
-            let all = fills sends layout known requests openings count trace run longest blocked low (low + span) both inside_run (ends-soon low) filled in
+            let all = fills requests trace usable longest until answering blocked low (low + span) both inside_run (ends-soon low) filled in
             let need = time-demand low (low + span) order streams stream.id span trace
             (λ k d there passes.
             let sent = get_or trace k d in
@@ -227,7 +237,7 @@ module _ (sends : Instance → List ℕ) (layout : CycleLayout) (known : IsLayou
             let room = bound.room low in
             omega (arith, all, need, two, own, most, room)
 
-    next-starts : (place : ℕ) (q : Request) → IsAt stream.id place q → q.at + span ≤ count * layout.cycle → place + 1 ≤ stream.burst + begun stream.id q.at trace
+    next-starts : (place : ℕ) (q : Request) → IsAt stream.id place q → q.at + span ≤ until → place + 1 ≤ stream.burst + begun stream.id q.at trace
         → place + 1 ≤ begun stream.id (q.at + span) trace
     next-starts place q is within sofar = elim (cases_lt place (begun stream.id (q.at + span) trace)) [
       | inl done ↦ omega (arith, done)
@@ -237,7 +247,7 @@ module _ (sends : Instance → List ℕ) (layout : CycleLayout) (known : IsLayou
           absurd (refuted place q is within sofar not_yet last.at early last.behind (omega (arith, within, early)) last.clear)
     ]
 
-    start-by : (most place : ℕ) (q : Request) → place < most → IsAt stream.id place q → q.at + span ≤ count * layout.cycle
+    start-by : (most place : ℕ) (q : Request) → place < most → IsAt stream.id place q → q.at + span ≤ until
         → place + 1 ≤ begun stream.id (q.at + span) trace
     start-by zero place q small is within = absurd (omega arith)
     start-by (suc most) place q small is within = elim (cases_lt place stream.burst) [
@@ -256,7 +266,7 @@ module _ (sends : Instance → List ℕ) (layout : CycleLayout) (known : IsLayou
           next-starts place q is within (omega (arith, sofar, later, begun-le stream.id (before.request.at + span) q.at trace order))
     ]
 
-    all-start : (place : ℕ) (q : Request) → IsAt stream.id place q → q.at + span ≤ count * layout.cycle
+    all-start : (place : ℕ) (q : Request) → IsAt stream.id place q → q.at + span ≤ until
         → place + 1 ≤ begun stream.id (q.at + span) trace
     all-start place q is within = start-by (suc place) place q (omega arith) is within
 
@@ -270,21 +280,21 @@ module _ (sends : Instance → List ℕ) (layout : CycleLayout) (known : IsLayou
       | inr few ↦ omega (arith, few, started-arrived stream bound.among q.at)
     ]
 
-    pub starts-within : (place : ℕ) (q : Request) → slice_get (requests_of requests stream.id) place ≡ Some q → q.at + span ≤ count * layout.cycle
+    pub starts-within : (place : ℕ) (q : Request) → slice_get (requests_of requests stream.id) place ≡ Some q → q.at + span ≤ until
         → StartsWithin trace place span q
     starts-within place q at_place within =
         let is = from-place place (requests_of requests stream.id) q at_place in
-        let found = crossing stream.id q.at (q.at + span) place trace (some-long sends layout requests openings count trace run) run.can_trace.ordered.apart
+        let found = crossing stream.id q.at (q.at + span) place trace (some-long requests trace answering.ordered answering.of_request) answering.ordered.apart
         (omega arith) (few-before place q is) (all-start place q is within) in
         let sent = found.starts.sent in
         let same = found.starts.same in
         let now = found.starts.now in
-        let its = of-request sends layout requests openings count trace run sent found.starts.among (omega (arith, same, async-of stream bound.among)) in
+        let its = answering.of_request sent found.starts.among (omega (arith, same, async-of stream bound.among)) in
         let its_id = subst (λ n. IsAt n (begun n sent.start trace) its.request) same its.is in
         let its_at = subst (λ n. IsAt stream.id (begun stream.id n trace) its.request) now its_id in
         let its_place = subst (λ n. IsAt stream.id n its.request) found.number its_at in
         let one : its.request ≡ q = same-one its.request q (requests_of requests stream.id) place its_place is in
-        let whole = All-contains (λ s. s.len ≡ wire_length s.frame) trace sent run.can_trace.ordered.lengths found.starts.among in
+        let whole = All-contains (λ s. s.len ≡ wire_length s.frame) trace sent answering.ordered.lengths found.starts.among in
         let few : length sent.frame.bytes ≡ length q.frame.bytes = ap (λ f. length f.bytes) (its.its_frame ∙ ap (λ r. r.frame) one) in
         let number : begun stream.id sent.start trace ≡ place = ap (λ n. begun stream.id n trace) now ∙ found.number in
         record {

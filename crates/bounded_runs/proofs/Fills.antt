@@ -17,13 +17,14 @@ use Rattle.bounded_runs.specs.Runs.{EndSoon, IsBoundedRun, IsPressed, WaitsOnBus
 use Rattle.async_bound.proofs.Shared.{Contains-any}
 use Rattle.bounded_runs.proofs.Count.{IsCovered, covered-times}
 use Rattle.bounded_runs.proofs.Free.{free-at, is-request}
+use Rattle.bounded_runs.proofs.Requests.{IsAnswering, of-request}
 
 -- a usable time, in the words of its cycle
-record IsRoom (layout : CycleLayout) (longest at cycle : ℕ) : Type 0 where
-  open_ : async_open layout cycle ≤ at
-  whole : at + longest + layout.window ≤ (cycle + 1) * layout.cycle
+pub record IsRoom (layout : CycleLayout) (longest at cycle : ℕ) : Type 0 where
+  pub open_ : async_open layout cycle ≤ at
+  pub whole : at + longest + layout.window ≤ (cycle + 1) * layout.cycle
 
-room-of : (layout : CycleLayout) (longest at : ℕ) → is_usable layout longest at ≡ true → IsRoom layout longest at (at / layout.cycle)
+pub room-of : (layout : CycleLayout) (longest at : ℕ) → is_usable layout longest at ≡ true → IsRoom layout longest at (at / layout.cycle)
 room-of layout longest at usable =
     let parts = and_parts (nat_le (trigger_part layout + layout.turnaround) (at % layout.cycle)) (nat_le (at % layout.cycle + longest + layout.window) layout.cycle) usable in
     let early = leb-true (trigger_part layout + layout.turnaround) (at % layout.cycle) parts.0 in
@@ -31,7 +32,7 @@ room-of layout longest at usable =
     let split = div-add-mod' at layout.cycle in
     record { open_ = omega (arith, early, split); whole = omega (arith, late, split) }
 
-count-more : (test : ℕ → Bool) (low k : ℕ) → count_below test low ≤ count_below test (low + k)
+pub count-more : (test : ℕ → Bool) (low k : ℕ) → count_below test low ≤ count_below test (low + k)
 count-more test low zero = rw (add-zero low) (omega arith)
 count-more test low (suc k) =
     let sofar = count-more test low k in
@@ -59,7 +60,42 @@ module _ (sends : Instance → List ℕ) (layout : CycleLayout) (known : IsLayou
         })),
       )
 
-  module _ (longest blocked low high : ℕ) (test : TimedFrame → Bool) (within : high ≤ count * layout.cycle) (soon : EndSoon blocked low trace) where
+  -- so it is answered
+  pub answering-run : (longest : ℕ) → IsAnswering requests trace (is_usable layout longest) longest (count * layout.cycle)
+  answering-run longest = record {
+    ordered = run.can_trace.ordered;
+    of_request = of-request sends layout requests openings count trace run;
+    answers = λ at r before usable waits.
+        let range = known.cycle_range.above in
+        let some_time : 0 < layout.cycle = omega arith in
+        let cycle = at / layout.cycle in
+        let below : at / layout.cycle < count = (div-lt_iff_lt-mul some_time).1 (omega (arith, before)) in
+        let room = room-of layout longest at usable in
+        let busy = run.can_trace.busy at r.frame before (offered-request longest at cycle r room below waits) in
+        let found = Contains-any (λ s. (s.start ≤ at) × (at < end_of s)) trace busy in
+        let sent = found.0 in
+        let covers = found.2 in
+        let request = is-request sends layout known requests openings count trace run cycle below sent found.1 at covers.0 covers.1 room.open_ (omega (arith, room.whole, waits.short)) in
+        let opened : async_open layout cycle ≤ sent.start = elim (cases_lt sent.start (async_open layout cycle)) [
+          | inl early ↦
+              let ended = free-at sends layout known requests openings count trace run cycle below sent found.1 early in
+              absurd (omega (arith, ended, covers, room.open_))
+          | inr is ↦ is
+        ] in
+        let its : IsRoom layout longest sent.start cycle = record { open_ = opened; whole = omega (arith, room.whole, covers) } in
+        let least = All-contains (λ s. IsLeastOffered (offered sends layout requests openings) (started_before s.start trace) s.start s.frame) trace sent run.can_trace.least found.1 in
+        record {
+          sent = sent;
+          among = found.1;
+          from = covers.0;
+          before = covers.1;
+          asynchronous = request;
+          goes_first = λ other also. least.least other.frame (offered-request longest sent.start cycle other its below also);
+        };
+  }
+
+module _ (requests : List Request) (trace : List TimedFrame) (usable : ℕ → Bool) (longest until : ℕ) (answering : IsAnswering requests trace usable longest until) where
+  module _ (blocked low high : ℕ) (test : TimedFrame → Bool) (within : high ≤ until) (soon : EndSoon blocked low trace) where
     -- a request waits, and the frames that start then with an identifier up to its own pass
     pub record IsFilled (at : ℕ) : Type 0 where
       pub request : Request
@@ -68,57 +104,40 @@ module _ (sends : Instance → List ℕ) (layout : CycleLayout) (known : IsLayou
           → sent.frame.identifier ≤ request.frame.identifier → test sent ≡ true
 
     covered : ((at : ℕ) → low ≤ at → at < high → IsFilled at)
-        → (at : ℕ) → low + blocked ≤ at → at < high → is_usable layout longest at ≡ true → IsCovered test (is_usable layout longest) trace at
-    covered filled at from before usable =
-        let range = known.cycle_range.above in
-        let some_time : 0 < layout.cycle = omega arith in
-        let cycle = at / layout.cycle in
-        let below : at / layout.cycle < count = (div-lt_iff_lt-mul some_time).1 (omega (arith, before, within)) in
-        let room = room-of layout longest at usable in
+        → (at : ℕ) → low + blocked ≤ at → at < high → usable at ≡ true → IsCovered test usable trace at
+    covered filled at from before is_usable_ =
         let now = filled at (omega arith) before in
-        let busy = run.can_trace.busy at now.request.frame (omega (arith, before, within)) (offered-request longest at cycle now.request room below now.waits) in
-        let found = Contains-any (λ s. (s.start ≤ at) × (at < end_of s)) trace busy in
-        let sent = found.0 in
-        let covers = found.2 in
-        let request = is-request sends layout known requests openings count trace run cycle below sent found.1 at covers.0 covers.1 room.open_ (omega (arith, room.whole, now.waits.short)) in
-        let late : low ≤ sent.start = elim (cases_lt sent.start low) [
+        let is = answering.answers at now.request (omega (arith, before, within)) is_usable_ now.waits in
+        let late : low ≤ is.sent.start = elim (cases_lt is.sent.start low) [
           | inl early ↦
-              let ended = All-contains (λ s. least_asynchronous ≤ s.frame.identifier → s.start < low → end_of s ≤ low + blocked) trace sent soon found.1 request early in
-              absurd (omega (arith, ended, covers, from))
-          | inr is ↦ is
+              let ended = All-contains (λ s. least_asynchronous ≤ s.frame.identifier → s.start < low → end_of s ≤ low + blocked) trace is.sent soon is.among is.asynchronous early in
+              absurd (omega (arith, ended, is.before, from))
+          | inr then_ ↦ then_
         ] in
-        let opened : async_open layout cycle ≤ sent.start = elim (cases_lt sent.start (async_open layout cycle)) [
-          | inl early ↦
-              let ended = free-at sends layout known requests openings count trace run cycle below sent found.1 early in
-              absurd (omega (arith, ended, covers, room.open_))
-          | inr is ↦ is
-        ] in
-        let then_ = filled sent.start late (omega (arith, covers, before)) in
-        let its : IsRoom layout longest sent.start cycle = record { open_ = opened; whole = omega (arith, room.whole, covers) } in
-        let least = All-contains (λ s. IsLeastOffered (offered sends layout requests openings) (started_before s.start trace) s.start s.frame) trace sent run.can_trace.least found.1 in
+        let then_ = filled is.sent.start late (omega (arith, is.from, before)) in
         record {
-          sent = sent;
-          among = found.1;
-          passed = then_.passing sent found.1 refl request (least.least then_.request.frame (offered-request longest sent.start cycle then_.request its below then_.waits));
-          from = covers.0;
-          before = covers.1;
+          sent = is.sent;
+          among = is.among;
+          passed = then_.passing is.sent is.among refl is.asynchronous (is.goes_first then_.request then_.waits);
+          from = is.from;
+          before = is.before;
         }
 
     pub fills : ((at : ℕ) → low ≤ at → at < high → IsFilled at)
-        → count_below (is_usable layout longest) high ≤ count_below (is_usable layout longest) (low + blocked) + time_of test trace
+        → count_below usable high ≤ count_below usable (low + blocked) + time_of test trace
     fills filled = elim (cases_lt high (low + blocked)) [
       | inl short ↦
-          let more : count_below (is_usable layout longest) high ≤ count_below (is_usable layout longest) (low + blocked)
-          = subst (λ n. count_below (is_usable layout longest) high ≤ count_below (is_usable layout longest) n) (omega arith) (count-more (is_usable layout longest) high (low + blocked - high)) in
+          let more : count_below usable high ≤ count_below usable (low + blocked)
+          = subst (λ n. count_below usable high ≤ count_below usable n) (omega arith) (count-more usable high (low + blocked - high)) in
           omega (arith, more)
-      | inr long ↦ covered-times test (is_usable layout longest) trace (low + blocked) high long (covered filled)
+      | inr long ↦ covered-times test usable trace (low + blocked) high long (covered filled)
     ]
 
-  pub level-fills : (longest id low high blocked : ℕ) → high ≤ count * layout.cycle → EndSoon blocked low trace
+  pub level-fills : (id low high blocked : ℕ) → high ≤ until → EndSoon blocked low trace
       → ((at : ℕ) → low ≤ at → at < high → IsPressed requests trace longest id at)
-      → count_below (is_usable layout longest) high ≤ count_below (is_usable layout longest) (low + blocked) + time_of (is_ahead id low high) trace
-  level-fills longest id low high blocked within soon pressed =
-      fills longest blocked low high (is_ahead id low high) within soon (λ at from before.
+      → count_below usable high ≤ count_below usable (low + blocked) + time_of (is_ahead id low high) trace
+  level-fills id low high blocked within soon pressed =
+      fills blocked low high (is_ahead id low high) within soon (λ at from before.
       let is = pressed at from before in
       record {
         request = is.request;

@@ -12,3 +12,4 @@ mod Cut
 mod KeptRuns
 mod Kept
 mod Belongs
+pub mod Shared

@@ -70,7 +70,7 @@ pub record Standing (layout : CycleLayout) (owners : List Owner) (requests : Lis
 module _ (layout : CycleLayout) (owners : List Owner) (requests : List Request) (opening : Opening)
     (are_owners : AreOwners owners) (well_placed : IsWellPlaced opening.placed) where
   -- nodes that hear one more frame of the cycle
-  Standing-more : (past : List TimedFrame) (nodes : List NodeState) (sent : TimedFrame) → greatest_trigger < sent.frame.identifier → start_of layout opening ≤ sent.start
+  pub Standing-more : (past : List TimedFrame) (nodes : List NodeState) (sent : TimedFrame) → greatest_trigger < sent.frame.identifier → start_of layout opening ≤ sent.start
       → Standing layout owners requests opening past nodes → Standing layout owners requests opening (past ++ sent ∷ []) (all_hear nodes sent)
   Standing-more past nodes sent other begun standing = record {
     are = All-map IsNode (λ node. after_hearing node sent) nodes (All-weaker IsNode (λ node. IsNode (after_hearing node sent)) (λ node is. node-hearing node sent (λ opens. absurd (above-opens_not node.layout.slots sent.frame.identifier other opens)) is) nodes standing.are);
@@ -81,11 +81,11 @@ module _ (layout : CycleLayout) (owners : List Owner) (requests : List Request) 
     owned = All-weaker (IsOwned owners nodes) (IsOwned owners (all_hear nodes sent)) (IsOwned-kept owners nodes sent) requests standing.owned;
   }
 
-  parts_at : (past : List TimedFrame) (nodes : List NodeState) (at : ℕ) → start_of layout opening ≤ at → at < end_of_cycle layout opening
+  pub parts_at : (past : List TimedFrame) (nodes : List NodeState) (at : ℕ) → start_of layout opening ≤ at → at < end_of_cycle layout opening
       → Standing layout owners requests opening past nodes → All (OffersLeastOwn layout owners requests opening past at) nodes
   parts_at past nodes at begun within standing = grind (arith, div-eq_of_lt-le, offers_own_part)
 
-  own_id : (number : ℕ) (past : List TimedFrame) (at : ℕ) (frame : DataFrame) → OffersOwn number layout owners requests opening past at frame → greatest_trigger < frame.identifier
+  pub own_id : (number : ℕ) (past : List TimedFrame) (at : ℕ) (frame : DataFrame) → OffersOwn number layout owners requests opening past at frame → greatest_trigger < frame.identifier
   own_id number past at frame (inl (offers, contains)) =
       let least = All-map (λ id. 0x200 ≤ id) (λ owner. owner.id) _ (All-filter (λ owner. owner.node == number) (λ owner. 0x200 ≤ owner.id) owners are_owners.least) in
       omega (arith, All-contains (λ id. 0x200 ≤ id) (identifiers_of number owners) frame.identifier least contains)
@@ -163,13 +163,13 @@ part-within layout opening is = omega (arith, add-mul opening.cycle 1 layout.cyc
 module _ (layout : CycleLayout) (owners : List Owner) (requests : List Request) (opening : Opening)
     (are_owners : AreOwners owners) (well_placed : IsWellPlaced opening.placed) (past : List TimedFrame) (nodes : List NodeState)
     (waiting : Waiting layout owners requests opening past nodes) where
-  asynchronous : (before : List TimedFrame) (at : ℕ) (other : DataFrame) → OffersRequest layout requests opening before at other → greatest_trigger < other.identifier
+  pub asynchronous : (before : List TimedFrame) (at : ℕ) (other : DataFrame) → OffersRequest layout requests opening before at other → greatest_trigger < other.identifier
   asynchronous before at other offers =
       let own = IsOwn-request layout owners requests opening before at nodes waiting.owned other offers in
       own_id layout owners requests opening are_owners well_placed own.0.number before at other own.2
 
   -- nodes that hear the trigger frames
-  Standing-trigger : (sent : List TimedFrame) → map (λ one. one.frame) sent ≡ trigger_frames layout opening → All IsNode (heard_by sent nodes)
+  pub Standing-trigger : (sent : List TimedFrame) → map (λ one. one.frame) sent ≡ trigger_frames layout opening → All IsNode (heard_by sent nodes)
       → Standing layout owners requests opening (past ++ sent) (heard_by sent nodes)
   Standing-trigger sent is known = record {
     are = known;

@@ -30,7 +30,7 @@ pub frame_by_nodes-id : (nodes : List NodeState) (at id : ℕ) → (frame_by_nod
 frame_by_nodes-id nodes at id = found_id at id (find (λ node. offers_this id (node_offer node at)) nodes)
 
 -- what there is of a part, where its least identifier is known
-least_of_part : (Own : DataFrame → Type 0) (Is : ℕ → Type 0) (o : Option ℕ) (frame : DataFrame) → Own frame
+pub least_of_part : (Own : DataFrame → Type 0) (Is : ℕ → Type 0) (o : Option ℕ) (frame : DataFrame) → Own frame
     → MatchOption o ((frame : DataFrame) → Own frame → ⊥) (λ id. Is id × ((frame : DataFrame) → Own frame → id ≤ frame.identifier))
     → (id : ℕ) × (o ≡ Some id) × (id ≤ frame.identifier)
 least_of_part Own Is o frame own part = grind arith

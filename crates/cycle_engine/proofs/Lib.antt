@@ -29,3 +29,5 @@ mod JointHears
 mod JointCycle
 mod Parts
 mod JointRun
+mod LiveBus
+mod LiveCycle

@@ -185,7 +185,7 @@ module _ (sends : Instance → List ℕ) (whole : SendsWhole sends) where
   cost-of o bytes is = grind (arith, none-some, same_Some)
 
   -- the frame of a slot takes no more than the slot costs
-  slot-in_time : (opening : Opening) (slot : ℕ) (frame : DataFrame) → bytes_sent sends opening slot ≡ Some frame.bytes → wire_length frame ≤ worst_in opening.placed opening.cycle slot
+  pub slot-in_time : (opening : Opening) (slot : ℕ) (frame : DataFrame) → bytes_sent sends opening slot ≡ Some frame.bytes → wire_length frame ≤ worst_in opening.placed opening.cycle slot
   slot-in_time opening slot frame bytes = grind (arith, cost-of, wire-most)
 
   -- the next frame of the window starts as soon as the bus is free and the window has begun

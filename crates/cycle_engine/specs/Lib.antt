@@ -4,3 +4,4 @@ pub mod Nodes
 pub mod Offered
 pub mod Stations
 pub mod SyncWindow
+pub mod LiveBus

@@ -1,7 +1,17 @@
 //! Laws about the definitions of this crate. Each function has an empty body but for calls of other laws, and its
 //! contract is the law.
 
-ghost use Rattle.std.specs.Prelude.{◌≡◌, ℕ, ◌+◌, ◌≤◌, List, [], ◌∷◌, ◌++◌, All};
+ghost use Rattle.std.specs.Prelude.{◌≡◌, ℕ, ◌+◌, ◌*◌, ◌^◌, ◌<◌, ◌≤◌, List, [], ◌∷◌, ◌++◌, All, AllPairs};
+ghost use Rattle.async_window.specs.declared.request.Owner.{Owner};
+ghost use Rattle.async_window.specs.Owners.{AreOwners};
+ghost use Rattle.async_window.specs.Online.{WereRequests, arrived_by};
+ghost use Rattle.node_model.specs.Node.{IsNode, NodeState};
+ghost use Rattle.cycle_engine.specs.LiveBus.{IsLiveCycle, IsTriggered, live_offers};
+ghost use Rattle.cycle_engine.specs.Nodes.{IsBefore, heard_by, opening_of};
+ghost use Rattle.bus_line.specs.Trace.{Follows, free_after};
+ghost use Rattle.profile.specs.Limits.{cycles_end};
+ghost use Rattle.requirement_table.specs.declared.entries.Order.{Order};
+ghost use Rattle.requirement_table.specs.declared.entries.Placed.{Placed};
 ghost use Rattle.can_frame.specs.declared.data_frame.TimedFrame.{TimedFrame};
 ghost use Rattle.cycle_layout.specs.Layout.{CycleLayout, IsLayout};
 ghost use Rattle.async_window.specs.declared.request.Request.{Request};
@@ -75,4 +85,20 @@ pub fn next_cycle()
         → SendsWhole sends → AreAsynchronous requests → FitsWindow layout opening
         → RunsCycles sends layout openings trace
         → RunsCycles sends layout (openings ++ opening ∷ []) (trace ++ frames) }
+{}
+
+/// A cycle of a bus whose nodes take requests while they run, and send bytes of their users. Its trigger frames are sent
+/// at its start, one at once behind the other, and all nodes hear each frame. Each node is given the requests that have
+/// arrived. What arbitration decides between them is then what is offered in the cycle, where all requests are known.
+pub fn live_nodes()
+    ensures each { (sends : Instance → List ℕ) (layout : CycleLayout) (owners : List Owner) (requests : List Request)
+        (placed : List Placed) (past : List TimedFrame) (order : Order) (nodes : List NodeState) (sent later : List TimedFrame)
+        → IsLayout layout → AllPairs (λ one other. one.at ≤ other.at) requests → All IsNode nodes
+        → IsBefore layout owners requests placed past order nodes
+        → order.cycle < cycles_end → order.l ≤ layout.window → order.mask < 2 ^ layout.slots
+        → IsTriggered layout order nodes sent
+        → WereRequests (arrived_by (order.cycle * layout.cycle) requests) past
+        → Follows (live_offers sends owners requests (opening_of order placed) (past ++ sent) (heard_by sent nodes))
+        (past ++ sent) (free_after (order.cycle * layout.cycle) sent) ((order.cycle + 1) * layout.cycle) later
+        → IsLiveCycle sends layout owners requests placed past order nodes sent later }
 {}

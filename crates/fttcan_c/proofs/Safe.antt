@@ -7,15 +7,15 @@ use Rattle.bit_sets.specs.Sets.{has_bit, most_slots, set_of}
 use Rattle.planner_policies.specs.Plan.{IsMissIn, NeverMisses, Planning, is_missed_in, left_after, pending_at, pending_before}
 use Rattle.planner_policies.proofs.Shared.{on-missed}
 use Rattle.admission.specs.Verdict.{IsSafe, plan_from}
-use Rattle.fttcan_c.specs.declared.plain.FttPlaced.{FttPlaced}
-use Rattle.fttcan_c.specs.declared.plain.FttPlan.{FttPlan}
-use Rattle.fttcan_c.specs.declared.plain.FttRules.{FttRules}
-use Rattle.fttcan_c.specs.declared.plain.FttState.{FttState}
-use Rattle.fttcan_c.specs.declared.refusal.ExportRefusal.{ExportRefusal}
-use Rattle.fttcan_c.specs.declared.refusal.ExportRefusal.TheVariants.{Memory, Argument, Table, State, Room, Miss, Closed, Open, Text, No}
+use Rattle.c_values.specs.declared.plain.FttPlaced.{FttPlaced}
+use Rattle.c_values.specs.declared.plain.FttPlan.{FttPlan}
+use Rattle.c_values.specs.declared.plain.FttRules.{FttRules}
+use Rattle.c_values.specs.declared.plain.FttState.{FttState}
+use Rattle.c_values.specs.declared.refusal.ExportRefusal.{ExportRefusal}
+use Rattle.c_values.specs.declared.refusal.ExportRefusal.TheVariants.{Memory, Argument, Table, State, Room, Miss, Closed, Open, Text, No}
 use Rattle.fttcan_c.specs.Admit.{IsStateOpened, RefusesOpening, plan_at}
-use Rattle.fttcan_c.specs.Plain.{mask_of, rules_of, table_of}
-use Rattle.fttcan_c.specs.Refused.{status_of}
+use Rattle.c_values.specs.Plain.{mask_of, rules_of, table_of}
+use Rattle.c_values.specs.Refused.{status_of}
 
 -- what is pending behind the first cycle of a planning
 pending-behind : (plan : Planning) → pending_at plan 1 ≡ set_of most_slots (left_after plan (plan.from + 0) (has_bit plan.pending))

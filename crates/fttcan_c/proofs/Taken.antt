@@ -10,14 +10,14 @@ use Rattle.plan_check.specs.declared.text_fault.PlanTextFault.{PlanTextFault}
 use Rattle.plan_check.specs.declared.text_fault.PlanTextFault.TheVariants.{Line}
 use Rattle.admission.specs.Certified.{IsCertificateFrom, end_of}
 use Rattle.master_core.specs.Cores.{CoreView, IsCore, state_of}
-use Rattle.fttcan_c.specs.declared.plain.FttPlaced.{FttPlaced}
-use Rattle.fttcan_c.specs.declared.refusal.ExportRefusal.{ExportRefusal}
-use Rattle.fttcan_c.specs.declared.refusal.ExportRefusal.TheVariants.{Memory, Argument, Table, State, Room, Miss, Closed, Open, Text, No}
+use Rattle.c_values.specs.declared.plain.FttPlaced.{FttPlaced}
+use Rattle.c_values.specs.declared.refusal.ExportRefusal.{ExportRefusal}
+use Rattle.c_values.specs.declared.refusal.ExportRefusal.TheVariants.{Memory, Argument, Table, State, Room, Miss, Closed, Open, Text, No}
 use Rattle.requirement_table.specs.declared.entries.Placed.{Placed}
 use Rattle.fttcan_c.specs.Checked.{BeginsRight}
-use Rattle.fttcan_c.specs.Plain.{table_of}
+use Rattle.c_values.specs.Plain.{table_of}
 use Rattle.fttcan_c.specs.Reading.{IsPlanTextOf}
-use Rattle.fttcan_c.specs.Refused.{RefusesTable}
+use Rattle.c_values.specs.Refused.{RefusesTable}
 
 -- a well placed table is refused for want of memory alone
 pub only_memory : (placed : List FttPlaced) (refusal : ExportRefusal) → RefusesTable placed refusal → IsWellPlaced (table_of placed)

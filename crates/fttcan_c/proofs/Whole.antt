@@ -6,8 +6,8 @@ use Rattle.planner_policies.specs.declared.Policy.TheVariants.{Rm, Dm, Edf}
 use Rattle.planner_policies.specs.declared.Fill.{Fill}
 use Rattle.planner_policies.specs.declared.Fill.TheVariants.{Prefix, Skip}
 use Rattle.admission_rules.specs.declared.Rules.{Rules}
-use Rattle.fttcan_c.specs.Plain.{placed_of, rules_of, table_of}
-use Rattle.fttcan_c.specs.Told.{end_told, fill_told, policy_told, put_of, rules_told}
+use Rattle.c_values.specs.Plain.{placed_of, rules_of, table_of}
+use Rattle.c_values.specs.Told.{end_told, fill_told, policy_told, put_of, rules_told}
 
 same-end : (end : Option ℕ) → (if nat_eq (end_told end).0 0 then None else Some (end_told end).1) ≡ end
 same-end None = refl

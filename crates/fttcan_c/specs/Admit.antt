@@ -11,16 +11,16 @@ use Rattle.planner_policies.specs.declared.state.PlanState.{PlanState}
 use Rattle.admission_rules.specs.declared.Rules.{Rules}
 use Rattle.admission.specs.declared.decision.Decision.{Decision}
 use Rattle.admission.specs.Verdict.{IsDecision, IsInTime, IsSafe, IsTakenWhereDue, plan_from}
-use Rattle.fttcan_c.specs.declared.plain.FttOp.{FttOp}
-use Rattle.fttcan_c.specs.declared.plain.FttPlaced.{FttPlaced}
-use Rattle.fttcan_c.specs.declared.plain.FttPlan.{FttPlan}
-use Rattle.fttcan_c.specs.declared.plain.FttRules.{FttRules}
-use Rattle.fttcan_c.specs.declared.plain.FttState.{FttState}
-use Rattle.fttcan_c.specs.declared.plain.FttVerdict.{FttVerdict}
-use Rattle.fttcan_c.specs.declared.refusal.ExportRefusal.{ExportRefusal}
-use Rattle.fttcan_c.specs.declared.refusal.ExportRefusal.TheVariants.{Memory, Argument, Table, State, Room, Miss, Closed, Open, Text, No}
-use Rattle.fttcan_c.specs.Plain.{AreRules, IsMask, IsOp, change_of, mask_of, rules_of, state_of, table_of}
-use Rattle.fttcan_c.specs.Told.{table_told, told}
+use Rattle.c_values.specs.declared.plain.FttOp.{FttOp}
+use Rattle.c_values.specs.declared.plain.FttPlaced.{FttPlaced}
+use Rattle.c_values.specs.declared.plain.FttPlan.{FttPlan}
+use Rattle.c_values.specs.declared.plain.FttRules.{FttRules}
+use Rattle.c_values.specs.declared.plain.FttState.{FttState}
+use Rattle.c_values.specs.declared.plain.FttVerdict.{FttVerdict}
+use Rattle.c_values.specs.declared.refusal.ExportRefusal.{ExportRefusal}
+use Rattle.c_values.specs.declared.refusal.ExportRefusal.TheVariants.{Memory, Argument, Table, State, Room, Miss, Closed, Open, Text, No}
+use Rattle.c_values.specs.Plain.{AreRules, IsMask, IsOp, change_of, mask_of, rules_of, state_of, table_of}
+use Rattle.c_values.specs.Told.{table_told, told}
 
 -- the plan of a list of placed entries goes on from the state
 pub record IsPlanState (placed : List Placed) (state : FttState) : Type 0 where

@@ -10,13 +10,13 @@ use Rattle.master_core.specs.CorePlans.{IsSettled as IsSettledByCore}
 use Rattle.master_core.specs.Cores.{CoreView, IsCore, IsStateOf, answered_by}
 use Rattle.master_handle.specs.declared.held.HandleContent.{HandleContent}
 use Rattle.master_handle.specs.declared.held.HandleContent.TheVariants.{Master, Snapshot, Planned}
-use Rattle.fttcan_c.specs.declared.plain.FttOp.{FttOp}
-use Rattle.fttcan_c.specs.declared.plain.FttVerdict.{FttVerdict}
-use Rattle.fttcan_c.specs.declared.refusal.ExportRefusal.{ExportRefusal}
-use Rattle.fttcan_c.specs.declared.refusal.ExportRefusal.TheVariants as refused
+use Rattle.c_values.specs.declared.plain.FttOp.{FttOp}
+use Rattle.c_values.specs.declared.plain.FttVerdict.{FttVerdict}
+use Rattle.c_values.specs.declared.refusal.ExportRefusal.{ExportRefusal}
+use Rattle.c_values.specs.declared.refusal.ExportRefusal.TheVariants as refused
 use Rattle.fttcan_c.specs.Mastering.{HoldsMaster, IsCaller}
-use Rattle.fttcan_c.specs.Plain.{IsOp}
-use Rattle.fttcan_c.specs.Told.{told}
+use Rattle.c_values.specs.Plain.{IsOp}
+use Rattle.c_values.specs.Told.{told}
 
 -- a snapshot of a master is held
 pub record IsSnapshotOf (master made : HandleContent) : Type 0 where

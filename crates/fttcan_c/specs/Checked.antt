@@ -11,12 +11,12 @@ use Rattle.plan_check.specs.PlanKept.{HasPending, IsTaken}
 use Rattle.plan_check.specs.PlanText.{IsFirstWrongLine, IsTextOfPlan}
 use Rattle.fttcan_c.specs.declared.checked.Finding.{Finding}
 use Rattle.fttcan_c.specs.declared.checked.Finding.TheVariants.{Kept, Broken, Unread}
-use Rattle.fttcan_c.specs.declared.plain.FttBreach.{FttBreach}
-use Rattle.fttcan_c.specs.declared.plain.FttPlaced.{FttPlaced}
-use Rattle.fttcan_c.specs.declared.refusal.ExportRefusal.{ExportRefusal}
-use Rattle.fttcan_c.specs.declared.refusal.ExportRefusal.TheVariants.{Memory, Argument, Table, State, Room, Miss, Closed, Open, Text, No}
-use Rattle.fttcan_c.specs.Plain.{table_of}
-use Rattle.fttcan_c.specs.Told.{breach_told}
+use Rattle.c_values.specs.declared.plain.FttBreach.{FttBreach}
+use Rattle.c_values.specs.declared.plain.FttPlaced.{FttPlaced}
+use Rattle.c_values.specs.declared.refusal.ExportRefusal.{ExportRefusal}
+use Rattle.c_values.specs.declared.refusal.ExportRefusal.TheVariants.{Memory, Argument, Table, State, Room, Miss, Closed, Open, Text, No}
+use Rattle.c_values.specs.Plain.{table_of}
+use Rattle.c_values.specs.Told.{breach_told}
 
 -- the plan begins where slots are pending that have an instance then, and its cycles are in range
 pub record BeginsRight (placed : List Placed) (certificate : CertificateView) : Type 0 where

@@ -1,7 +1,7 @@
 -- What a standby behind a handle follows, and what C is told. A standby is a core: the one with which a master goes on
 -- that takes over from it.
-use Rattle.std.specs.Prelude.{◌≡◌, ◌≢◌, ℕ, ◌<◌, ◌≤◌, ◌++◌, ◌∷◌, [], List, All, Bool, true, Option, Some, None}
-use Rattle.profile.specs.Limits.{openings_end}
+use Rattle.std.specs.Prelude.{◌≡◌, ◌≢◌, ℕ, ◌+◌, ◌<◌, ◌≤◌, ◌⊎◌, ◌++◌, ◌∷◌, [], List, All, Bool, true, Option, Some, None}
+use Rattle.profile.specs.Limits.{longest_window, openings_end}
 use Rattle.can_frame.specs.DataFrame.{DataFrame}
 use Rattle.bit_sets.specs.Sets.{has_bit}
 use Rattle.requirement_table.specs.Table.{width_in}
@@ -22,15 +22,15 @@ use Rattle.master_handle.specs.declared.held.HandleContent.{HandleContent}
 use Rattle.master_handle.specs.declared.held.HandleContent.TheVariants.{Master, Standby}
 use Rattle.fttcan_c.specs.declared.hearing.Astray.{Astray}
 use Rattle.fttcan_c.specs.declared.hearing.Astray.TheVariants.{Silent, Flags, Window}
-use Rattle.fttcan_c.specs.declared.plain.FttFollow.{FttFollow}
-use Rattle.fttcan_c.specs.declared.plain.FttFrame.{FttFrame}
-use Rattle.fttcan_c.specs.declared.plain.FttOp.{FttOp}
-use Rattle.fttcan_c.specs.declared.plain.FttVerdict.{FttVerdict}
-use Rattle.fttcan_c.specs.declared.refusal.ExportRefusal.{ExportRefusal}
-use Rattle.fttcan_c.specs.declared.refusal.ExportRefusal.TheVariants as refused
+use Rattle.c_values.specs.declared.plain.FttFollow.{FttFollow}
+use Rattle.c_values.specs.declared.plain.FttFrame.{FttFrame}
+use Rattle.c_values.specs.declared.plain.FttOp.{FttOp}
+use Rattle.c_values.specs.declared.plain.FttVerdict.{FttVerdict}
+use Rattle.c_values.specs.declared.refusal.ExportRefusal.{ExportRefusal}
+use Rattle.c_values.specs.declared.refusal.ExportRefusal.TheVariants as refused
 use Rattle.fttcan_c.specs.Mastering.{IsCoreSubmitted, MayAsk}
-use Rattle.fttcan_c.specs.Plain.{IsFrameIn, change_of, frames_of}
-use Rattle.fttcan_c.specs.Told.{mask_told, told}
+use Rattle.c_values.specs.Plain.{IsFrameIn, change_of, frames_of}
+use Rattle.c_values.specs.Told.{mask_told, told}
 
 -- a standby is held
 pub record HoldsStandby (held : HandleContent) : Type 0 where
@@ -118,35 +118,45 @@ planned_of core = mask_at (onward core) 0
 abbrev pub sum_of : CoreView → ℕ
 sum_of core = width_in core.placed core.cycle (has_bit (planned_of core))
 
--- the trigger frames of its next cycle
-abbrev pub due_frames : CoreView → List DataFrame
-due_frames core = triggers_with core.rules.slots core.cycle (sum_of core) (planned_of core)
+-- the window that the trigger of its next cycle says, where the master adds a reserve to the sum
+abbrev pub window_of : ℕ → CoreView → ℕ
+window_of reserve core = reserve + sum_of core
 
--- a core followed an opening: what is heard is what it plans, and it opened the cycle. No deadline is missed in it nor
--- later. Whoever has the history of the core in mind has it with this opening behind it
-pub record IsCoreFollowed (frames : List DataFrame) (old new : CoreView) : Type 0 where
-  pub heard : heard_of old.rules.slots old.cycle frames ≡ Some (record { l = sum_of old; mask = planned_of old })
+-- the trigger frames of its next cycle
+abbrev pub due_frames : ℕ → CoreView → List DataFrame
+due_frames reserve core = triggers_with core.rules.slots core.cycle (window_of reserve core) (planned_of core)
+
+-- a trigger can tell this window
+abbrev pub CanTell : ℕ → CoreView → Type 0
+CanTell reserve core = (reserve ≡ 0) ⊎ (window_of reserve core ≤ longest_window)
+
+-- a core followed an opening: what is heard is what it plans, with the reserve, and it opened the cycle. No deadline is
+-- missed in it nor later. Whoever has the history of the core in mind has it with this opening behind it
+pub record IsCoreFollowed (reserve : ℕ) (frames : List DataFrame) (old new : CoreView) : Type 0 where
+  pub heard : heard_of old.rules.slots old.cycle frames
+      ≡ Some (record { l = window_of reserve old; mask = planned_of old })
   pub after : new ≡ opened old
   pub safe : IsSafe old.rules old.placed old.cycle old.pending
   pub history : (history : List Event) → IsStateOf history old
       → IsStateOf (history ++ Open old.cycle (planned_of old) ∷ []) new
 
 -- why it does not follow one, the first of these: the frames are not the trigger of its next cycle; they flag other
--- slots than those that are planned; they flag these, and say another window than the sum of their worst lengths
-abbrev pub IsAstray : CoreView → List DataFrame → Astray → Type 0
-IsAstray core frames (Silent cycle) =
+-- slots than those that are planned; they flag these, and say another window than the sum of their worst lengths with
+-- the reserve
+abbrev pub IsAstray : ℕ → CoreView → List DataFrame → Astray → Type 0
+IsAstray reserve core frames (Silent cycle) =
     (cycle ≡ core.cycle) × (heard_of core.rules.slots core.cycle frames ≡ None)
-IsAstray core frames (Flags cycle heard planned) =
+IsAstray reserve core frames (Flags cycle heard planned) =
     (cycle ≡ core.cycle) × (planned ≡ planned_of core) × (heard ≢ planned)
     × ((l : ℕ) × (heard_of core.rules.slots core.cycle frames ≡ Some (record { l = l; mask = heard })))
-IsAstray core frames (Window l sum) =
-    (sum ≡ sum_of core) × (l ≢ sum)
+IsAstray reserve core frames (Window l wanted) =
+    (wanted ≡ window_of reserve core) × (l ≢ wanted)
     × (heard_of core.rules.slots core.cycle frames ≡ Some (record { l = l; mask = planned_of core }))
 
 -- what a core does with trigger frames: it follows them, or stays as it is
-abbrev pub IsHeardBy : List DataFrame → CoreView → CoreView → Option Astray → Type 0
-IsHeardBy frames old new None = IsCoreFollowed frames old new
-IsHeardBy frames old new (Some astray) = IsAstray old frames astray × (new ≡ old)
+abbrev pub IsHeardBy : ℕ → List DataFrame → CoreView → CoreView → Option Astray → Type 0
+IsHeardBy reserve frames old new None = IsCoreFollowed reserve frames old new
+IsHeardBy reserve frames old new (Some astray) = IsAstray reserve old frames astray × (new ≡ old)
 
 -- what C is told of a trigger that is not followed
 abbrev pub fault_told : Astray → FttFollow
@@ -154,41 +164,43 @@ fault_told (Silent cycle) =
     record { heard = mask_told 0; planned = mask_told 0; first = cycle; second = 0; kind = 0 }
 fault_told (Flags cycle heard planned) =
     record { heard = mask_told heard; planned = mask_told planned; first = cycle; second = 0; kind = 1 }
-fault_told (Window l sum) =
-    record { heard = mask_told 0; planned = mask_told 0; first = l; second = sum; kind = 2 }
+fault_told (Window l wanted) =
+    record { heard = mask_told 0; planned = mask_told 0; first = l; second = wanted; kind = 2 }
 
 -- a standby whose next cycle may be opened heard trigger frames
-pub record IsTriggerHeard (frames : List DataFrame) (astray : Option Astray) (old new : HandleContent) : Type 0 where
+pub record IsTriggerHeard (reserve : ℕ) (frames : List DataFrame) (astray : Option Astray) (old new : HandleContent) : Type 0 where
   pub core : CoreView
   pub next : CoreView
   pub before : old ≡ Standby core
   pub after : new ≡ Standby next
   pub near : core.cycle < openings_end
-  pub heard : IsHeardBy frames core next astray
+  pub heard : IsHeardBy reserve frames core next astray
 
 -- a standby followed them
-pub record IsFollowed (frames : List DataFrame) (old new : HandleContent) : Type 0 where
+pub record IsFollowed (reserve : ℕ) (frames : List DataFrame) (old new : HandleContent) : Type 0 where
   pub core : CoreView
   pub next : CoreView
   pub before : old ≡ Standby core
   pub after : new ≡ Standby next
   pub near : core.cycle < openings_end
-  pub followed : IsCoreFollowed frames core next
+  pub followed : IsCoreFollowed reserve frames core next
 
 -- a standby does not follow them, and C is told why
-pub record IsNotFollowed (frames : List DataFrame) (fault : FttFollow) (held : HandleContent) : Type 0 where
+pub record IsNotFollowed (reserve : ℕ) (frames : List DataFrame) (fault : FttFollow) (held : HandleContent) : Type 0 where
   pub core : CoreView
   pub is : held ≡ Standby core
   pub near : core.cycle < openings_end
   pub astray : Astray
-  pub why : IsAstray core frames astray
+  pub why : IsAstray reserve core frames astray
   pub fault_is : fault ≡ fault_told astray
 
--- the frames are the trigger of the next cycle of a standby
-pub record AreDueFrames (frames : List DataFrame) (held : HandleContent) : Type 0 where
+-- the frames are the trigger of the next cycle of a standby, which can tell the window with the reserve. Without a
+-- reserve it always can
+pub record AreDueFrames (reserve : ℕ) (frames : List DataFrame) (held : HandleContent) : Type 0 where
   pub core : CoreView
   pub is : held ≡ Standby core
-  pub due : frames ≡ due_frames core
+  pub fits : CanTell reserve core
+  pub due : frames ≡ due_frames reserve core
 
 -- the next cycle of a core may be opened
 abbrev pub CanFollow : CoreView → Type 0

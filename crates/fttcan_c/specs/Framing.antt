@@ -2,10 +2,10 @@
 use Rattle.std.specs.Prelude.{ℕ, ◌≤◌, List, All}
 use Rattle.can_frame.specs.DataFrame.{DataFrame, IsFrame}
 use Rattle.cycle_layout.specs.Layout.{IsLayout}
-use Rattle.fttcan_c.specs.declared.plain.FttLayout.{FttLayout}
-use Rattle.fttcan_c.specs.declared.refusal.ExportRefusal.{ExportRefusal}
-use Rattle.fttcan_c.specs.declared.refusal.ExportRefusal.TheVariants.{Memory, Argument, Table, State, Room, Miss, Closed, Open, Text, No}
-use Rattle.fttcan_c.specs.Plain.{layout_of}
+use Rattle.c_values.specs.declared.plain.FttLayout.{FttLayout}
+use Rattle.c_values.specs.declared.refusal.ExportRefusal.{ExportRefusal}
+use Rattle.c_values.specs.declared.refusal.ExportRefusal.TheVariants.{Memory, Argument, Table, State, Room, Miss, Closed, Open, Text, No}
+use Rattle.c_values.specs.Plain.{layout_of}
 
 -- the frame of an identifier and data bytes
 abbrev pub data_frame : ℕ → List ℕ → DataFrame

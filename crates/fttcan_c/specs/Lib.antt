@@ -5,10 +5,6 @@ pub mod Checked
 pub mod Following
 pub mod Framing
 pub mod Mastering
-pub mod Plain
 pub mod Reading
-pub mod Refused
-pub mod Room
 pub mod Saving
-pub mod Told
 pub mod Triggers

@@ -14,14 +14,14 @@ use Rattle.master_core.specs.declared.event.Event.TheVariants.{Submit, Look, Ope
 use Rattle.master_core.specs.Cores.{CoreView, IsAnswered, IsCore, IsStateOf, answered_by, new_core, onward, opened}
 use Rattle.master_handle.specs.declared.held.HandleContent.{HandleContent}
 use Rattle.master_handle.specs.declared.held.HandleContent.TheVariants.{Master}
-use Rattle.fttcan_c.specs.declared.plain.FttOp.{FttOp}
-use Rattle.fttcan_c.specs.declared.plain.FttOrder.{FttOrder}
-use Rattle.fttcan_c.specs.declared.plain.FttRules.{FttRules}
-use Rattle.fttcan_c.specs.declared.plain.FttVerdict.{FttVerdict}
-use Rattle.fttcan_c.specs.declared.refusal.ExportRefusal.{ExportRefusal}
-use Rattle.fttcan_c.specs.declared.refusal.ExportRefusal.TheVariants as refused
-use Rattle.fttcan_c.specs.Plain.{AreRules, IsOp, change_of, mask_of, rules_of}
-use Rattle.fttcan_c.specs.Told.{told}
+use Rattle.c_values.specs.declared.plain.FttOp.{FttOp}
+use Rattle.c_values.specs.declared.plain.FttOrder.{FttOrder}
+use Rattle.c_values.specs.declared.plain.FttRules.{FttRules}
+use Rattle.c_values.specs.declared.plain.FttVerdict.{FttVerdict}
+use Rattle.c_values.specs.declared.refusal.ExportRefusal.{ExportRefusal}
+use Rattle.c_values.specs.declared.refusal.ExportRefusal.TheVariants as refused
+use Rattle.c_values.specs.Plain.{AreRules, IsOp, change_of, mask_of, rules_of}
+use Rattle.c_values.specs.Told.{told}
 
 -- a master is held
 pub record HoldsMaster (held : HandleContent) : Type 0 where

@@ -11,15 +11,15 @@ use Rattle.master_core.specs.declared.event.Event.TheVariants.{Look}
 use Rattle.master_core.specs.Cores.{CoreView, IsCore, IsStateOf, onward, state_of}
 use Rattle.master_handle.specs.declared.held.HandleContent.{HandleContent}
 use Rattle.master_handle.specs.declared.held.HandleContent.TheVariants.{Master}
-use Rattle.fttcan_c.specs.declared.plain.FttMask.{FttMask}
-use Rattle.fttcan_c.specs.declared.plain.FttPlaced.{FttPlaced}
-use Rattle.fttcan_c.specs.declared.plain.FttRules.{FttRules}
-use Rattle.fttcan_c.specs.declared.refusal.ExportRefusal.{ExportRefusal}
-use Rattle.fttcan_c.specs.declared.refusal.ExportRefusal.TheVariants as refused
+use Rattle.c_values.specs.declared.plain.FttMask.{FttMask}
+use Rattle.c_values.specs.declared.plain.FttPlaced.{FttPlaced}
+use Rattle.c_values.specs.declared.plain.FttRules.{FttRules}
+use Rattle.c_values.specs.declared.refusal.ExportRefusal.{ExportRefusal}
+use Rattle.c_values.specs.declared.refusal.ExportRefusal.TheVariants as refused
 use Rattle.fttcan_c.specs.Checked.{IsPlanTaken}
 use Rattle.fttcan_c.specs.Mastering.{HoldsMaster, IsCaller}
-use Rattle.fttcan_c.specs.Plain.{mask_of}
-use Rattle.fttcan_c.specs.Told.{mask_told, put_of, rules_told}
+use Rattle.c_values.specs.Plain.{mask_of}
+use Rattle.c_values.specs.Told.{mask_told, put_of, rules_told}
 
 -- the cycle is the next one of a master
 pub record IsNextOf (cycle : ℕ) (held : HandleContent) : Type 0 where

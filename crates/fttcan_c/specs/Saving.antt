@@ -5,8 +5,8 @@ use Rattle.master_core.specs.Cores.{CoreView, IsCore, saved_of}
 use Rattle.saved_state.specs.Bytes.{AreBytesOf}
 use Rattle.master_handle.specs.declared.held.HandleContent.{HandleContent}
 use Rattle.master_handle.specs.declared.held.HandleContent.TheVariants.{Master}
-use Rattle.fttcan_c.specs.declared.refusal.ExportRefusal.{ExportRefusal}
-use Rattle.fttcan_c.specs.declared.refusal.ExportRefusal.TheVariants as refused
+use Rattle.c_values.specs.declared.refusal.ExportRefusal.{ExportRefusal}
+use Rattle.c_values.specs.declared.refusal.ExportRefusal.TheVariants as refused
 
 -- the bytes are those of what is saved of this core, which misses no deadline at any later cycle, and of no other one
 pub record AreBytesOfCore (bytes : List ℕ) (core : CoreView) : Type 0 where

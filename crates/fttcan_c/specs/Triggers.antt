@@ -1,19 +1,23 @@
 -- The trigger frames of a cycle, as C has them.
-use Rattle.std.specs.Prelude.{◌≡◌, ℕ, ◌<◌, List, [], ◌∷◌, All, Some, None}
+use Rattle.std.specs.Prelude.{◌≡◌, ℕ, ◌+◌, ◌<◌, List, [], ◌∷◌, All, Some, None}
 use Rattle.profile.specs.Limits.{first_slots, most_slots}
 use Rattle.can_frame.specs.DataFrame.{DataFrame}
 use Rattle.trigger_kind.specs.Kind.{IsSlots}
 use Rattle.trigger_codec.specs.Bytes.{triggers_with}
 use Rattle.trigger_codec.specs.Heard.{heard_of}
-use Rattle.fttcan_c.specs.declared.plain.FttFrame.{FttFrame}
-use Rattle.fttcan_c.specs.declared.plain.FttTrigger.{FttTrigger}
-use Rattle.fttcan_c.specs.declared.refusal.ExportRefusal.{ExportRefusal}
-use Rattle.fttcan_c.specs.declared.refusal.ExportRefusal.TheVariants.{Memory, Argument, Table, State, Room, Miss, Closed, Open, Text, No}
-use Rattle.fttcan_c.specs.Plain.{IsFrameIn, frame_of, frames_of, mask_of}
+use Rattle.c_values.specs.declared.plain.FttFrame.{FttFrame}
+use Rattle.c_values.specs.declared.plain.FttTrigger.{FttTrigger}
+use Rattle.c_values.specs.declared.refusal.ExportRefusal.{ExportRefusal}
+use Rattle.c_values.specs.declared.refusal.ExportRefusal.TheVariants.{Memory, Argument, Table, State, Room, Miss, Closed, Open, Text, No}
+use Rattle.c_values.specs.Plain.{IsFrameIn, frame_of, frames_of, mask_of}
 
 -- the frames that tell a trigger
 abbrev pub frames_told : ℕ → FttTrigger → List DataFrame
 frames_told slots trigger = triggers_with slots trigger.cycle trigger.window (mask_of trigger.flags)
+
+-- the trigger with a reserve added to its window
+abbrev pub with_reserve : ℕ → FttTrigger → FttTrigger
+with_reserve reserve trigger = record trigger { window = trigger.window + reserve }
 
 -- the trigger is what these frames say of a cycle, which is known modulo 256
 pub record IsTriggerTold (slots : ℕ) (frames : List DataFrame) (trigger : FttTrigger) : Type 0 where

@@ -5,22 +5,21 @@ ghost use Rattle.profile.specs.Limits.{cycles_end, openings_end};
 ghost use Rattle.planner_policies.specs.Plan.{IsValid};
 ghost use Rattle.requirement_table.specs.Table.{IsWellPlaced};
 ghost use Rattle.admission.specs.Verdict.{IsRules, IsSafe, ranking_by};
-ghost use Rattle.fttcan_c.specs.declared.plain.FttPlaced.{FttPlaced as FttPlacedOf};
-ghost use Rattle.fttcan_c.specs.declared.plain.FttVerdict.{FttVerdict as FttVerdictOf};
-ghost use Rattle.fttcan_c.specs.declared.refusal.ExportRefusal.{ExportRefusal as RefusalOf};
-ghost use Rattle.fttcan_c.specs.declared.refusal.ExportRefusal.TheVariants.{State};
+ghost use Rattle.c_values.specs.declared.plain.FttPlaced.{FttPlaced as FttPlacedOf};
+ghost use Rattle.c_values.specs.declared.plain.FttVerdict.{FttVerdict as FttVerdictOf};
+ghost use Rattle.c_values.specs.declared.refusal.ExportRefusal.{ExportRefusal as RefusalOf};
+ghost use Rattle.c_values.specs.declared.refusal.ExportRefusal.TheVariants.{State};
 ghost use Rattle.fttcan_c.specs.Admit.{AreAsked, IsDecided, IsDecidedOn, IsPlanState, IsStateOpened, RefusesChange, RefusesOpening, RefusesStanding};
-ghost use Rattle.fttcan_c.specs.Plain.{AreRules, mask_of, rules_of, state_of, table_of};
-ghost use Rattle.fttcan_c.specs.Refused.{status_of};
-ghost use Rattle.fttcan_c.specs.Room.{IsRoomFilled, IsRoomShort};
-ghost use Rattle.fttcan_c.specs.Told.{table_told};
+ghost use Rattle.c_values.specs.Plain.{AreRules, mask_of, rules_of, state_of, table_of};
+ghost use Rattle.c_values.specs.Refused.{status_of};
+ghost use Rattle.c_values.specs.Room.{IsRoomFilled, IsRoomShort};
+ghost use Rattle.c_values.specs.Told.{table_told};
 
-use crate::plain::{FttOp, FttPlaced, FttPlan, FttRules, FttState, FttVerdict};
-use crate::plain_in::{change_in, is_mask, mask_in, rules_in, table_in};
-use crate::plain_out::{mask_out, table_out, verdict_out};
-use crate::refusal::{ExportRefusal, OK};
-use crate::room::put;
 use admission::{Decision, Rules, decide};
+use c_values::{
+    ExportRefusal, FttOp, FttPlaced, FttPlan, FttRules, FttState, FttVerdict, OK, change_in,
+    is_mask, mask_in, mask_out, put, rules_in, table_in, table_out, verdict_out,
+};
 use change_protocol::Change;
 use planner_policies::{PlanState, PlannedCycle, Ranked, plan_with_width, rank, valid};
 use profile::OPENINGS_END;

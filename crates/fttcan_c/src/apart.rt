@@ -2,18 +2,15 @@
 
 ghost use Rattle.std.specs.Prelude.{◌≡◌, ◌≢◌, ◌≤◌, ◌↔◌, None, Some, All, IfErr, IfOk, IsTrue, OnErr, OnOk};
 ghost use Rattle.master_handle.specs.declared.held.HandleContent.{HandleContent as HeldOf};
-ghost use Rattle.fttcan_c.specs.declared.refusal.ExportRefusal.{ExportRefusal as RefusalOf};
-ghost use Rattle.fttcan_c.specs.declared.refusal.ExportRefusal.TheVariants.{Closed};
+ghost use Rattle.c_values.specs.declared.refusal.ExportRefusal.{ExportRefusal as RefusalOf};
+ghost use Rattle.c_values.specs.declared.refusal.ExportRefusal.TheVariants.{Closed};
 ghost use Rattle.fttcan_c.specs.Apart.{HoldsPlanned, IsPlannedApart, IsPlannedTold, IsSnapshot, IsSnapshotOf, RefusesApart, RefusesPlanning};
 ghost use Rattle.fttcan_c.specs.Mastering.{Holds};
-ghost use Rattle.fttcan_c.specs.Plain.{IsOp, change_of};
+ghost use Rattle.c_values.specs.Plain.{IsOp, change_of};
 ghost use Rattle.fttcan_c.specs.Reading.{RefusesRead};
-ghost use Rattle.fttcan_c.specs.Refused.{status_of};
+ghost use Rattle.c_values.specs.Refused.{status_of};
 
-use crate::plain::{FttOp, FttVerdict};
-use crate::plain_in::change_in;
-use crate::plain_out::verdict_out;
-use crate::refusal::{ExportRefusal, OK};
+use c_values::{ExportRefusal, FttOp, FttVerdict, OK, change_in, verdict_out};
 use change_protocol::Change;
 use master_handle::{FttHandle, HandleContent};
 use std::alloc::Global;

@@ -4,12 +4,10 @@ ghost use Rattle.std.specs.Prelude.{◌≡◌, ◌≢◌, ℕ, ◌≤◌, Some, 
 ghost use Rattle.async_bound.specs.declared.stream.BurstStream.{BurstStream as StreamOf};
 ghost use Rattle.async_bound.specs.Bound.{Fits, IsLeastFitting};
 ghost use Rattle.fttcan_c.specs.Bounds.{IsBoundAsked};
-ghost use Rattle.fttcan_c.specs.Plain.{layout_of};
+ghost use Rattle.c_values.specs.Plain.{layout_of};
 
-use crate::frames::layout_in;
-use crate::plain::FttLayout;
-use crate::refusal::{ExportRefusal, OK};
 use async_bound::{BurstStream, are_streams, start_bound};
+use c_values::{ExportRefusal, FttLayout, OK, layout_in};
 
 /// The most streams of a call.
 const MOST_STREAMS: usize = 2_048;

@@ -9,24 +9,19 @@ ghost use Rattle.can_frame.specs.Wire.{wire_length, wire_of};
 ghost use Rattle.can_frame.specs.declared.wire_fault.WireFault.{WireFault as WireFaultOf};
 ghost use Rattle.cycle_layout.specs.Layout.{IsAllowed, IsLayout};
 ghost use Rattle.requirement_table.specs.Instance.{payload};
-ghost use Rattle.fttcan_c.specs.declared.refusal.ExportRefusal.{ExportRefusal as RefusalOf};
-ghost use Rattle.fttcan_c.specs.declared.refusal.ExportRefusal.TheVariants.{Argument};
+ghost use Rattle.c_values.specs.declared.refusal.ExportRefusal.{ExportRefusal as RefusalOf};
+ghost use Rattle.c_values.specs.declared.refusal.ExportRefusal.TheVariants.{Argument};
 ghost use Rattle.fttcan_c.specs.Framing.{IsFitAsked, RefusesBits, RefusesFits, RefusesWire, data_frame};
-ghost use Rattle.fttcan_c.specs.Plain.{bit_of, layout_of};
-ghost use Rattle.fttcan_c.specs.Refused.{status_of};
-ghost use Rattle.fttcan_c.specs.Room.{IsRoomFilled, IsRoomShort};
-ghost use Rattle.fttcan_c.specs.Told.{frame_told, place_told};
+ghost use Rattle.c_values.specs.Plain.{bit_of, layout_of};
+ghost use Rattle.c_values.specs.Refused.{status_of};
+ghost use Rattle.c_values.specs.Room.{IsRoomFilled, IsRoomShort};
+ghost use Rattle.c_values.specs.Told.{frame_told, place_told};
 
-use crate::plain::{FttFrame, FttLayout};
-use crate::plain_out::frame_out;
-use crate::refusal::{ExportRefusal, OK};
-use crate::room::put;
+use c_values::{ExportRefusal, FttFrame, FttLayout, OK, frame_out, layout_in, put};
 use can_frame::laws::wire_lengths;
 use can_frame::{Frame, WireFault, read_wire, wire, wire_len};
-use cycle_layout::Layout;
 use requirement_table::Payload;
 use std::alloc::{AllocError, Global};
-use trigger_kind::are_slots;
 
 /// The wire length of the frame with this identifier, up to 0x7EF, and these data bytes, at most 8: bit times with the
 /// three of intermission.
@@ -183,21 +178,6 @@ pub extern "C" fn fttcan_payload(number: u64, room: &mut [u8]) -> u32
     let payload = Payload::of(room.len() as u8, number);
     room.copy_from_slice(payload.as_slice());
     OK
-}
-
-/// The layout of a cycle.
-pub fn layout_in(layout: &FttLayout) -> Result<Layout, ExportRefusal>
-    ensures layout { IfOk result (λ made. made ≡ layout_of layout.now) }
-    ensures known { IfOk result IsLayout }
-    ensures refused { IfErr result (λ refusal. (refusal ≡ Argument) × (IsLayout (layout_of layout.now) → ⊥)) }
-{
-    if !are_slots(layout.slots) {
-        return Err(ExportRefusal::Argument);
-    }
-    match Layout::new(layout.cycle, layout.turnaround, layout.window, layout.slots) {
-        Ok(made) => Ok(made),
-        Err(_) => Err(ExportRefusal::Argument),
-    }
 }
 
 /// Whether an asynchronous frame of `dlc` data bytes that starts at the bit time `at` starts behind the turnaround of

@@ -9,10 +9,10 @@ ghost use Rattle.admission_rules.specs.declared.Rules.{Rules};
 ghost use Rattle.admission.specs.declared.verdict.Verdict.{Verdict};
 ghost use Rattle.admission.specs.Verdict.{IsSafe};
 ghost use Rattle.master_core.specs.Cores.{CoreView, answered_by, new_core, opened};
-ghost use Rattle.fttcan_c.specs.declared.plain.FttRules.{FttRules};
-ghost use Rattle.fttcan_c.specs.Plain.{AreRules, frame_of, mask_of, placed_of, rules_of, table_of};
+ghost use Rattle.c_values.specs.declared.plain.FttRules.{FttRules};
+ghost use Rattle.c_values.specs.Plain.{AreRules, frame_of, mask_of, placed_of, rules_of, table_of};
 ghost use Rattle.fttcan_c.specs.Saving.{IsForC};
-ghost use Rattle.fttcan_c.specs.Told.{frame_told, mask_told, put_of, rules_told};
+ghost use Rattle.c_values.specs.Told.{frame_told, mask_told, put_of, rules_told};
 
 /// What C is told of a placed entry, of a table, of rules, of a set of slots or of a frame stands for it.
 pub fn told_whole()

@@ -13,12 +13,7 @@ mod frames;
 mod hearing;
 pub mod laws;
 mod master;
-mod plain;
-mod plain_in;
-mod plain_out;
 mod reading;
-mod refusal;
-mod room;
 mod saving;
 mod settling;
 mod triggers;
@@ -31,6 +26,10 @@ pub use apart::{
 };
 pub use async_bound::BurstStream;
 pub use bounds::fttcan_async_bound;
+pub use c_values::{
+    ExportRefusal, FttBreach, FttEntry, FttFollow, FttFrame, FttLayout, FttMask, FttOp, FttOrder,
+    FttPlaced, FttPlan, FttRules, FttState, FttTrigger, FttVerdict, OK,
+};
 pub use checked::fttcan_check;
 pub use following::{
     fttcan_standby_change, fttcan_standby_free, fttcan_standby_new, fttcan_standby_next,
@@ -39,19 +38,14 @@ pub use following::{
 pub use frames::{
     fttcan_fits, fttcan_payload, fttcan_read_wire, fttcan_wire_bits, fttcan_wire_length,
 };
-pub use hearing::fttcan_standby_trigger;
+pub use hearing::{fttcan_standby_trigger, fttcan_standby_trigger_reserved};
 pub use master::{fttcan_master_free, fttcan_master_new, fttcan_master_open, fttcan_master_submit};
 pub use master_handle::FttHandle;
-pub use plain::{
-    FttBreach, FttEntry, FttFollow, FttFrame, FttLayout, FttMask, FttOp, FttOrder, FttPlaced,
-    FttPlan, FttRules, FttState, FttTrigger, FttVerdict,
-};
 pub use reading::{
     fttcan_master_certificate, fttcan_master_look, fttcan_master_next, fttcan_master_planned,
     fttcan_master_rules, fttcan_master_table, fttcan_master_trail,
 };
-pub use refusal::{ExportRefusal, OK};
 pub use saving::{fttcan_master_restore, fttcan_master_save};
 pub use settling::fttcan_master_settle;
-pub use triggers::{fttcan_trigger_decode, fttcan_trigger_encode};
+pub use triggers::{fttcan_trigger_decode, fttcan_trigger_encode, fttcan_trigger_encode_reserved};
 pub use version::fttcan_version;

@@ -7,17 +7,17 @@ ghost use Rattle.master_core.specs.Cores.{new_core};
 ghost use Rattle.requirement_table.specs.declared.entries.Order.{Order as OrderOf};
 ghost use Rattle.master_handle.specs.declared.held.HandleContent.{HandleContent as HeldOf};
 ghost use Rattle.master_handle.specs.declared.held.HandleContent.TheVariants.{Master};
-ghost use Rattle.fttcan_c.specs.declared.refusal.ExportRefusal.{ExportRefusal as RefusalOf};
-ghost use Rattle.fttcan_c.specs.declared.refusal.ExportRefusal.TheVariants.{State};
+ghost use Rattle.c_values.specs.declared.refusal.ExportRefusal.{ExportRefusal as RefusalOf};
+ghost use Rattle.c_values.specs.declared.refusal.ExportRefusal.TheVariants.{State};
 ghost use Rattle.fttcan_c.specs.Mastering.{Holds, IsCoreOpened, IsCoreSubmitted, IsMasterOpened, IsSubmitted, MayAsk, RefusesAsked, RefusesNew, RefusesOpen, RefusesSubmit};
-ghost use Rattle.fttcan_c.specs.Plain.{AreRules, change_of, mask_of, rules_of};
-ghost use Rattle.fttcan_c.specs.Refused.{status_of};
+ghost use Rattle.c_values.specs.Plain.{AreRules, change_of, mask_of, rules_of};
+ghost use Rattle.c_values.specs.Refused.{status_of};
 
-use crate::plain::{FttOp, FttOrder, FttRules, FttVerdict};
-use crate::plain_in::{change_in, rules_in};
-use crate::plain_out::{mask_out, verdict_out};
-use crate::refusal::{ExportRefusal, OK};
 use admission::Trail;
+use c_values::{
+    ExportRefusal, FttOp, FttOrder, FttRules, FttVerdict, OK, change_in, mask_out, rules_in,
+    verdict_out,
+};
 use change_protocol::Change;
 use master_core::{Answered, Core};
 use master_handle::{FttHandle, HandleContent};

@@ -3,21 +3,20 @@
 ghost use Rattle.std.specs.Prelude.{◌≡◌, ◌≢◌, ◌<◌, ◌≤◌, ℕ, List, Some, None, IfErr, IfOk, OnOk, map};
 ghost use Rattle.profile.specs.Limits.{openings_end};
 ghost use Rattle.master_handle.specs.declared.held.HandleContent.{HandleContent as HeldOf};
-ghost use Rattle.fttcan_c.specs.declared.plain.FttMask.{FttMask as FttMaskOf};
-ghost use Rattle.fttcan_c.specs.declared.plain.FttPlaced.{FttPlaced as FttPlacedOf};
-ghost use Rattle.fttcan_c.specs.declared.refusal.ExportRefusal.{ExportRefusal as RefusalOf};
-ghost use Rattle.fttcan_c.specs.declared.refusal.ExportRefusal.TheVariants.{Closed};
+ghost use Rattle.c_values.specs.declared.plain.FttMask.{FttMask as FttMaskOf};
+ghost use Rattle.c_values.specs.declared.plain.FttPlaced.{FttPlaced as FttPlacedOf};
+ghost use Rattle.c_values.specs.declared.refusal.ExportRefusal.{ExportRefusal as RefusalOf};
+ghost use Rattle.c_values.specs.declared.refusal.ExportRefusal.TheVariants.{Closed};
 ghost use Rattle.fttcan_c.specs.Mastering.{Holds, HoldsMaster, IsCaller, RefusesOpen};
-ghost use Rattle.fttcan_c.specs.Plain.{mask_of};
+ghost use Rattle.c_values.specs.Plain.{mask_of};
 ghost use Rattle.fttcan_c.specs.Reading.{HasPlanText, HasTable, HasTrail, IsLookedAt, IsNextOf, IsPlanTextOf, IsPlannedOf, IsRulesOf, RefusesLook, RefusesRead};
-ghost use Rattle.fttcan_c.specs.Refused.{status_of};
-ghost use Rattle.fttcan_c.specs.Room.{IsRoomFilled, IsRoomShort};
-ghost use Rattle.fttcan_c.specs.Told.{mask_told, put_of, rules_told};
+ghost use Rattle.c_values.specs.Refused.{status_of};
+ghost use Rattle.c_values.specs.Room.{IsRoomFilled, IsRoomShort};
+ghost use Rattle.c_values.specs.Told.{mask_told, put_of, rules_told};
 
-use crate::plain::{FttMask, FttPlaced, FttRules};
-use crate::plain_out::{mask_out, masks_out, rules_out, table_out};
-use crate::refusal::{ExportRefusal, OK};
-use crate::room::put;
+use c_values::{
+    ExportRefusal, FttMask, FttPlaced, FttRules, OK, mask_out, masks_out, put, rules_out, table_out,
+};
 use master_core::Core;
 use master_handle::{FttHandle, HandleContent};
 use plan_check::write_plan;

@@ -4,16 +4,15 @@ ghost use Rattle.std.specs.Prelude.{◌≡◌, ◌≢◌, ℕ, [], List, Some, N
 ghost use Rattle.master_core.specs.Cores.{CoreView};
 ghost use Rattle.master_handle.specs.declared.held.HandleContent.{HandleContent as HeldOf};
 ghost use Rattle.master_handle.specs.declared.held.HandleContent.TheVariants.{Master};
-ghost use Rattle.fttcan_c.specs.declared.refusal.ExportRefusal.{ExportRefusal as RefusalOf};
+ghost use Rattle.c_values.specs.declared.refusal.ExportRefusal.{ExportRefusal as RefusalOf};
 ghost use Rattle.fttcan_c.specs.Mastering.{Holds};
 ghost use Rattle.fttcan_c.specs.Reading.{RefusesRead};
-ghost use Rattle.fttcan_c.specs.Refused.{status_of};
-ghost use Rattle.fttcan_c.specs.Room.{IsRoomFilled, IsRoomShort};
+ghost use Rattle.c_values.specs.Refused.{status_of};
+ghost use Rattle.c_values.specs.Room.{IsRoomFilled, IsRoomShort};
 ghost use Rattle.fttcan_c.specs.Saving.{AreBytesOfCore, HasMasterBytes, IsCoreOfBytes, IsForC, IsRestored, RefusesRestore};
 
-use crate::refusal::{ExportRefusal, OK};
-use crate::room::put;
 use admission::Trail;
+use c_values::{ExportRefusal, OK, put};
 use master_core::Core;
 use master_handle::{FttHandle, HandleContent};
 use saved_state::laws::one_state;

@@ -2,15 +2,13 @@
 
 ghost use Rattle.std.specs.Prelude.{◌≡◌, ◌≢◌, ◌≤◌, None, Some, IfErr, IfOk, OnErr, OnOk};
 ghost use Rattle.master_handle.specs.declared.held.HandleContent.{HandleContent as HeldOf};
-ghost use Rattle.fttcan_c.specs.declared.refusal.ExportRefusal.{ExportRefusal as RefusalOf};
-ghost use Rattle.fttcan_c.specs.declared.refusal.ExportRefusal.TheVariants.{Memory};
+ghost use Rattle.c_values.specs.declared.refusal.ExportRefusal.{ExportRefusal as RefusalOf};
+ghost use Rattle.c_values.specs.declared.refusal.ExportRefusal.TheVariants.{Memory};
 ghost use Rattle.fttcan_c.specs.Apart.{IsCoreSettled, IsHeldSettled, RefusesSettle};
 ghost use Rattle.fttcan_c.specs.Mastering.{Holds, IsCaller};
-ghost use Rattle.fttcan_c.specs.Refused.{status_of};
+ghost use Rattle.c_values.specs.Refused.{status_of};
 
-use crate::plain::FttVerdict;
-use crate::plain_out::verdict_out;
-use crate::refusal::{ExportRefusal, OK};
+use c_values::{ExportRefusal, FttVerdict, OK, verdict_out};
 use master_core::{Answered, Core, CorePlanned};
 use master_handle::{FttHandle, HandleContent};
 use std::alloc::{AllocError, Global};

@@ -3,19 +3,18 @@
 ghost use Rattle.std.specs.Prelude.{◌≡◌, ◌≢◌, ◌<◌, ◌≤◌, ◌^◌, ◌↔◌, ◌∷◌, [], All, IfErr, IfOk, IsTrue, OnOk, map};
 ghost use Rattle.profile.specs.Limits.{first_slots, most_slots};
 ghost use Rattle.trigger_kind.specs.Kind.{IsSlots, slots_of};
-ghost use Rattle.fttcan_c.specs.declared.refusal.ExportRefusal.{ExportRefusal as RefusalOf};
-ghost use Rattle.fttcan_c.specs.declared.refusal.ExportRefusal.TheVariants.{Room};
-ghost use Rattle.fttcan_c.specs.Plain.{IsFrameIn, IsTriggerIn, frame_of, frames_of, mask_of};
-ghost use Rattle.fttcan_c.specs.Refused.{status_of};
-ghost use Rattle.fttcan_c.specs.Room.{IsRoomFilled, IsRoomShort};
-ghost use Rattle.fttcan_c.specs.Told.{frame_told};
-ghost use Rattle.fttcan_c.specs.Triggers.{IsTriggerTold, RefusesOne, RefusesTrigger, RefusesTwo, frames_told};
+ghost use Rattle.c_values.specs.declared.refusal.ExportRefusal.{ExportRefusal as RefusalOf};
+ghost use Rattle.c_values.specs.declared.refusal.ExportRefusal.TheVariants.{Room};
+ghost use Rattle.c_values.specs.Plain.{IsFrameIn, IsTriggerIn, frame_of, frames_of, mask_of};
+ghost use Rattle.c_values.specs.Refused.{status_of};
+ghost use Rattle.c_values.specs.Room.{IsRoomFilled, IsRoomShort};
+ghost use Rattle.c_values.specs.Told.{frame_told};
+ghost use Rattle.fttcan_c.specs.Triggers.{IsTriggerTold, RefusesOne, RefusesTrigger, RefusesTwo, frames_told, with_reserve};
 
-use crate::plain::{FttFrame, FttMask, FttTrigger};
-use crate::plain_in::{are_frames, frame_in, is_mask, mask_in};
-use crate::plain_out::{frame_out, mask_out};
-use crate::refusal::{ExportRefusal, OK};
-use crate::room::put;
+use c_values::{
+    ExportRefusal, FttFrame, FttMask, FttTrigger, OK, are_frames, frame_in, frame_out, is_mask,
+    mask_in, mask_out, put,
+};
 use profile::{FIRST_SLOTS, LONGEST_WINDOW};
 use trigger_codec::{decode, decode_second, encode, encode_later, flags_of_both};
 use trigger_kind::{Triggers, are_slots};
@@ -83,6 +82,33 @@ pub extern "C" fn fttcan_trigger_encode(
         Ok(()) => OK,
         Err(refusal) => refusal.status(),
     }
+}
+
+/// The trigger frames of a cycle whose window is longer by a reserve of so many bit times. With the reserve it is at most
+/// 16,383 bit times. All else is as in `fttcan_trigger_encode`.
+#[unsafe(no_mangle)]
+pub extern "C" fn fttcan_trigger_encode_reserved(
+    slots: u8,
+    trigger: &FttTrigger,
+    reserve: u32,
+    room: &mut [FttFrame],
+    count: &mut usize,
+) -> u32
+    ensures frames { result ≡ 0 → IsTriggerIn slots (with_reserve reserve trigger.now)
+        × IsRoomFilled (map frame_told (frames_told slots (with_reserve reserve trigger.now))) room.old room.new count.new }
+    ensures short { result ≡ 5 → IsTriggerIn slots (with_reserve reserve trigger.now)
+        × IsRoomShort (map frame_told (frames_told slots (with_reserve reserve trigger.now))) room.old room.new count.new }
+    ensures refused { result ≢ 0 → result ≢ 5 → (room.new ≡ room.old) × (count.new ≡ count.old)
+        × (result ≡ 2) × (IsTriggerIn slots (with_reserve reserve trigger.now) → ⊥) }
+{
+    if trigger.window > LONGEST_WINDOW || reserve > LONGEST_WINDOW {
+        return ExportRefusal::Argument.status();
+    }
+    let reserved = FttTrigger {
+        window: trigger.window + reserve,
+        ..*trigger
+    };
+    fttcan_trigger_encode(slots, &reserved, room, count)
 }
 
 /// What one trigger frame says, where a cycle has one.

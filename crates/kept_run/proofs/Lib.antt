@@ -8,3 +8,4 @@ pub mod Shared
 mod Standing
 mod Steps
 mod Triggers
+mod LiveRun

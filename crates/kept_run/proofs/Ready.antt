@@ -39,7 +39,7 @@ numbers-learnt : (placed : List Placed) (nodes : List NodeState) → numbers_of 
 numbers-learnt placed [] = refl
 numbers-learnt placed (node ∷ nodes) = ap (λ l. node.number ∷ l) (numbers-learnt placed nodes)
 
-numbers-learnt_by : (learned : Option (List Placed)) (nodes : List NodeState) → numbers_of (learnt_by learned nodes) ≡ numbers_of nodes
+pub numbers-learnt_by : (learned : Option (List Placed)) (nodes : List NodeState) → numbers_of (learnt_by learned nodes) ≡ numbers_of nodes
 numbers-learnt_by learned nodes = grind (arith, numbers-learnt)
 
 numbers-heard : (frames : List TimedFrame) (nodes : List NodeState) → numbers_of (heard_by frames nodes) ≡ numbers_of nodes
@@ -150,18 +150,18 @@ module _ (setting : Setting) (history : List Event) (trace : List TimedFrame) (n
 
   module _ (ready : AreNodesReady setting history trace nodes) (its : IsOrderFor setting.rules history order) where
     -- what they know once they have learnt its list
-    abbrev now : List Placed
+    abbrev pub now : List Placed
     now = known_then (is_changed history) its.list ready.known
 
-    now-stands : StandsFor (next_of history) (placed_of history) now
+    pub now-stands : StandsFor (next_of history) (placed_of history) now
     now-stands = stands-known (next_of history) (placed_of history) its.list ready.known (is_changed history) its.stands ready.up_to_date
 
-    bus-now : IsBus setting.layout setting.owners setting.requests now trace (next_of history) after
+    pub bus-now : IsBus setting.layout setting.owners setting.requests now trace (next_of history) after
     bus-now =
         subst (λ o. IsBus setting.layout setting.owners setting.requests now trace (next_of history) (learnt_by o (states_of nodes.nodes))) (sym its.is.learned)
         (bus-learnt setting.layout setting.owners setting.requests ready.known its.list trace (next_of history) (states_of nodes.nodes) (is_changed history) its.stands.well_placed ready.bus)
 
-    fits-now : IsLegal setting.rules history → FitsOrder order.l (record { cycle = next_of history; mask = order.mask; placed = now }) after
+    pub fits-now : IsLegal setting.rules history → FitsOrder order.l (record { cycle = next_of history; mask = order.mask; placed = now }) after
     fits-now legal = record {
       width = its.is.window ∙ sym (width-stands (next_of history) order.mask (placed_of history) now now-stands);
       present = λ slot known flagged.

@@ -21,8 +21,9 @@ use Rattle.kept_run.specs.Setting.{IsSetting, Setting}
 use Rattle.kept_run.specs.Served.{ForgetsEnds}
 pub use Rattle.master_core.proofs.Shared.{next_of-push}
 pub use Rattle.kept_run.proofs.Histories.{AllAfter-parts, legal-but_last, legal-parts}
-pub use Rattle.kept_run.proofs.Lists.{Contains-filter, number-below}
-pub use Rattle.kept_run.proofs.Opened.{opened-legal}
+pub use Rattle.kept_run.proofs.Lists.{Contains-filter, filter-filter, filter-same, number-below, place-of}
+pub use Rattle.kept_run.proofs.Opened.{AreOpenedBy, opened-legal}
+pub use Rattle.kept_run.proofs.Plans.{mask-planned, mask-sendable, planned_once}
 pub use Rattle.kept_run.proofs.Ready.{order-whole}
 pub use Rattle.kept_run.proofs.Served.{bytes_of-forgets, second_identifiers}
 pub use Rattle.kept_run.proofs.Standing.{SameIn, follows-same, stands-now, width-same}

@@ -5,12 +5,13 @@ use Rattle.cycle_layout.specs.Layout.{CycleLayout}
 use Rattle.requirement_table.specs.declared.entries.Order.{Order}
 use Rattle.requirement_table.specs.declared.entries.Placed.{Placed}
 use Rattle.requirement_table.specs.Instance.{bytes_of}
+use Rattle.async_window.specs.Online.{WereRequests, arrived_by}
 use Rattle.bus_line.specs.Trace.{end_of}
 use Rattle.master_core.specs.declared.event.Event.{Event}
 use Rattle.master_core.specs.History.{IsLegal, is_changed, next_of, placed_of}
 use Rattle.master_core.specs.Openings.{openings_of}
 use Rattle.master_core.specs.Orders.{StandsFor}
-use Rattle.node_model.specs.Node.{NodeState}
+use Rattle.node_model.specs.Node.{IsNode, NodeState}
 use Rattle.cycle_engine.specs.Cycle.{RunsCycles}
 use Rattle.cycle_engine.specs.Nodes.{IsBefore, IsBus, IsNumber, NodesView, states_of}
 use Rattle.cycle_engine.specs.Offered.{IsCanTrace}
@@ -50,3 +51,11 @@ pub record IsOnTheWay (setting : Setting) (history : List Event) (trace : List T
   pub known : IsSetting setting
   pub under_way : IsUnderWay setting history trace
   pub ready : AreNodesReady setting history trace nodes
+
+-- the same of nodes that take requests while they run and send any bytes: what they know is what the nodes of a run know in
+-- which each instance sends its number, and each frame of a request was one of those that had arrived
+pub record AreLiveReady (setting : Setting) (history : List Event) (trace : List TimedFrame) (nodes : NodesView)
+    : Type 0 where
+  pub ready : AreNodesReady (record setting { sends = bytes_of }) history trace nodes
+  pub are : All IsNode (states_of nodes.nodes)
+  pub were : WereRequests (arrived_by (next_of history * setting.layout.cycle) setting.requests) trace

@@ -5,7 +5,12 @@
 //! instance sends; where nodes are ready, each instance sends its number.
 
 ghost use Rattle.std.specs.Prelude.{◌≡◌, ℕ, ◌+◌, ◌*◌, ◌^◌, ◌<◌, ◌≤◌, ◌↔◌, ◌==◌, false, List, [], ◌∷◌, ◌++◌, All, Any, IfSome};
-ghost use Rattle.std.specs.Prelude.{filter, length};
+ghost use Rattle.std.specs.Prelude.{AllPairs, filter, length};
+ghost use Rattle.profile.specs.Limits.{cycles_end};
+ghost use Rattle.async_window.specs.Online.{WereRequests, arrived_by};
+ghost use Rattle.bus_line.specs.Trace.{free_after};
+ghost use Rattle.node_model.specs.Node.{IsNode, NodeState};
+ghost use Rattle.cycle_engine.specs.LiveBus.{IsTriggered, live_offers};
 ghost use Rattle.can_frame.specs.declared.data_frame.TimedFrame.{TimedFrame};
 ghost use Rattle.requirement_table.specs.declared.entries.Order.{Order};
 ghost use Rattle.requirement_table.specs.declared.entries.Placed.{Placed};
@@ -26,7 +31,7 @@ ghost use Rattle.cycle_engine.specs.Nodes.{CanLearn, HaveSpare, IsBus, IsNumber,
 ghost use Rattle.cycle_engine.specs.Nodes.{heard_by, learnt_by, opening_of, states_of};
 ghost use Rattle.cycle_engine.specs.Offered.{AreAsynchronous, SendsWhole, offered_in};
 ghost use Rattle.kept_run.specs.Kept.{Kept};
-ghost use Rattle.kept_run.specs.Progress.{AreBeforeCycle, AreNodesReady, IsUnderWay};
+ghost use Rattle.kept_run.specs.Progress.{AreBeforeCycle, AreLiveReady, AreNodesReady, IsUnderWay};
 ghost use Rattle.kept_run.specs.Setting.{IsSetting, Setting};
 ghost use Rattle.kept_run.specs.Served.{ForgetsEnds};
 
@@ -170,4 +175,50 @@ pub fn triggers_count_cycles()
         → (front later : List TimedFrame) (sent : TimedFrame) → trace ≡ front ++ sent ∷ later
         → length (filter (λ other. other.frame.identifier == 0) (front ++ sent ∷ []))
         ≡ cycle_of setting.layout sent + 1 }
+{}
+
+/// A cycle of an order on a bus whose nodes take requests while they run and send bytes of their users keeps a run under
+/// way: the nodes learnt a list that stands for the placed entries, the trigger frames were sent at the cycle's start and
+/// heard by all, and the frames behind them are what arbitration decides between what the nodes offer. So with
+/// `promise` it keeps what is promised.
+pub fn live_cycles()
+    ensures under_way { (setting : Setting) (history : List Event) (trace : List TimedFrame) (order : Order)
+        (nodes : List NodeState) (sent later : List TimedFrame)
+        → IsSetting setting → SendsWhole setting.sends
+        → AllPairs (λ one other. one.at ≤ other.at) setting.requests
+        → IsUnderWay setting history trace → IsOrderFor setting.rules history order
+        → All IsNode nodes → (before : AreBeforeCycle setting history trace setting.layout order nodes)
+        → IsTriggered setting.layout order nodes sent
+        → WereRequests (arrived_by (order.cycle * setting.layout.cycle) setting.requests) trace
+        → Follows (live_offers setting.sends setting.owners setting.requests (opening_of order before.known)
+        (trace ++ sent) (heard_by sent nodes)) (trace ++ sent)
+        (free_after (order.cycle * setting.layout.cycle) sent) ((order.cycle + 1) * setting.layout.cycle) later
+        → order.cycle < cycles_end
+        → IsUnderWay setting (history ++ Open order.cycle order.mask ∷ []) (trace ++ (sent ++ later)) }
+    ensures first { (setting : Setting) (nodes : NodesView) → nodes.layout ≡ setting.layout
+        → IsBus setting.layout setting.owners setting.requests [] [] 0 (states_of nodes.nodes)
+        → ((number : ℕ) → number < setting.rules.nodes → IsNumber (states_of nodes.nodes) number)
+        → All IsNode (states_of nodes.nodes) → AreLiveReady setting [] [] nodes }
+    ensures answered { (setting : Setting) (trace : List TimedFrame) (nodes : NodesView) (history : List Event) (event : Event)
+        → is_open event ≡ false → AreLiveReady setting history trace nodes
+        → AreLiveReady setting (history ++ event ∷ []) trace nodes }
+    ensures before { (setting : Setting) (history : List Event) (trace : List TimedFrame) (nodes : NodesView) (order : Order)
+        → IsUnderWay setting history trace → AreLiveReady setting history trace nodes
+        → IsOrderFor setting.rules history order
+        → AreBeforeCycle setting history trace setting.layout order (learnt_by order.learned (states_of nodes.nodes)) }
+    ensures ready { (setting : Setting) (history : List Event) (trace : List TimedFrame) (nodes new : NodesView)
+        (order : Order) (sent later : List TimedFrame)
+        → IsSetting setting → SendsWhole setting.sends
+        → AllPairs (λ one other. one.at ≤ other.at) setting.requests
+        → IsUnderWay setting history trace → AreLiveReady setting history trace nodes
+        → IsOrderFor setting.rules history order
+        → (before : AreBeforeCycle setting history trace setting.layout order
+        (learnt_by order.learned (states_of nodes.nodes)))
+        → IsTriggered setting.layout order (learnt_by order.learned (states_of nodes.nodes)) sent
+        → Follows (live_offers setting.sends setting.owners setting.requests (opening_of order before.known)
+        (trace ++ sent) (heard_by sent (learnt_by order.learned (states_of nodes.nodes)))) (trace ++ sent)
+        (free_after (order.cycle * setting.layout.cycle) sent) ((order.cycle + 1) * setting.layout.cycle) later
+        → order.cycle < cycles_end → new.layout ≡ setting.layout
+        → states_of new.nodes ≡ heard_by (sent ++ later) (learnt_by order.learned (states_of nodes.nodes))
+        → AreLiveReady setting (history ++ Open order.cycle order.mask ∷ []) (trace ++ (sent ++ later)) new }
 {}

@@ -1,8 +1,9 @@
 -- What is known of a node's own entries, identifiers and slots.
-use Rattle.std.proofs.Common.{◌≡◌, ◌≢◌, ℕ, ◌+◌, ◌-◌, ◌^◌, ◌<◌, ◌≤◌, ◌||◌, ◌==◌, Bool, true, false, cond, map, Option, Some, None, MatchOption, ◌⊎◌, List, [], ◌∷◌, filter, All, AllPairs, refl, sym, ap, ◌∙◌, arith, ⊎_elim}
+use Rattle.std.proofs.Common.{zero, suc, length, take, get_or, ◌≡◌, ◌≢◌, ℕ, ◌+◌, ◌-◌, ◌^◌, ◌<◌, ◌≤◌, ◌||◌, ◌==◌, Bool, true, false, cond, map, Option, Some, None, MatchOption, ◌⊎◌, List, [], ◌∷◌, filter, All, AllPairs, refl, sym, ap, ◌∙◌, subst, arith, ⊎_elim}
 use Rattle.std.specs.List.{list_any}
 use Rattle.std.proofs.lemmas.Bool.{cases_lt, eq-eqb, eqb-true}
 use Rattle.std.proofs.lemmas.Bool.Decides.{nat_tests}
+use Rattle.std.proofs.lemmas.List.{length-map}
 use Rattle.std.proofs.lemmas.List.Elements.{All-filter, All-map}
 use Rattle.std.proofs.lemmas.List.Kept.{AllPairs-filter}
 use Rattle.profile.specs.Limits.{first_identifier}
@@ -37,6 +38,41 @@ with_node-own number (p ∷ ps) =
     ap (λ all. with_node number p ∷ all) (with_node-own number ps)
     ∙ ap (λ b. cond b (with_node number p ∷ entries_of number (map (with_node number) ps)) (entries_of number (map (with_node number) ps)))
     (sym (eq-eqb number number refl))
+
+-- the elements that pass a test before one that passes are fewer than all that pass
+longer : {A : Type 0} (b : Bool) (x : A) (xs ys : List A) → length xs < length ys → length (cond b (x ∷ xs) xs) < length (cond b (x ∷ ys) ys)
+longer true x xs ys fewer = omega (arith, fewer)
+longer false x xs ys fewer = fewer
+
+filter-fewer : {A : Type 0} (test : A → Bool) (xs : List A) (i : ℕ) (d : A) → i < length xs → test (get_or xs i d) ≡ true
+    → length (filter test (take i xs)) < length (filter test xs)
+filter-fewer test [] i d within passes = absurd (omega arith)
+filter-fewer test (y ∷ ys) zero d within passes =
+    subst (λ b. 0 < length (cond b (y ∷ filter test ys) (filter test ys))) (sym passes) (omega arith)
+filter-fewer test (y ∷ ys) (suc i) d within passes =
+    longer (test y) y (filter test (take i ys)) (filter test ys) (filter-fewer test ys i d (omega arith) passes)
+
+pub kept-fewer : (all : Bool) (number : ℕ) (placed : List Placed) (i : ℕ) (d : Placed) → i < length placed
+    → (all || (get_or placed i d).entry.node == number) ≡ true
+    → length (kept_of all number (take i placed)) < length (kept_of all number placed)
+kept-fewer all number placed i d within passes =
+    let few = filter-fewer (λ q. all || q.entry.node == number) placed i d within passes in
+    omega (
+      arith,
+      few,
+      length-map (filter (λ q. all || q.entry.node == number) (take i placed)) (with_node number),
+      length-map (filter (λ q. all || q.entry.node == number) placed) (with_node number),
+    )
+
+-- not more are kept than there are
+pub kept-few : (all : Bool) (number : ℕ) (placed : List Placed) → length (kept_of all number placed) ≤ length placed
+kept-few all number [] = omega arith
+kept-few all number (p ∷ ps) = few (all || p.entry.node == number) (kept-few all number ps)
+  where
+    few : (b : Bool) → length (kept_of all number ps) ≤ length ps
+        → length (map (with_node number) (cond b (p ∷ filter (λ q. all || q.entry.node == number) ps) (filter (λ q. all || q.entry.node == number) ps))) ≤ suc (length ps)
+    few true fewer = omega (arith, fewer)
+    few false fewer = omega (arith, fewer)
 
 -- an own entry has the node's number
 one-own : (number : ℕ) (p : Placed) (ps rest : List Placed) (b : Bool) → (p.entry.node == number) ≡ b → map (with_node number) ps ≡ rest

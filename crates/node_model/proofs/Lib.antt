@@ -21,3 +21,4 @@ mod OtherFrames
 mod Triggers
 mod Between
 mod OnlyCounted
+mod TakesRequests

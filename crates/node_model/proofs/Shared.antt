@@ -7,3 +7,6 @@ pub use Rattle.node_model.proofs.OwnEntries.{Contains-filter, Contains-from_map,
 pub use Rattle.node_model.proofs.OwnPart.{offers_own_part}
 pub use Rattle.node_model.proofs.StaysNode.{node-hearing, node-learning}
 pub use Rattle.node_model.proofs.Triggers.{opens-cycle}
+pub use Rattle.node_model.proofs.Known.{identifiers_of-all, identifiers_of-distinct}
+pub use Rattle.node_model.proofs.Offers.{offered-mail}
+pub use Rattle.node_model.proofs.TakesRequests.{serves-frames, serves-offers}

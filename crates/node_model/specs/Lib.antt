@@ -5,3 +5,4 @@ pub mod Own
 pub mod Kept
 pub mod Window
 pub mod Ahead
+pub mod Online

@@ -33,11 +33,10 @@ pub fn identifiers_of(alloc: Global, number: u8, owners: &[Owner]) -> Result<Vec
 /// its number. The answer is the set of their slots.
 pub fn keep_own(number: u8, all: bool, placed: &[Placed], entries: &mut Vec<Placed>) -> Mask
     requires well_placed { IsWellPlaced placed.now }
-    requires room { length placed.now ≤ vec_capacity entries.old }
+    requires room { length (kept_of all number placed.now) ≤ vec_capacity entries.old }
     ensures own { entries.new.items ≡ kept_of all number placed.now }
     ensures slots { AreSlotsOf entries.new.items result }
     ensures well_placed { IsWellPlaced entries.new.items }
-    ensures few { length entries.new.items ≤ length placed.now }
     ensures capacity { vec_capacity entries.old ≤ vec_capacity entries.new }
 {
     entries.clear();

@@ -1,6 +1,6 @@
 //! Laws about the definitions of this crate. Each function has an empty body, and its contract is the law.
 
-ghost use Rattle.std.specs.Prelude.{◌≡◌, ◌≢◌, ℕ, ◌+◌, ◌/◌, ◌^◌, ◌<◌, ◌≤◌, ◌==◌, ◌&&◌, ◌⊎◌};
+ghost use Rattle.std.specs.Prelude.{◌≡◌, ◌≢◌, ◌↔◌, ℕ, ◌+◌, ◌/◌, ◌^◌, ◌<◌, ◌≤◌, ◌==◌, ◌&&◌, ◌⊎◌};
 ghost use Rattle.std.specs.Prelude.{not, List, [], ◌∷◌, ◌++◌, fold, map, All, MatchOption, None, Some, false, true};
 ghost use Rattle.profile.specs.Limits.{cycles_end, first_identifier, greatest_identifier};
 ghost use Rattle.can_frame.specs.declared.data_frame.TimedFrame.{TimedFrame};
@@ -19,6 +19,12 @@ ghost use Rattle.node_model.specs.Node.{node_offer};
 ghost use Rattle.node_model.specs.Offered.{trigger_frames};
 ghost use Rattle.node_model.specs.Window.{IsInWindow, due_frame, is_due_slot};
 ghost use Rattle.async_window.specs.Owners.{AreOwners};
+ghost use Rattle.async_window.specs.Mailbox.{IsMail};
+ghost use Rattle.async_window.specs.Online.{ComeLater, HaveArrived, WereRequests, forgotten};
+ghost use Rattle.node_model.specs.Offered.{OffersRequest};
+ghost use Rattle.can_frame.specs.DataFrame.{DataFrame};
+ghost use Rattle.profile.specs.Limits.{least_asynchronous};
+ghost use Rattle.node_model.specs.Online.{AllArrived, after_put, forgetting, serving};
 ghost use Rattle.node_model.specs.Own.{AreApart, HasRequest, OffersLeastOwn, StandsIn, StandsOnBus, counting};
 
 /// What a node offers is the least of its own part of what is offered on the bus.
@@ -128,4 +134,47 @@ pub fn sends_its_slots()
 pub fn offers_in_range()
     ensures in_range { (node : NodeState) (at id : ℕ) → IsNode node → node_offer node at ≡ Some id
         → (first_identifier ≤ id) × (id ≤ greatest_identifier) }
+{}
+
+/// A node that takes requests while it runs. With one that is put it stands on the bus as with one that was given to it
+/// at the start; it may forget when they arrived, since what it has forgotten changes neither what it does with a
+/// request or a frame, nor what it offers and sends once they have arrived. Requests that come later change nothing of
+/// what is offered before.
+pub fn takes_requests()
+    ensures put { (layout : CycleLayout) (owners : List Owner) (requests : List Request) (request : Request)
+        (opening : Opening) (past : List TimedFrame) (node : NodeState)
+        → AreOwners owners → WereRequests requests past
+        → StandsIn layout owners requests opening past node
+        → StandsIn layout owners (requests ++ request ∷ []) opening past (after_put request node) }
+    ensures puts { (request : Request) (node : NodeState)
+        → forgetting (after_put request node) ≡ after_put (forgotten request) (forgetting node) }
+    ensures hears { (sent : TimedFrame) (node : NodeState)
+        → forgetting (after_hearing node sent) ≡ after_hearing (forgetting node) sent }
+    ensures given { (owners : List Owner) (given : List Request) (request : Request) (past : List TimedFrame)
+        (node : NodeState) → AreOwners owners → WereRequests given past
+        → after_put (forgotten request) (serving owners given past node)
+        ≡ serving owners (given ++ request ∷ []) past node }
+    ensures heard { (owners : List Owner) (given : List Request) (past : List TimedFrame) (sent : TimedFrame)
+        (node : NodeState) → AreOwners owners → All (λ p. p.entry.slot < most_slots) node.entries
+        → after_hearing (serving owners given past node) sent
+        ≡ serving owners given (past ++ sent ∷ []) (after_hearing node sent) }
+    ensures serves { (layout : CycleLayout) (owners : List Owner) (requests later : List Request) (opening : Opening)
+        (past : List TimedFrame) (at : ℕ) (node : NodeState)
+        → AreOwners owners → WereRequests requests past → HaveArrived at requests → ComeLater at later
+        → StandsIn layout owners (requests ++ later) opening past node
+        → node_offer (serving owners requests past node) at ≡ node_offer node at }
+    ensures sends { (layout : CycleLayout) (owners : List Owner) (requests later : List Request) (opening : Opening)
+        (past : List TimedFrame) (at id : ℕ) (node : NodeState)
+        → AreOwners owners → WereRequests requests past → IsMail (serving owners requests past node).mail
+        → StandsIn layout owners (requests ++ later) opening past node
+        → node_offer (serving owners requests past node) at ≡ Some id
+        → node_frame (serving owners requests past node) at id ≡ node_frame node at id }
+    ensures offers { (node : NodeState) (at : ℕ) → AllArrived at node
+        → node_offer (forgetting node) at ≡ node_offer node at }
+    ensures frames { (node : NodeState) (at id : ℕ) → node_frame (forgetting node) at id ≡ node_frame node at id }
+    ensures later { (layout : CycleLayout) (requests later : List Request) (opening : Opening) (past : List TimedFrame)
+        (at : ℕ) (frame : DataFrame) → least_asynchronous ≤ frame.identifier → WereRequests requests past
+        → ComeLater at later
+        → OffersRequest layout (requests ++ later) opening past at frame
+        ↔ OffersRequest layout requests opening past at frame }
 {}

@@ -9,6 +9,8 @@ mod due;
 mod entries;
 pub mod laws;
 mod node;
+mod online;
 mod slots_due;
 
 pub use node::{Node, last_bit};
+pub use online::OpenCycle;

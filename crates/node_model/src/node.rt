@@ -8,7 +8,8 @@ ghost use Rattle.bit_sets.specs.Sets.{most_slots};
 ghost use Rattle.requirement_table.specs.Table.{IsWellPlaced};
 ghost use Rattle.async_window.specs.Mailbox.{IsNextInCycle, left};
 ghost use Rattle.async_window.specs.Owners.{AreOwners};
-ghost use Rattle.node_model.specs.Node.{IsNextOffer, IsNode, after_hearing, after_request, after_slot, fresh_node};
+ghost use Rattle.node_model.specs.Node.{IsNextOffer, IsNode, after_hearing, after_request, after_slot, entries_of};
+ghost use Rattle.node_model.specs.Node.{fresh_node};
 ghost use Rattle.node_model.specs.Node.{is_own_slot, learnt, next_trigger, node_frame, node_offer, with_node};
 ghost use Rattle.trigger_kind.specs.Kind.{opening_identifier};
 ghost use Rattle.node_model.specs.Node.{opened_by, opening_trigger};
@@ -34,14 +35,14 @@ pub struct Node {
     pub(crate) frames: u64,
     /// The slots in which the node has an entry.
     pub(crate) own: Mask,
-    mailboxes: Mailboxes,
+    pub(crate) mailboxes: Mailboxes,
     /// What the node found when it last looked ahead, where nothing has changed since.
     pub(crate) ahead: Option<OfferAhead>,
     pub(crate) opened: Option<Open>,
-    next: u64,
+    pub(crate) next: u64,
     /// What the node heard of the trigger frames of the next cycle, of which the last one did not come yet.
-    noted: Noted,
-    layout: Layout,
+    pub(crate) noted: Noted,
+    pub(crate) layout: Layout,
     number: u8,
     /// The node's entries, as it learnt them. This vector and that of the remaining ones have room for a list that can
     /// be learnt without memory.
@@ -163,10 +164,27 @@ impl Node {
         self.learn_from(placed, true);
     }
 
+    /// Replaces the node's entries by those of its number in a list, where these are not more than what is reserved.
+    pub fn learn_own(&mut self, placed: &[Placed])
+        requires well_placed { IsWellPlaced placed.now }
+        requires room { length (entries_of self.old.state.number placed.now) ≤ self.old.spare }
+        ensures learnt { self.new.state ≡ learnt placed.now self.old.state }
+        ensures spare { self.old.spare ≤ self.new.spare }
+    {
+        self.learn_from(placed, false);
+    }
+
+    /// The number of the node.
+    pub fn number(&self) -> u8
+        ensures number { result ≡ self.now.state.number }
+    {
+        self.number
+    }
+
     /// Replaces the node's entries by those of its number in a list, or with `all` by each one of it, without memory.
     fn learn_from(&mut self, placed: &[Placed], all: bool)
         requires well_placed { IsWellPlaced placed.now }
-        requires room { length placed.now ≤ self.old.spare }
+        requires room { length (kept_of all self.old.state.number placed.now) ≤ self.old.spare }
         ensures learnt { self.new.state
             ≡ record self.old.state { entries = kept_of all self.old.state.number placed.now } }
         ensures spare { self.old.spare ≤ self.new.spare }
@@ -376,7 +394,7 @@ impl Node {
     }
 
     /// What a frame says as the first trigger frame of the next cycle, where it is that.
-    fn next_trigger(&self, frame: &Frame) -> Option<Trigger>
+    pub fn next_trigger(&self, frame: &Frame) -> Option<Trigger>
         ensures trigger { result ≡ next_trigger self.now.state frame.now }
         ensures fits { IfSome result (λ trigger. trigger.l ≤ self.now.state.layout.window) }
         ensures same { IfSome result (λ trigger. trigger.low ≡ self.now.state.next % 256) }
@@ -385,7 +403,7 @@ impl Node {
     }
 
     /// What the trigger frames of the next cycle say, where the frame is the last of them.
-    fn opening_trigger(&self, frame: &Frame) -> Option<Trigger>
+    pub fn opening_trigger(&self, frame: &Frame) -> Option<Trigger>
         ensures trigger { result ≡ opening_trigger self.now.state frame.now }
         ensures fits { IfSome result (λ trigger. trigger.l ≤ self.now.state.layout.window) }
     {
@@ -458,7 +476,7 @@ impl Node {
     }
 
     /// What the node offers at a time, and how long, with no use of a look ahead.
-    fn find_offer(&self, at: u64) -> Option<Offer>
+    pub fn find_offer(&self, at: u64) -> Option<Offer>
         requires time { at < times_end }
         ensures offer { option_map (λ offer. offer.id) result ≡ node_offer self.now.state at }
         ensures stays { IfSome result (StaysOffered self.now.state at) }

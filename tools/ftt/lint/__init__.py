@@ -1,7 +1,7 @@
 """Finds mistakes in the files of fttcan, and says what to do about each.
 
     tools/fttlint SYSTEM STEPS [REQUESTS] [--plan PLAN] [--streams STREAMS] [--wishes WISHES] [--log LOG]
-                  [--bounds BOUNDS] [--live | --replay] [--all]
+                  [--bounds BOUNDS] [--ask] [--live | --replay] [--all]
     tools/fttlint --words WORD..
 
 A mistake is what the program refuses: a file that breaks its format, or a change that is malformed, late or after the
@@ -11,6 +11,10 @@ says whether it keeps the table. Of a log only the rows are looked at; `fttcan a
 
 --bounds looks at the file that declares how far apart asynchronous requests are, as async.csv of fttmodel. It warns of
 requests that break their stream, and of streams without a bound, or with one after their deadline.
+
+Changes that are asked for together while something runs are a warning if one makes room and another one needs it: a
+switch may end half done. --ask tries them before each cycle, as fttsearch --ask does, and warns of those alone that end
+half done before some cycle.
 
 --words looks at the words of a call of fttcan, all that come after it, and says which one is wrong: the command, an
 option, a number, or a word that is missing or in another's place. Outside of a checkout the fttcan of the path says
@@ -32,7 +36,7 @@ This program is a help for people. Nothing of it is proved, and nothing that is 
 import argparse
 import sys
 
-from ..command import Parser, needs_tomllib, takes_version
+from ..command import Help, Parser, needs_tomllib, stop, takes_version
 
 # So many findings of a file are printed.
 SHOWN = 20
@@ -40,7 +44,7 @@ SHOWN = 20
 
 def parser():
     """The reader of the words."""
-    made = Parser(prog="fttlint", description=__doc__, formatter_class=argparse.RawDescriptionHelpFormatter)
+    made = Parser(prog="fttlint", description=__doc__, formatter_class=Help)
     made.add_argument("system", metavar="SYSTEM")
     made.add_argument("steps", metavar="STEPS")
     made.add_argument("requests", metavar="REQUESTS", nargs="?")
@@ -49,6 +53,8 @@ def parser():
     made.add_argument("--wishes", metavar="WISHES", help="the wishes that elastic is to read")
     made.add_argument("--log", metavar="LOG", help="the log that audit is to read")
     made.add_argument("--bounds", metavar="BOUNDS", help="the streams that are declared of the requests")
+    made.add_argument("--ask", action="store_true", help="try changes that are asked for together before each cycle; without "
+                      "the library libfttcan.so.1 this takes minutes")
     made.add_argument("--words", action="store_true", help="look at the words of a call, all that come after it")
     modes = made.add_mutually_exclusive_group()
     modes.add_argument("--live", action="store_const", const="live", dest="mode", default="both",
@@ -62,6 +68,14 @@ def parser():
 
 def main():
     """Reads the words, looks at the files, and prints what was found. The status."""
+    try:
+        return linted()
+    except KeyboardInterrupt:
+        return stop("fttlint")
+
+
+def linted():
+    """The same, where nobody interrupts it."""
     needs_tomllib("fttlint")
     # A path that is not UTF-8 is printed with ? in place of its bytes.
     sys.stdout.reconfigure(errors="replace")

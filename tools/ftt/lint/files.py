@@ -18,6 +18,8 @@ class Findings:
         self.said = None
         self.is_run = True
         self.is_unread = False
+        # Whether changes are asked for together while something runs.
+        self.has_blocks = False
 
     def mistake(self, line, what, said=None, answered=None):
         """A mistake, and what the program does: the line that it says of a refused file, told for the first mistake of

@@ -31,6 +31,10 @@ def look_at(words):
 
     system = look(words.system, lint_system)
     cycles, table = look(words.steps, lint_steps, system, words.mode) or (None, None)
+    if files[-1].has_blocks and system is not None and not any(it.mistakes or it.is_unread for it in files):
+        # The planner is needed here alone.
+        from .switches import lint_switches  # pylint: disable=import-outside-toplevel
+        lint_switches(words.system, words.steps, words.ask, files[-1])
     streams = None if words.bounds is None else look(words.bounds, lint_bounds, system)
     if words.requests is not None:
         look(words.requests, lint_requests, system, cycles, streams)

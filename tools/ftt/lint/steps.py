@@ -315,6 +315,7 @@ def lint_steps(path, system, mode, found):
         return None, None
     changes, cycles, is_whole = lint_rows(data, system, found)
     found.is_run = is_whole and not found.mistakes and system is not None
+    found.has_blocks = any(one.above == other.above > 0 for one, other in zip(changes, changes[1:]))
     table = {} if found.is_run else None
     for change in changes:
         if not change.operations:

@@ -11,6 +11,8 @@
     tools/fttlog from-candump KBITS [RECORDING]   the rows of a recording of candump -L
     tools/fttlog conform KBITS OWN [RECORDING]    whether a recording is that of the run OWN, a log or a plan
     tools/fttlog bits [LOG]                       the bits of the bus
+    tools/fttlog traffic SYSTEM STEPS REQUESTS STREAMS
+                                                  a run with asynchronous requests and requests of polled slots
 
 With no LOG or RECORDING, or with -, standard input is read. The log is one that `fttcan replay` or `fttcan live` wrote,
 with or without a report. If it was cut by `--tail`, most forms tell the rows that are there.
@@ -29,15 +31,18 @@ import argparse
 import fractions
 import sys
 
-from ..command import takes_version
-from . import bus, conform, drawing, recording, rows, steps, times, words as sentences
+from ..command import Help, stop, takes_version
+from . import bus, conform, drawing, reading, recording, rows, steps, times, words as sentences
 from .clock import PPM
 
-REPORT = rows.REPORT
 # The forms that tell what stands after the row `end` too.
 WHOLE = ("say", "json", "late", "html")
+# The forms that read a log more than once; with steps `say` does too.
+TWICE = ("late", "svg", "html")
 # The forms that read recordings.
 RECORDINGS = ("from-candump", "conform")
+# The form that reads no log.
+TRAFFIC = "traffic"
 
 
 def at_least(least):
@@ -109,6 +114,9 @@ def forms_of(reader):
     tell = form(forms, "say", "sentences on verdicts, cycles and frames", takes_kbits, takes_names)
     tell.add_argument("--steps", metavar="FILE", help="the steps file, to say which row of it asked for a change")
     tell.add_argument("--all", action="store_true", help="the whole plan of a missed deadline")
+    tell.add_argument("--from", dest="first", type=at_least(0), default=0, metavar="CYCLE", help="begin at this cycle")
+    tell.add_argument("--to", dest="last", type=at_least(0), default=float("inf"), metavar="CYCLE", help="end with this cycle")
+    tell.add_argument("--changes", action="store_true", help="changes and looks alone, and no cycles")
     late = form(forms, "late", "how late frames were sent", takes_kbits, takes_names, takes_cycle)
     late.add_argument("--requests", metavar="FILE", help="the requests file: the latencies of asynchronous frames")
     late.add_argument("--bounds", metavar="FILE", help="with --requests: the file that declares the streams of the "
@@ -116,6 +124,8 @@ def forms_of(reader):
                       "broken")
     late.add_argument("--system", metavar="FILE", help="with --bounds: the system file")
     late.add_argument("--steps", metavar="FILE", help="the steps file: the delays of synchronous frames")
+    late.add_argument("--plan", metavar="FILE", help="with --steps and --kbits: the plan that admit writes of these steps, by "
+                      "which the worst case of each message is told; without it, by the cycles of the run")
     late.add_argument("--streams", metavar="FILE", help="the streams file of a log of poll: the latencies of requests of "
                       "polled slots")
     late.add_argument("--svg", metavar="FILE", help="writes histograms into this file")
@@ -123,12 +133,18 @@ def forms_of(reader):
     draw.add_argument("first", type=at_least(0), help="the first cycle")
     draw.add_argument("last", type=at_least(0), help="the last cycle")
     page = form(forms, "html", "a page that shows the whole run", takes_kbits, takes_names, takes_cycle)
+    page.add_argument("--steps", metavar="FILE", help="the steps file, to say what each change asked for")
     page.add_argument("--title", default="A run of fttcan", help="the title of the page")
     form(forms, "json", "one JSON object a row", takes_names)
     keep = form(forms, "accepted", "the steps without refused changes")
     keep.add_argument("steps", help="the steps file")
     recordings_of(forms)
+    whole = form(forms, "traffic", "a run with asynchronous requests and requests of polled slots, composed of two runs")
+    for name in ("system", "steps", "requests", "streams"):
+        whole.add_argument(name, metavar=name.upper(), help=f"the {name} file")
     for name, made in forms.choices.items():
+        if name == TRAFFIC:
+            continue
         read = "recording" if name in RECORDINGS else "log"
         made.add_argument("log", nargs="?", default="-", metavar=read, help=f"the {read}; without it, standard input")
 
@@ -170,6 +186,10 @@ def conforms(forms):
                       help=f"what the recorder's clock may run off, in parts per million; without it {PPM}")
     made.add_argument("--requests", choices=("own", "any"), default="own",
                       help="whether the bus has the run's requests, in any place, or any others; without it own")
+    made.add_argument("--reserve", type=at_least(0), default=None, metavar="N", help="the bus is disturbed: each trigger says "
+                      "N bit times more than its frames need, and frames may be late by what is lost of them")
+    made.add_argument("--turnaround", type=at_least(0), default=None, metavar="R", help="the bus is disturbed: a trigger may "
+                      "be late by R bit times")
     made.add_argument("--any-data", action="store_true",
                       help="compares no data of slots, only how many bytes there are")
     made.add_argument("--csv", metavar="FILE", help="writes all findings as CSV; - is standard output")
@@ -181,7 +201,7 @@ def conforms(forms):
 def parser():
     """The reader of the words."""
     made = argparse.ArgumentParser(prog="fttlog", description=__doc__,
-                                   formatter_class=argparse.RawDescriptionHelpFormatter)
+                                   formatter_class=Help)
     takes_version(made)
     forms_of(made)
     return made
@@ -191,12 +211,14 @@ def read_words():
     """The words. A log may stand after the options too."""
     reader = parser()
     words, more = reader.parse_known_args()
-    if len(more) == 1 and words.log == "-" and not more[0].startswith("-"):
+    if len(more) == 1 and getattr(words, "log", None) == "-" and not more[0].startswith("-"):
         words.log = more[0]
     elif more:
         reader.error(f"unrecognized arguments: {' '.join(more)}")
     if words.form == "late" and (words.requests, words.steps, words.streams) == (None, None, None):
         reader.error("late needs --requests, --steps or --streams")
+    if words.form == "late" and words.plan is not None and None in (words.steps, words.kbits):
+        reader.error("--plan needs --steps and --kbits")
     if words.form == "late" and words.bounds is not None and None in (words.requests, words.system):
         reader.error("--bounds needs --requests and --system")
     if words.form == "late" and words.bounds is None and words.system is not None:
@@ -211,25 +233,21 @@ def note(text):
     sys.stderr.write(f"fttlog: {text}\n")
 
 
-def turn(words, lines, put):
-    """Turns the lines of a log, or of a recording, into what the words ask for. Whether something was found that the
-    status has to tell."""
-    names = rows.Names(getattr(words, "names", None))
+def turn(words, put):
+    """Turns a log, or a recording, into what the words ask for. Whether something was found that the status has to
+    tell."""
     if words.form in RECORDINGS:
         recording.look_at(words.log)
-    if words.form == "conform":
-        return conform.conform(lines, words, put, note)
-    if words.form == "from-candump":
-        own = []
-        if words.calls is not None:
-            with open(words.calls, encoding="ascii", errors="replace") as log:
-                own = list(rows.rows_of(log))
-        return bus.from_candump(lines, words, own, put, note)
-    read = rows.rows_of(lines)
-    if words.form not in WHOLE:
-        read = (row for row in read if row[0] not in REPORT)
+        return conform.conform(words, put, note) if words.form == "conform" else bus.from_candump(words, put, note)
+    names = rows.Names(getattr(words, "names", None))
+    is_once = words.form not in TWICE and (words.form != "say" or words.steps is None)
+    return turned(words, reading.Again(words.log, words.form in WHOLE, is_once), names, put)
+
+
+def turned(words, read, names, put):
+    """Turns the rows of a log into what the words ask for."""
     if words.form == "say":
-        return sentences.say(read, names, words.steps, words.kbits, words.all, put)
+        return sentences.say(read, names, words, put)
     if words.form == "json":
         return sentences.as_json(read, names, put)
     if words.form == "accepted":
@@ -247,18 +265,20 @@ def main():
     """Reads the words, and does what they ask."""
     words, is_found = read_words(), False
     try:
-        with (sys.stdin if words.log == "-" else open(words.log, encoding="ascii")) as log:
-            is_found = turn(words, log, sys.stdout.write)
+        if words.form == TRAFFIC:
+            from . import traffic  # pylint: disable=import-outside-toplevel
+            traffic.traffic(words, sys.stdout.write, note)
+            sys.stdout.flush()
+            return
+        is_found = turn(words, sys.stdout.write)
         sys.stdout.flush()
     except BrokenPipeError:
         sys.stdout = None
     except OSError as fault:
         sys.exit(f"fttlog: {fault.filename or 'standard output'}: {fault.strerror}")
-    except UnicodeDecodeError:
-        name = "standard input" if words.log == "-" else words.log
-        sys.exit(f"fttlog: {name}: this is no text of a log. `python3 -m can.logconvert FILE OUT.log` of python-can "
-                 "turns recordings in other forms, such as .blf")
     except rows.NoLog as fault:
         sys.exit(f"fttlog: {fault}")
+    except KeyboardInterrupt:
+        sys.exit(stop("fttlog"))
     if is_found is True:
         sys.exit(1)

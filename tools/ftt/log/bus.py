@@ -1,5 +1,4 @@
 """The bits of a bus, and recordings of candump: a log as one, and one as a log."""
-import collections
 import fractions
 import struct
 
@@ -7,29 +6,41 @@ from ..frames import INTERMISSION, wire_of
 from ..limits import FEW_SLOTS, TRIGGERS
 from ..masks import mask_of
 from ..telling import some
-from .recording import back_by, from_trigger, recorded
-from .rows import NoLog
+from .reading import lines_of, opened_file
+from .recording import Recording, back_by, parts_of, tell_left
+from .rows import NoLog, rows_of
 from .snap import Snapped
 
 MICROS = 1_000_000
+# So many bits of an idle bus are put at once.
+IDLE = 1 << 16
 
 
 def bits(rows, until, put):
     """The bits of the bus as text, one for each bit time: 0 is dominant and 1 recessive."""
-    line = []
+    free = 0
     for word, fields, place in rows:
         if word != "frame":
             continue
         start, length, wire = int(fields[0]), int(fields[1]), wire_of(int(fields[2], 16), bytes.fromhex(fields[3]))
         if length != len(wire):
             raise NoLog(f"row {place}: the wire of this frame has {len(wire)} bits")
-        if start < len(line):
-            raise NoLog(f"row {place}: the bus is busy until {len(line)}")
-        line += [1] * (start - len(line)) + wire
-    if until is not None and until < len(line):
-        raise NoLog(f"the last frame ends at {len(line)}")
-    line += [1] * ((until or 0) - len(line))
-    put("".join(map(str, line)) + "\n")
+        if start < free:
+            raise NoLog(f"row {place}: the bus is busy until {free}")
+        if until is not None and start + length > until:
+            raise NoLog(f"row {place}: its frame ends at {start + length}")
+        put_ones(start - free, put)
+        put("".join(map(str, wire)))
+        free = start + length
+    put_ones((until or 0) - free, put)
+    put("\n")
+
+
+def put_ones(many, put):
+    """So many recessive bits."""
+    for _ in range(many // IDLE):
+        put("1" * IDLE)
+    put("1" * max(0, many % IDLE if many > 0 else 0))
 
 
 def micros_of(fields, kbits, at_second, has_ends):
@@ -60,23 +71,39 @@ def pcap(rows, kbits, at_second, has_ends, put):
             put(struct.pack("<IIII", micros // MICROS, micros % MICROS, len(packet), len(packet)) + packet)
 
 
-def starts_of(frames, kbits, has_starts, note):
-    """The start of each frame, in bit times since the start of the first one. A frame that starts a bit time before the
-    one in front of it has ended is put after that one, since times are rounded. One that starts earlier is refused."""
-    starts, moved, free = [], 0, 0
-    for frame in frames:
-        time = frame.nanos * kbits / MICROS - (0 if has_starts else frame.length - INTERMISSION)
-        first = time if not starts else first
-        start = round(time - first)
-        if start < free - 1:
-            why = overlap(frame, start, frames[len(starts) - 1], free, kbits, has_starts)
-            raise NoLog(f"line {frame.line}: {why}")
-        moved += start < free
-        starts.append(max(start, free))
-        free = starts[-1] + frame.length
-    if moved:
-        note(f"{some(moved, 'frame')} would start a bit time before the previous one has ended: moved to its end")
-    return starts
+class Starts:
+    """The starts of frames, in bit times since that of the first one. A frame that starts a bit time before the one in
+    front of it has ended is put after that one, since times are rounded. One that starts earlier is refused."""
+
+    def __init__(self, words):
+        self.words, self.first, self.free, self.moved, self.before = words, None, 0, 0, None
+        # A bit time in nanoseconds is the divisor over the factor.
+        self.factor, self.divisor = words.kbits.numerator, words.kbits.denominator * MICROS
+
+    def take(self, frames):
+        """Those of some frames more."""
+        factor, divisor, has_starts, free, starts = self.factor, self.divisor, self.words.starts, self.free, []
+        for frame in frames:
+            time = frame.nanos * factor - (0 if has_starts else (frame.length - INTERMISSION) * divisor)
+            if self.first is None:
+                self.first = time
+            # Rounded, and halves to the even number.
+            start, rest = divmod(2 * (time - self.first) + divisor, 2 * divisor)
+            start -= rest == 0 and start % 2
+            if start < free - 1:
+                before = starts and frames[len(starts) - 1] or self.before
+                raise NoLog(f"line {frame.line}: {overlap(frame, start, before, free, self.words.kbits, has_starts)}")
+            if start < free:
+                self.moved, start = self.moved + 1, free
+            starts.append(start)
+            free = start + frame.length
+        self.free, self.before = free, frames[-1]
+        return starts
+
+    def tell(self, note):
+        """Says how many frames were moved."""
+        if self.moved:
+            note(f"{some(self.moved, 'frame')} would start a bit time before the previous one has ended: moved to its end")
 
 
 def overlap(frame, start, before, free, kbits, has_starts):
@@ -88,16 +115,17 @@ def overlap(frame, start, before, free, kbits, has_starts):
             f"sends two at once. Is {float(kbits):g} kbit/s the right rate? Are the times {times}")
 
 
-def cycles_in(frames, starts):
-    """The frames by cycles: the number of each, its mask and window, and its frames with their starts."""
+def cycles_in(frames, starts, last=None):
+    """The frames by cycles: the number of each, its mask and window, and its frames with their starts. The cycle in front
+    of these has the last number."""
     cycles = []
     for frame, start in zip(frames, starts):
         if frame.identifier == TRIGGERS[0]:
             if len(frame.data) != 8:
                 raise NoLog(f"line {frame.line}: a trigger has eight bytes")
             byte = frame.data[0]
-            number = byte if not cycles else cycles[-1][0] + 1 + (byte - cycles[-1][0] - 1) % 256
-            cycles.append([number, int.from_bytes(frame.data[3:], "little"), int.from_bytes(frame.data[1:3], "big"),
+            last = byte if last is None else last + 1 + (byte - last - 1) % 256
+            cycles.append([last, int.from_bytes(frame.data[3:], "little"), int.from_bytes(frame.data[1:3], "big"),
                            [(frame, start)]])
             continue
         behind = cycles[-1][3]
@@ -107,61 +135,79 @@ def cycles_in(frames, starts):
     return cycles
 
 
-def calls_of(rows):
+def calls_of(path):
     """The rows of a log that no recording shows: verdicts, plans and looks, each with the cycle that is next there."""
-    calls, following = collections.deque(), 0
-    for word, fields, _ in rows:
-        if word == "open":
-            following = int(fields[0]) + 1
-        elif word in ("submit", "plan", "look"):
-            calls.append((following, ",".join((word, *fields)) + "\n"))
-    return calls
+    if path is None:
+        return
+    following = 0
+    with opened_file(path) as file:
+        for word, fields, _ in rows_of(lines_of(file, path)):
+            if word == "open":
+                following = int(fields[0]) + 1
+            elif word in ("submit", "plan", "look"):
+                yield following, ",".join((word, *fields)) + "\n"
 
 
-def length_in(cycles, given, note):
-    """The length of a cycle in bit times: the one that is given, or else the distance of the triggers. Says where the
-    two differ."""
-    triggers = [(number, sent[0][1]) for number, _, _, sent in cycles]
-    if len(triggers) < 2 and given is None:
-        raise NoLog("the recording has fewer than two triggers: give the length of a cycle with --cycle")
-    if given is None:
-        length = round(fractions.Fraction(triggers[-1][1], triggers[-1][0] - triggers[0][0]))
-        note(f"cycles of {length} bit times, by the distance of the triggers")
-        return length
-    off = [(cycle[3][0][0].line, number - before, later - start)
-           for (before, start), (number, later), cycle in zip(triggers, triggers[1:], cycles[1:])
-           if abs(later - start - given * (number - before)) > 1]
-    if off:
-        line, many, distance = off[0]
-        note(f"--cycle is {given}, and {len(off)} of {len(triggers) - 1} triggers come at another time: the first in "
-             f"line {line}, {distance} bit times and {some(many, 'cycle')} after the one before. Are the rate and "
-             "--cycle right?")
-    return given
+class Distance:
+    """The length of a cycle in bit times: the one that is given, or else the distance of the first triggers. Where the two
+    differ is told at the end."""
+
+    def __init__(self, given):
+        self.given, self.length, self.last = given, given, None
+        self.off, self.many, self.first = 0, 0, None
+
+    def take(self, cycles, note):
+        """Some cycles more."""
+        triggers = [(number, sent[0][1], sent[0][0].line) for number, _, _, sent in cycles]
+        if self.length is None:
+            if len(triggers) < 2:
+                raise NoLog("the recording has fewer than two triggers: give the length of a cycle with --cycle")
+            self.length = round(fractions.Fraction(triggers[-1][1] - triggers[0][1], triggers[-1][0] - triggers[0][0]))
+            note(f"cycles of {self.length} bit times, by the distance of the triggers")
+        if self.given is not None:
+            if self.last is not None:
+                triggers.insert(0, self.last)
+            for (before, start, _), (number, later, line) in zip(triggers, triggers[1:]):
+                self.many += 1
+                if abs(later - start - self.given * (number - before)) > 1:
+                    self.off += 1
+                    self.first = self.first or (line, number - before, later - start)
+        self.last = triggers[-1]
+
+    def tell(self, note):
+        """Says where triggers come at another time than the one that is given."""
+        if self.off:
+            line, many, distance = self.first
+            note(f"--cycle is {self.given}, and {self.off} of {self.many} triggers come at another time: the first in "
+                 f"line {line}, {distance} bit times and {some(many, 'cycle')} after the one before. Are the rate and "
+                 "--cycle right?")
 
 
-def from_candump(lines, words, rows, put, note):
-    """A recording of a bus of this profile as rows of a log. A cycle is opened where its trigger stands. The calls of
-    some rows, which no recording shows, are put in front of the cycle that was next when they were answered."""
-    frames = from_trigger(recorded(lines, words.interface, words.strict), note)
-    if words.snap is None:
-        cycles = cycles_in(frames, starts_of(frames, words.kbits, words.starts, note))
-        length = length_in(cycles, words.cycle, note)
-    else:
-        exact = Snapped(frames, words, rows)
-        exact.tell(note)
-        if words.moved is not None:
-            exact.write(words.moved)
-        cycles, length = cycles_in(frames, exact.starts), exact.length
-    first = cycles[0][0] * length
-    if first:
-        note(f"the first trigger is that of cycle {cycles[0][0]}: what was before it is not in the recording")
-    calls = calls_of(rows)
-    for number, mask, width, sent in cycles:
-        while calls and calls[0][0] <= number:
-            put(calls.popleft()[1])
-        put(f"open,{number},{mask_of(mask)},{width}\n")
-        for frame, start in sent:
-            put(f"frame,{first + start},{frame.length},{frame.identifier:03x},{frame.data.hex()}\n")
-    for _, row in calls:
+def from_candump(words, put, note):
+    """A recording of a bus of this profile as rows of a log. A cycle is opened where its trigger stands. The calls of a
+    log, which no recording shows, are put in front of the cycle that was next when they were answered."""
+    found, calls, distance = Recording(words.log, words), calls_of(words.calls), Distance(words.cycle)
+    starts = Starts(words) if words.snap is None else Snapped(words)
+    call, number, first, early = next(calls, None), None, 0, 0
+    for part in parts_of(found):
+        cycles, early = cycles_in(part.frames, starts.take(part.frames), number), part.early
+        if words.snap is None:
+            distance.take(cycles, note)
+        if number is None and cycles[0][0]:
+            first = cycles[0][0] * (distance.length if words.snap is None else starts.length)
+            note(f"the first trigger is that of cycle {cycles[0][0]}: what was before it is not in the recording")
+        texts = []
+        for number, mask, width, sent in cycles:
+            while call is not None and call[0] <= number:
+                texts.append(call[1])
+                call = next(calls, None)
+            texts.append(f"open,{number},{mask_of(mask)},{width}\n")
+            texts += [f"frame,{first + start},{length},{identifier:03x},{data.hex()}\n"
+                      for (_, identifier, length, data, _), start in sent]
+        put("".join(texts))
+    for _, row in calls if call is None else [call, *calls]:
         put(row)
-    put(f"end,{cycles[-1][0] + 1}\n")
+    put(f"end,{number + 1}\n")
+    tell_left(found, early, note)
+    starts.tell(note)
+    distance.tell(note)

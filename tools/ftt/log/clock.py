@@ -1,5 +1,6 @@
 """The clock of a recorder against that of the bus: which trigger is that of which cycle, and one line through all."""
 import collections
+import operator
 import statistics
 
 from ..frames import INTERMISSION
@@ -14,11 +15,12 @@ NEAR = 0.75
 PPM = 200
 
 
-def starts_in(frames, kbits, has_starts):
-    """The start of each frame in microseconds since the first frame's, as the recorder's clock has it."""
+def starts_in(frames, kbits, has_starts, origin=None):
+    """The start of each frame in microseconds since the end, or the start, of the first one of the recording, as the
+    recorder's clock has it. Its nanoseconds are the origin; without one, those of the first frame."""
     if not frames:
         return []
-    bit, first = 1000 / float(kbits), frames[0].nanos
+    bit, first = 1000 / float(kbits), frames[0].nanos if origin is None else origin
     if has_starts:
         return [(frame.nanos - first) / 1000 for frame in frames]
     return [(frame.nanos - first) / 1000 - (frame.length - INTERMISSION) * bit for frame in frames]
@@ -26,9 +28,11 @@ def starts_in(frames, kbits, has_starts):
 
 def in_order(frames, tolerance):
     """Refuses a recording whose times go back by more than noise does."""
-    for before, frame in zip(frames, frames[1:]):
-        if frame.nanos < before.nanos - tolerance * 1000:
-            raise NoLog(f"line {frame.line}: {back_by(before, frame)}")
+    nanos = [frame.nanos for frame in frames]
+    steps = list(map(operator.sub, nanos[1:], nanos))
+    if steps and min(steps) < -tolerance * 1000:
+        place = next(place for place, step in enumerate(steps, 1) if step < -tolerance * 1000)
+        raise NoLog(f"line {frames[place].line}: {back_by(frames[place - 1], frames[place])}")
 
 
 def triggers_in(frames):
@@ -51,17 +55,18 @@ def cycle_by(frames, starts, kbits):
     return length
 
 
-def numbers_of(frames, starts, cycle):
-    """The cycle of each trigger, counted from the first one, by its time; cycle is in microseconds. Byte 0 helps, as
-    far as it goes with the time: a trigger that is late by half a cycle is told from a missing one."""
-    numbers, before = [], None
+def numbers_of(frames, starts, cycle, before=None):
+    """The cycle of each trigger, counted from the first one of the recording, by its time; cycle is in microseconds. Byte
+    0 helps, as far as it goes with the time: a trigger that is late by half a cycle is told from a missing one. The trigger
+    in front of these is given by its number, start and byte, and the last one of them is given back so."""
+    numbers = []
     for place in triggers_in(frames):
         byte = frames[place].data[0] if frames[place].data else None
         if before is None:
             numbers.append(0)
         else:
-            last, its = before
-            ahead = (starts[place] - starts[last]) / cycle
+            number, last, its = before
+            ahead = (starts[place] - last) / cycle
             further = max(0, round(ahead))
             if byte is not None and its is not None:
                 ahead_by_byte = (byte - its) % 256
@@ -69,15 +74,19 @@ def numbers_of(frames, starts, cycle):
                 # After a long pause the clock may be off by more.
                 if abs(ahead_by_byte - ahead) < NEAR + ahead * PPM / 1e6:
                     further = ahead_by_byte
-            numbers.append(numbers[-1] + further)
-        before = place, byte
-    return numbers
+            numbers.append(number + further)
+        before = numbers[-1], starts[place], byte
+    return numbers, before
 
 
-def residue_of(frames, numbers):
-    """The cycle of the first trigger modulo 256, as most triggers have it in byte 0."""
-    votes = collections.Counter((frames[place].data[0] - number) % 256
-                                for place, number in zip(triggers_in(frames), numbers) if frames[place].data)
+def votes_of(frames, numbers):
+    """The cycle of the first trigger modulo 256, as each trigger has it in byte 0: how often."""
+    return collections.Counter((frames[place].data[0] - number) % 256
+                               for place, number in zip(triggers_in(frames), numbers) if frames[place].data)
+
+
+def residue_of(votes):
+    """The one that most triggers have."""
     return votes.most_common(1)[0][0] if votes else 0
 
 

@@ -34,6 +34,8 @@ class Compared:
             self.due = {FIRST_SLOT + slot: None for slot in slots_of(f"{own.mask:x}")}
         self.order, self.next, self.passed = sorted(self.due), 0, {}
         self.seen, self.window = set(), None
+        # What the window may still be late by, in microseconds, and the trigger.
+        self.spare, self.spare_of_trigger = whole.reserve * whole.bit, whole.turnaround * whole.bit
         self.end_of_due = self.last_due() if is_last else float("inf")
 
     def last_due(self):
@@ -64,7 +66,7 @@ class Compared:
         """Takes the window, by the run's width and that of the trigger, from these starts of the cycle."""
         widths = {width for width in (self.own.width, self.told[1] if self.told else None) if width is not None}
         bit = self.whole.bit
-        self.window = Window(begins, self.whole.cycle, [width * bit for width in widths or {0}])
+        self.window = Window(begins, self.whole.cycle, [(width + self.whole.reserve) * bit for width in widths or {0}])
 
     def placed(self, place, frame, low, high):
         """How far a frame starts before or after where it is due, in microseconds; 0 within the tolerance. The bus is
@@ -76,7 +78,7 @@ class Compared:
             high = whole.foreign_until
         off = start - high if start > high else start - low if start < low else 0.0
         if abs(off) <= whole.tolerance:
-            whole.offs.append(abs(off))
+            whole.offs[int(abs(off) * 10 + 0.5)] += 1
             whole.chain = start - off + lasts
             return 0.0
         whole.chain = max(whole.chain, start + lasts)
@@ -88,7 +90,12 @@ class Compared:
         whole = self.whole
         if whole.times[place] >= whole.chain - whole.tolerance:
             whole.chain = whole.times[place] + frame.length * whole.bit
-        self.add("doubled", frame.identifier, line=frame.line, seen=self.counts[frame.identifier])
+        # On a disturbed bus a frame comes again with the same data where its sender alone saw an error.
+        is_copy = any(it.identifier == frame.identifier and it.data == frame.data for it in self.frames if it is not frame)
+        if whole.is_disturbed and is_copy:
+            whole.twice += 1
+        else:
+            self.add("doubled", frame.identifier, line=frame.line, seen=self.counts[frame.identifier])
 
     def off(self, off, frame):
         """A frame that is late or early."""
@@ -101,7 +108,7 @@ class Compared:
             self.again(place, frame)
             return
         was_free = self.whole.chain
-        self.off(self.placed(place, frame, self.begin, self.begin), frame)
+        self.off(self.placed(place, frame, self.begin, self.begin + self.spare_of_trigger), frame)
         start = self.whole.times[place]
         if abs(start - self.begin) > self.whole.tolerance or was_free > self.begin + self.whole.tolerance:
             self.opened([self.begin, start])
@@ -110,7 +117,8 @@ class Compared:
             return
         self.cycle_of(frame)
         if self.own.width not in (self.told[1], None):
-            self.add("window", TRIGGERS[0], line=frame.line, own=self.own.width, seen=self.told[1])
+            self.add("window", TRIGGERS[0], line=frame.line, own=self.own.width + self.whole.reserve,
+                     seen=self.told[1] + self.whole.reserve)
         self.flags(frame, (1 << FEW_SLOTS) - 1)
 
     def second(self, place, frame):
@@ -119,7 +127,7 @@ class Compared:
             self.again(place, frame)
             return
         lost = 0 if TRIGGERS[0] in self.seen else worst(LENGTH) * self.whole.bit
-        self.off(self.placed(place, frame, self.begin, self.begin + lost), frame)
+        self.off(self.placed(place, frame, self.begin, self.begin + lost + self.spare_of_trigger), frame)
         if len(frame.data) != 8:
             self.add("length", TRIGGERS[1], line=frame.line, own=8, seen=len(frame.data))
         else:
@@ -153,7 +161,8 @@ class Compared:
             return
         if identifier not in self.due and not self.is_flagged(identifier):
             self.add("stray", identifier, line=frame.line)
-        self.whole.lines[self.number + self.whole.begin, identifier] = frame.line
+        if identifier in self.whole.run.polled:
+            self.whole.asks.lines[self.number + self.whole.begin, identifier] = frame.line
         off = self.turn(place, frame)
         behind = self.whole.times[place] + (frame.length - INTERMISSION) * self.whole.bit - self.window.shut
         if behind > self.whole.tolerance:
@@ -167,7 +176,7 @@ class Compared:
         is late from there on. Where a slot in front is missing, it may have been sent all the same."""
         if self.next < len(self.order) and self.order[self.next] == frame.identifier and not self.passed:
             self.next += 1
-            return self.placed(place, frame, self.window.low, self.window.high)
+            return self.within_spare(place, frame, self.window.high)
         lost = 0.0
         while self.next < len(self.order) and self.order[self.next] < frame.identifier:
             ahead = self.order[self.next]
@@ -176,9 +185,16 @@ class Compared:
                 self.passed[ahead] = max(self.whole.chain, self.window.high)
                 if not self.counts[ahead]:
                     lost += self.lasts(ahead)
-        off = self.placed(place, frame, self.window.low, max(self.whole.chain, self.window.high) + lost)
+        off = self.within_spare(place, frame, max(self.whole.chain, self.window.high) + lost)
         if frame.identifier in self.passed:
             return max(off, self.whole.times[place] - self.passed[frame.identifier])
+        return off
+
+    def within_spare(self, place, frame, high):
+        """How far the frame of a slot is off, which may be late by what is left of the reserve."""
+        due = max(high, self.whole.chain)
+        off = self.placed(place, frame, self.window.low, due + self.spare)
+        self.spare = min(self.spare, max(0.0, self.spare - (self.whole.times[place] - due)))
         return off
 
     def lasts(self, identifier):

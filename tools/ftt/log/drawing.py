@@ -5,15 +5,21 @@ import xml.sax.saxutils as xml
 
 from ..limits import TRIGGERS
 from ..masks import slots_of
-from ..telling import listed, some
-from .rows import NoLog, REPORT, duration, is_slot, length_of, millis, opened
-from .words import reported_told, verdict_told
+from ..telling import listed
+from .rows import NoLog, REPORT, Summary, cycles_of, duration, is_slot, millis, opened
+from .steps import Asked, answered
+from .words import operation_told, reported_told, verdict_told
+
+# The row above a plan that is folded.
+PLAN_ABOVE = "    The plan that was looked at and refused: click here to see it, or press p for all."
 
 # Width of a letter of the font in parts of its size: wider than most.
 LETTER = 0.62
 LEFT, WIDE, RIGHT, HIGH, GAP, TOP = 90, 1000, 70, 34, 30, 44
-# At most so many bars of a histogram, none wider than this, and the histogram's sizes.
-BARS, BAR_WIDE, BARS_WIDE, BARS_HIGH, BARS_GAP = 40, 60, 800, 80, 44
+# A name that is cut to its room keeps so many letters at least.
+CUT = 2
+# The most frames of a page: one of so many has some 25 MB.
+MOST_FRAMES = 500_000
 COLOURS = (("trigger", "#9bf"), ("asynchronous frame", "#fb7"), ("synchronous frame", "#9d9"),
            ("synchronous window", "#ddd"))
 HEAD = ('<svg xmlns="http://www.w3.org/2000/svg" width="{0}" height="{1}" viewBox="0 0 {0} {1}" '
@@ -52,9 +58,15 @@ def legend(text):
 
 
 def frame_label(identifier, names, room):
-    """The longest of name and identifier that has room, or None."""
-    texts = [text for text in (names.own(identifier), f"{identifier:03x}") if text]
-    return next((text for text in texts if width_of(text) <= room), None)
+    """The name that has room, cut where it is too long; without a name the identifier. None where nothing has room."""
+    own = names.own(identifier)
+    if own is None:
+        text = f"{identifier:03x}"
+        return text if width_of(text) <= room else None
+    if width_of(own) <= room:
+        return own
+    kept = int(room // width_of("x")) - 2
+    return f"{own[:kept]}.." if kept >= CUT else None
 
 
 def drawn_cycle(cycle, y, length, names, kbits):
@@ -81,9 +93,8 @@ def drawn_cycle(cycle, y, length, names, kbits):
 def svg(rows, words, names, put):
     """The cycles from first to last, one under the other. A row is a cycle; its frames stand where they are on the
     bus. A label that has no room is left out; the titles of the frames say all."""
-    cycles = opened(rows)
-    length = words.cycle or length_of(cycles)
-    chosen = [it for it in cycles if words.first <= it[0] <= words.last]
+    length = words.cycle or Summary(rows).length()
+    chosen = opened(row for row, is_told in cycles_of(rows, words.first, words.last) if is_told)
     if not chosen:
         raise NoLog(f"no cycle from {words.first} to {words.last} was opened")
     put(HEAD.format(LEFT + WIDE + RIGHT, TOP + len(chosen) * (HIGH + GAP) + 6))
@@ -95,79 +106,54 @@ def svg(rows, words, names, put):
     put("</svg>\n")
 
 
-def drawn_histogram(y, name, values, shown, what):
-    """A histogram: the name of its frames, their values, how a value is shown, and what a value is."""
-    most = max(values, default=0)
-    step = max(1, -(-(most + 1) // BARS))
-    counts = [0] * (most // step + 1)
-    for value in values:
-        counts[max(0, value) // step] += 1
-    each = min(BARS_WIDE / len(counts), BAR_WIDE)
-    told = label(LEFT, y - 6, f"{name}: {some(len(values), 'frame')}, {what}")
-    told += f'<rect x="{LEFT}" y="{y}" width="{BARS_WIDE}" height="{BARS_HIGH}" fill="none" stroke="#888"/>\n'
-    for at, text in ((y + 8, some(max(counts), "frame")), (y + BARS_HIGH, "0")):
-        told += label(LEFT - 6 - width_of(text), at, text)
-    for place, count in enumerate(counts):
-        if count:
-            tall = count * BARS_HIGH / max(counts)
-            low, top = shown(place * step), shown(min(most, place * step + step - 1))
-            title = f"{low}: {count}" if low == top else f"{low} to {top}: {count}"
-            told += box(LEFT + place * each, y + BARS_HIGH - tall, each, tall, "#9d9", title)
-    # a bar of one value has its number below its middle, and one of several values has its least below its left end
-    free, last = 0, LEFT + (most / step + (step == 1) / 2) * each - width_of(shown(most), 8) / 2
-    for place in range(len(counts)):
-        text = shown(place * step)
-        x = LEFT + (place + (step == 1) / 2) * each - width_of(text, 8) / 2
-        if x >= free and x + width_of(text, 8) + 6 < last:
-            told += label(x, y + BARS_HIGH + 11, text, 8)
-            free = x + width_of(text, 8) + 14
-    return told + label(last, y + BARS_HIGH + 11, shown(most), 8)
-
-
-def histogram(pictures, put):
-    """Histograms, one under the other, each of a name, values, how a value is shown, and what a value is."""
-    put(HEAD.format(LEFT + BARS_WIDE + RIGHT, 24 + len(pictures) * (BARS_HIGH + BARS_GAP)))
-    put("<title>Histograms</title>\n")
-    for row, picture in enumerate(pictures):
-        put(drawn_histogram(30 + row * (BARS_HIGH + BARS_GAP), *picture))
-    put("</svg>\n")
-
-
-def told_call(word, fields, names):
-    """A call and its answer, as a sentence."""
+def told_call(word, fields, names, asked, place):
+    """A call and its answer, as a sentence; what it asked for stands in it, where the steps are known."""
+    act = None if asked is None else asked.next(word, int(fields[0]), place)
     if word == "look":
         return f"Operator {fields[0]} looked: the next cycle is {fields[1]}."
     operator, origin, verdict, rest = fields
-    return f"Operator {operator}, before cycle {origin}. {verdict_told(origin, verdict, rest.split(','), names)}"
+    what = "" if act is None else (f", line {act.line}, START {act.start}: "
+                                   f"{'; '.join(operation_told(it, names) for it in act.operations)}")
+    return f"Operator {operator}, before cycle {origin}{what}. {verdict_told(origin, verdict, rest.split(','), names)}"
 
 
-def page_rows(rows, names):
+def page_rows(rows, names, asked=None):
     """The rows of the page: texts for calls and for rows of the report, and for cycles their number, window and
-    frames."""
-    told = []
-    for word, fields, _ in rows:
+    frames. And the plans of refused changes, which are folded: by the place of the row above each, how many rows it has."""
+    told, folds, above = [], {}, None
+    for word, fields, place in rows:
+        if word == "plan" and above is None:
+            told.append(PLAN_ABOVE)
+            above = len(told) - 1
+            folds[above] = 0
+        elif word != "plan":
+            above = None
         if word in ("submit", "look"):
-            told.append(told_call(word, fields, names))
+            told.append(told_call(word, fields, names, asked, place))
         elif word == "plan":
             went = listed([names.of_slot(slot) for slot in slots_of(fields[1])])
             told.append(f"    would send in cycle {fields[0]}: {went}")
+            folds[above] += 1
         elif word == "open":
             told.append([int(fields[0]), int(fields[2]), []])
         elif word == "frame" and told and isinstance(told[-1], list):
             told[-1][2].append([int(fields[0]), int(fields[1]), int(fields[2], 16), fields[3]])
         elif word in REPORT:
             told.append(reported_told(word, fields, names))
-    return told
+    return told, folds
 
 
 def html(rows, words, names, put):
     """One page of HTML that shows all of the log, needs no other file, and asks nobody for anything."""
-    rows = list(rows)
-    cycles = opened(rows)
-    length = words.cycle or (length_of(cycles) if cycles else None)
-    told = page_rows(rows, names)
+    summary = Summary(rows)
+    if summary.frames > MOST_FRAMES:
+        raise NoLog(f"the log has {summary.frames} frames, and a page at most {MOST_FRAMES}: no browser would show more. `svg` "
+                    "draws some cycles, and `say --from --to` tells of them")
+    length = words.cycle or (summary.length() if summary.many else None)
+    asked = None if words.steps is None else answered(rows, words.steps) and Asked(words.steps)
+    told, folds = page_rows(rows, names, asked)
     called = {frame[2]: names.of(frame[2]) for row in told if isinstance(row, list) for frame in row[2]}
-    data = {"length": length, "kbits": None if words.kbits is None else float(words.kbits), "rows": told,
+    data = {"length": length, "kbits": None if words.kbits is None else float(words.kbits), "rows": told, "folds": folds,
             "names": called, "own": {key: names.own(key) for key in called if names.own(key)},
             "kinds": [kind for kind, _ in COLOURS], "colours": [fill for _, fill in COLOURS]}
     page = (importlib.resources.files(__package__) / "page.html").read_text(encoding="utf-8")

@@ -1,7 +1,10 @@
 """What is wrong with a recording: findings as sentences, as rows and as JSON."""
+import collections
 import csv
 import io
 import json
+import pickle
+import tempfile
 
 from ..limits import TRIGGERS
 from ..masks import slots_of
@@ -9,6 +12,8 @@ from ..telling import listed
 
 KINDS = ("missing", "doubled", "late", "early", "past", "inside", "cycle", "flags", "window", "payload", "length",
          "stray", "order", "clock", "place")
+# So many findings are kept in memory.
+KEPT = 2_000
 COLUMNS = ("cycle", "kind", "frame", "name", "line", "by_us", "own", "seen", "sentence")
 
 # What is said of a kind; of flags it is worked out, and of a clock and a place it stands in the finding.
@@ -36,6 +41,10 @@ class Finding:
     def __init__(self, cycle, kind, frame, line=None, by=None, own=None, seen=None, what=None):
         self.cycle, self.kind, self.frame, self.line, self.by = cycle, kind, frame, line, by
         self.own, self.seen, self.what = own, seen, what
+
+    def fields(self):
+        """All of it."""
+        return tuple(getattr(self, name) for name in self.__slots__)
 
     def said(self, names, run):
         """It as a sentence."""
@@ -81,16 +90,58 @@ def ordered(findings):
                                             it.line if it.line is not None else float("inf"), it.frame or 0))
 
 
-def as_csv(findings, names, run):
-    """Findings as CSV, with a header row."""
+class Found:
+    """Findings in their order, any number of them: the first ones are kept here, and the others in a file without a
+    name."""
+
+    def __init__(self):
+        self.kept, self.many, self.kinds, self.file = [], 0, collections.Counter(), None
+
+    def add(self, finding):
+        """A finding more."""
+        self.many += 1
+        self.kinds[finding.kind] += 1
+        if self.many <= KEPT:
+            self.kept.append(finding)
+            return
+        if self.file is None:
+            self.file = tempfile.TemporaryFile()
+        pickle.dump(finding.fields(), self.file)
+
+    def take(self, findings):
+        """Some findings, brought into their order."""
+        for it in ordered(findings):
+            self.add(it)
+
+    def first(self, many=None):
+        """The first findings, or all."""
+        for place, it in enumerate(self.kept):
+            if many is not None and place >= many:
+                return
+            yield it
+        if self.file is not None:
+            self.file.seek(0)
+            for _ in range(self.many - len(self.kept) if many is None else min(many, self.many) - len(self.kept)):
+                yield Finding(*pickle.load(self.file))
+
+
+def write_csv(findings, names, run, put):
+    """Writes findings as CSV, with a header row."""
     text = io.StringIO()
     out = csv.DictWriter(text, COLUMNS, lineterminator="\n")
     out.writeheader()
-    out.writerows(it.row(names, run) for it in findings)
-    return text.getvalue()
+    for it in findings.first():
+        out.writerow(it.row(names, run))
+        put(text.getvalue())
+        text.seek(0)
+        text.truncate()
+    put(text.getvalue())
 
 
-def as_json(findings, facts, names, run):
-    """The facts of a comparison, and its findings, as one JSON object."""
-    told = dict(conforms=not findings, **facts, findings=[it.row(names, run) for it in findings])
-    return json.dumps(told, indent=1) + "\n"
+def write_json(findings, facts, names, run, put):
+    """Writes the facts of a comparison, and its findings, as one JSON object."""
+    head = json.dumps(dict(conforms=not findings.many, **facts, findings=[]), indent=1)
+    put(head.removesuffix("]\n}"))
+    for place, it in enumerate(findings.first()):
+        put(("," if place else "") + "\n  " + json.dumps(it.row(names, run), indent=1).replace("\n", "\n  "))
+    put(("\n ]" if findings.many else "]") + "\n}\n")

@@ -5,7 +5,7 @@ import tomllib
 from .. import bounds, declared, places
 from ..frames import TRIGGER
 from ..telling import listed, some
-from .rows import NoLog, duration, opened
+from .rows import NoLog, Summary, duration
 
 # So many requests that are later than their bound are told.
 SHOWN = 20
@@ -32,12 +32,11 @@ def layout_in(path):
 
 def look_at_layout(path, layout, rows, end):
     """Refuses a system that is not that of the log."""
-    cycles = opened(rows)
-    if cycles and len(cycles) * layout.cycle != end:
-        raise NoLog(f"{path}: its cycles have {layout.cycle} bit times, and those of the log {end // len(cycles)}")
-    widest = max((width for _, _, width, _ in cycles), default=0)
-    if widest > layout.window:
-        raise NoLog(f"{path}: its window has {layout.window} bit times, and the log has one of {widest}")
+    found = Summary(rows)
+    if found.many and found.many * layout.cycle != end:
+        raise NoLog(f"{path}: its cycles have {layout.cycle} bit times, and those of the log {end // found.many}")
+    if found.widest > layout.window:
+        raise NoLog(f"{path}: its window has {layout.window} bit times, and the log has one of {found.widest}")
 
 
 class Promised:

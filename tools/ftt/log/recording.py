@@ -1,11 +1,16 @@
 """Recordings of candump -L: their frames, what is left out of them, and files of other forms by name."""
+import collections
+import functools
 import re
+import shutil
 import sys
-import time
+import tempfile
 
 from ..lengths import length_of
 from ..limits import FIRST_ASYNC, FIRST_SLOT, LAST_ASYNC, LAST_SLOT, LENGTH, TRIGGERS
 from ..telling import listed, shown, some, why_no_text
+from .fast import LONG, OTHER as OTHER_LINE, reader
+from .reading import INPUT, Progress, blocks_of, opened_file, size_of, text_of
 from .rows import NoLog
 
 LINE = re.compile(r"\((\d+)\.(\d{1,9})\) +(\S+) +([0-9A-Fa-f]+)#(#[0-9A-Fa-f]+|R[0-9A-Fa-f]?|[0-9A-Fa-f]*)( +[RT])?")
@@ -17,7 +22,6 @@ ERROR = 1 << 29
 OTHER, WIDE, FD, REMOTE, ERRORS = KINDS = ("other 11-bit identifiers", "29-bit identifiers", "CAN FD", "remote frames",
                                            "error frames")
 
-INPUT = "standard input"
 CONVERT = "`python3 -m can.logconvert {0} OUT.log` of python-can turns it, where its name ends in {1}"
 SHARK = ("`tshark -r {0} -T fields -e frame.time_epoch -e can.id -e data.data --disable-protocol autosar-nm | awk "
          "-F'\\t' '{{ printf \"(%s) can0 %03X#%s\\n\", $1, $2, $3 }}' > OUT.log` turns it")
@@ -42,53 +46,173 @@ FORMS = (
 )
 
 
-class Recorded:
-    """A frame of a recording: the time in nanoseconds, the identifier, the data, its bits, and the line."""
-    __slots__ = ("nanos", "identifier", "data", "length", "line")
-
-    def __init__(self, nanos, identifier, data, line):
-        self.nanos, self.identifier, self.data, self.line = nanos, identifier, data, line
-        self.length = length_of(identifier, data)
-
-
-class Progress:
-    """How far a long call is, on a terminal alone: a line that moves."""
-
-    def __init__(self, what):
-        self.what, self.begun, self.told = what, time.monotonic(), None
-        self.is_terminal = sys.stderr.isatty()
-
-    def step(self, done):
-        """So much is done. Nothing is said in the first two seconds."""
-        now = time.monotonic()
-        if self.is_terminal and now - (self.told or self.begun + 1.8) >= 0.2:
-            self.told = now
-            sys.stderr.write(f"\rfttlog: {done} {self.what}, {now - self.begun:.0f} s so far  ")
-            sys.stderr.flush()
-
-    def end(self):
-        """Leaves the line that moves."""
-        if self.told:
-            sys.stderr.write("\n")
+# A frame of a recording: the time in nanoseconds, the identifier, the length on the bus, the data, and the line.
+Recorded = collections.namedtuple("Recorded", "nanos identifier length data line")
+make = functools.partial(tuple.__new__, Recorded)
 
 
 class Recording:
-    """The frames of one interface, and those that are left out: by kind how many, those of other interfaces, and of
-    each the nanoseconds and the place among the frames."""
+    """The frames of one interface, read block by block; and how many are left out: by kind, and those of other
+    interfaces."""
 
-    def __init__(self, interface):
-        self.interface, self.frames, self.others = interface, [], 0
-        self.left = dict.fromkeys(KINDS, 0)
-        self.busy = []
+    def __init__(self, path, words):
+        self.file, self.name = opened_file(path), INPUT if path == "-" else path
+        self.interface, self.is_strict, self.others = words.interface, words.strict, 0
+        self.left, self.seen, self.is_again = dict.fromkeys(KINDS, 0), 0, False
+        # What was read of standard input may be needed once more.
+        self.kept = None if self.file.seekable() else []
 
-    def leave(self, kind, nanos):
-        """Leaves a frame out."""
-        self.left[kind] += 1
-        self.busy.append((len(self.frames), nanos))
+    def again(self):
+        """Goes back to the beginning. Standard input is copied to a file without a name for that."""
+        if self.kept is not None:
+            copy = tempfile.TemporaryFile()
+            copy.writelines(self.kept)
+            shutil.copyfileobj(self.file, copy)
+            self.file, self.kept = copy, None
+        self.file.seek(0)
+        self.others, self.left, self.seen, self.is_again = 0, dict.fromkeys(KINDS, 0), 0, True
+
+    def rely(self):
+        """Keeps nothing for going back from here on."""
+        self.kept = None
+
+    def read(self, size):
+        """Some bytes."""
+        data = self.file.read(size)
+        if self.kept is not None:
+            self.kept.append(data)
+        return data
+
+    def blocks(self):
+        """The frames of the file, some at a time, and among them those that are left out: pairs of their place among the
+        frames and of their nanoseconds."""
+        size = size_of(self.file)
+        fast, progress = reader(size), Progress("frames read", size)
+        is_asked = fast is not None
+        for block, place, line in blocks_of(self, self.name):
+            frames, busy = [], []
+            if place >= LONG and not is_asked:
+                fast, is_asked = reader(place), True
+            self.interface = self.interface or interface_of(block)
+            if fast is None or self.interface is None:
+                self.plain(block, line, frames, busy)
+            else:
+                self.compiled(fast, block, line, frames, busy)
+            self.seen += len(frames)
+            progress.step(self.seen, place)
+            yield frames, busy
+        progress.end()
+
+    def plain(self, block, line, frames, busy):
+        """Takes the lines of a block."""
+        matched, keep = USUAL.fullmatch, frames.append
+        for place, text in enumerate(text_of(block, self.name, line).split("\n"), line):
+            match = matched(text)
+            if match is not None and match[3] == self.interface:
+                seconds, part, _, identifier, data = match.groups()
+                number = int(identifier, 16)
+                if number in OWN:
+                    data = bytes.fromhex(data)
+                    keep(make((int(seconds + part) * 1000, number, length_of(number, data), data, place)))
+                    continue
+            if text and not text.isspace():
+                self.take(text.strip(), place, frames, busy)
+
+    def compiled(self, fast, block, line, frames, busy):
+        """The same by the compiled readers, which leave lines of other forms."""
+        found, others = fast.recorded(block, line, self.interface)
+        if not others:
+            frames += map(make, found)
+            return
+        for it in found:
+            if it[1] != OTHER_LINE:
+                frames.append(make(it))
+            else:
+                text = block[it[0]:block.index(b"\n", it[0])]
+                self.take(text_of(text, self.name, it[4]).strip(), it[4], frames, busy)
+
+    def take(self, line, place, frames, busy):
+        """Takes a line of any form that candump -L has."""
+        match = LINE.fullmatch(line)
+        if match is None:
+            raise NoLog(f"line {place}: {shown(line, 60)} is no line of candump -L")
+        seconds, part, where, identifier, data, _ = match.groups()
+        self.interface = self.interface or where
+        if where != self.interface:
+            self.others += 1
+            return
+        nanos, kind = int(seconds + part.ljust(9, "0")), kind_of(identifier, data)
+        if kind is None and (len(data) % 2 or len(data) > 2 * LENGTH):
+            raise NoLog(f"line {place}: {shown(data)} is no data of 0 to 8 bytes")
+        if kind is None and int(identifier, 16) not in OWN:
+            kind = OTHER
+        if kind is None:
+            number, data = int(identifier, 16), bytes.fromhex(data)
+            frames.append(Recorded(nanos, number, length_of(number, data), data, place))
+        elif self.is_strict:
+            refuse(place, kind, identifier)
+        else:
+            self.left[kind] += 1
+            busy.append((len(frames), nanos))
 
     def said(self):
         """What is left out, as text; nothing where nothing is."""
         return listed([f"{many} of {kind}" for kind, many in self.left.items() if many], "")
+
+
+def interface_of(block):
+    """The interface of the first line of a block that is none of blanks; None where that is no line of candump -L."""
+    first = block.lstrip().partition(b"\n")[0].decode("ascii", "replace").strip()
+    match = LINE.fullmatch(first)
+    return None if match is None else match[3]
+
+
+# Some frames that begin with a trigger: the frames; those that were left out among them, as pairs of a place and
+# nanoseconds; whether they are the last ones; the first frame after them, or None; and those in front of the first trigger.
+Part = collections.namedtuple("Part", "frames busy is_last following early")
+# A part ends before a trigger, with so many triggers at least, and with fewer if it has so many frames.
+TRIGGERS_EACH, TRIGGERS_LEAST, FRAMES_EACH = 1024, 128, 50_000
+
+
+def parts_of(recording):
+    """The frames of a recording from the first trigger on, part by part. The last part has as many triggers as any other
+    one, and is longer."""
+    frames, busy, triggers, early, is_begun = [], [], [], 0, False
+    for more, left in recording.blocks():
+        if not is_begun:
+            first = next((place for place, it in enumerate(more) if it.identifier == TRIGGERS[0]), None)
+            early += len(more) if first is None else first
+            if first is None:
+                continue
+            more, left, is_begun = more[first:], [(place - first, nanos) for place, nanos in left if place >= first], True
+        behind = len(frames)
+        busy += [(place + behind, nanos) for place, nanos in left]
+        frames += more
+        triggers += [place for place, it in enumerate(more, behind) if it.identifier == TRIGGERS[0]]
+        while True:
+            least = TRIGGERS_EACH if len(frames) < 2 * FRAMES_EACH else TRIGGERS_LEAST
+            # A trigger that is there twice stands in one part.
+            while len(triggers) > least and frames[triggers[least]].data[:1] == frames[triggers[least - 1]].data[:1]:
+                least += 1
+            if len(triggers) < 2 * least + 1:
+                break
+            end = triggers[least]
+            yield Part(frames[:end], [it for it in busy if it[0] < end], False, frames[end], early)
+            frames, busy = frames[end:], [(place - end, nanos) for place, nanos in busy if place >= end]
+            triggers = [place - end for place in triggers[least:]]
+    if not is_begun:
+        raise NoLog("the recording has no trigger, which has identifier 000")
+    yield Part(frames, busy, True, None, early)
+
+
+def tell_left(found, early, note):
+    """Says what is left out of a recording."""
+    if found.others:
+        note(f"{some(found.others, 'frame')} of other interfaces {'is' if found.others == 1 else 'are'} left out")
+    if found.said():
+        note(f"no frames of this profile, and left out: {found.said()}")
+    if early:
+        note(f"{some(early, 'frame')} before the first trigger {'is' if early == 1 else 'are'} left out")
 
 
 # The identifiers of 11 bits that frames of the profile may have.
@@ -110,51 +234,6 @@ def refuse(place, kind, identifier):
             WIDE: f"the identifier {identifier} has no 11 bits", FD: "this is a frame of CAN FD",
             REMOTE: "this is a remote frame", ERRORS: "this is an error frame"}[kind]
     raise NoLog(f"line {place}: {what}: no frame of this profile. Without --strict it is left out")
-
-
-def recorded(lines, interface, is_strict=False):
-    """The recording of one interface: that which is named, or that of the first line. Frames of the profile are kept.
-    The others are left out, and a strict reader refuses them."""
-    found, progress = Recording(interface), Progress("lines read")
-    matched, keep = USUAL.fullmatch, found.frames.append
-    for place, line in enumerate(lines, 1):
-        match = matched(line)
-        if match is not None and match[3] == found.interface:
-            seconds, part, _, identifier, data = match.groups()
-            number = int(identifier, 16)
-            if number in OWN:
-                keep(Recorded(int(seconds + part) * 1000, number, bytes.fromhex(data), place))
-            else:
-                take(line.strip(), place, found, is_strict)
-        elif not line.isspace():
-            take(line.strip(), place, found, is_strict)
-        if not place & 0xFFF:
-            progress.step(place)
-    progress.end()
-    return found
-
-
-def take(line, place, found, is_strict):
-    """Takes a line of any form that candump -L has."""
-    match = LINE.fullmatch(line)
-    if match is None:
-        raise NoLog(f"line {place}: {shown(line, 60)} is no line of candump -L")
-    seconds, part, where, identifier, data, _ = match.groups()
-    found.interface = found.interface or where
-    if where != found.interface:
-        found.others += 1
-        return
-    nanos, kind = int(seconds + part.ljust(9, "0")), kind_of(identifier, data)
-    if kind is None and (len(data) % 2 or len(data) > 2 * LENGTH):
-        raise NoLog(f"line {place}: {shown(data)} is no data of 0 to 8 bytes")
-    if kind is None and int(identifier, 16) not in OWN:
-        kind = OTHER
-    if kind is None:
-        found.frames.append(Recorded(nanos, int(identifier, 16), bytes.fromhex(data), place))
-    elif is_strict:
-        refuse(place, kind, identifier)
-    else:
-        found.leave(kind, nanos)
 
 
 def other_form(head, name):
@@ -187,20 +266,3 @@ def back_by(before, frame):
     """What is said of a time that goes back."""
     return (f"the time goes back by {(before.nanos - frame.nanos) / 1000:g} us. Is the recording in order, and of one "
             "bus?")
-
-
-def from_trigger(found, note):
-    """Keeps the frames from the first trigger on, and returns them. Says how many are left out, those of other
-    interfaces too."""
-    if found.others:
-        note(f"{some(found.others, 'frame')} of other interfaces {'is' if found.others == 1 else 'are'} left out")
-    if found.said():
-        note(f"no frames of this profile, and left out: {found.said()}")
-    early = next((place for place, frame in enumerate(found.frames) if frame.identifier == TRIGGERS[0]), None)
-    if early is None:
-        raise NoLog("the recording has no trigger, which has identifier 000")
-    if early:
-        note(f"{some(early, 'frame')} before the first trigger {'is' if early == 1 else 'are'} left out")
-    found.frames = found.frames[early:]
-    found.busy = [(place - early, nanos) for place, nanos in found.busy if place >= early]
-    return found.frames

@@ -34,9 +34,9 @@ class NoLog(Exception):
     """A row, or a row of another file, that can't stand there."""
 
 
-def rows_of(lines):
-    """The rows of a log with its report: the word of each, its fields, and its place from 1."""
-    for place, line in enumerate(lines, 1):
+def rows_of(lines, first=1):
+    """The rows of a log with its report: the word of each, its fields, and its place, from 1 or the first one."""
+    for place, line in enumerate(lines, first):
         line = line.rstrip("\r\n")
         word = line.split(",", 1)[0]
         match = ROWS[word].fullmatch(line) if word in ROWS else None
@@ -150,12 +150,50 @@ def opened(rows):
     return cycles
 
 
-def length_of(cycles):
-    """The length of a cycle: that of the triggers' distance, where two cycles are there."""
-    starts = [(number, frames[0][0]) for number, _, _, frames in cycles if frames]
-    if len(starts) < 2:
-        raise NoLog("the log has fewer than two cycles: give the length of a cycle with --cycle")
-    (one, at), (other, later) = starts[0], starts[-1]
-    if other <= one or later - at < other - one:
-        raise NoLog("the cycles do not stand in the order of their numbers: give the length of a cycle with --cycle")
-    return (later - at) // (other - one)
+class Summary:
+    """What the cycles of a log are together: how many there are, how many frames, the first cycle, the widest window, how
+    many cycles there have to be by the row `end`, and the first and the last start of a trigger."""
+
+    def __init__(self, rows):
+        self.many, self.frames, self.first, self.widest, self.ends = 0, 0, None, 0, None
+        self.one = self.other = number = None
+        self.triggers = 0
+        for word, fields, _ in rows:
+            if word == "open":
+                number = int(fields[0])
+                self.first = number if self.first is None else self.first
+                self.many, self.widest, is_begun = self.many + 1, max(self.widest, int(fields[2])), True
+            elif word == "frame":
+                self.frames += 1
+                if number is not None and is_begun:
+                    self.other, is_begun = (number, int(fields[0])), False
+                    self.one, self.triggers = self.one or self.other, self.triggers + 1
+            elif word == "end":
+                self.ends = int(fields[0])
+
+    def is_whole(self):
+        """Whether the log has all cycles of a run, and its end."""
+        return self.ends is not None and self.first in (0, None) and self.many == self.ends
+
+    def length(self):
+        """The length of a cycle: that of the triggers' distance, where two cycles are there."""
+        if self.triggers < 2:
+            raise NoLog("the log has fewer than two cycles: give the length of a cycle with --cycle")
+        (one, at), (other, later) = self.one, self.other
+        if other <= one or later - at < other - one:
+            raise NoLog("the cycles do not stand in the order of their numbers: give the length of a cycle with --cycle")
+        return (later - at) // (other - one)
+
+
+def cycles_of(rows, first, last):
+    """The rows of a log, each with the cycle that it is of, as `open` and `frame` are, or in front of which it stands; and
+    whether that is one of some cycles. The row `end` and those after it are told of with no cycle."""
+    following = number = 0
+    for row in rows:
+        word = row[0]
+        if word == "open":
+            number = int(row[1][0])
+            following = number + 1
+        elif word != "frame":
+            number = following
+        yield row, (first <= number <= last or word == "end") if word not in REPORT else last == float("inf")

@@ -11,8 +11,8 @@ from .rows import NoLog, RIDES, is_slot
 from .steps import Asked, records_of
 
 # An instance that was sent: its slot, the cycles of its release and of its frame, the bit time at which the frame ends,
-# and the period and the deadline of its entry in cycles.
-Sent = collections.namedtuple("Sent", "slot release cycle end period deadline")
+# the period and the deadline of its entry in cycles, and its data bytes.
+Sent = collections.namedtuple("Sent", "slot release cycle end period deadline length")
 
 
 def accepted(table, act):
@@ -55,9 +55,21 @@ def sent_of(rows, path):
             if low != fields[3] and (entry is None or not is_polled):
                 raise NoLog(f"row {place}: the steps of {path} send no such frame here. Is the log whole, and theirs?")
             found.append(Sent(slot, released, cycle, int(fields[0]) + int(fields[1]) - INTERMISSION, entry.period,
-                              entry.deadline))
+                              entry.deadline, entry.length))
             counts[slot, place_in] += 1
     return found
+
+
+def planned(rows, path):
+    """The table of the changes that a log accepts, and the cycle up to which their plan goes before it repeats; 0 where
+    none is accepted."""
+    asked, table, until = Asked(path), {}, 0
+    for word, fields, place in rows:
+        if word in ("submit", "look"):
+            act = asked.next(word, int(fields[0]), place)
+            if word == "submit" and fields[2] == "accepted":
+                table, until = accepted(table, act), sum(map(int, fields[3].split(",")))
+    return table, until
 
 
 def streams_of(path):

@@ -8,11 +8,13 @@ from ..frames import INTERMISSION
 from ..limits import FIRST_SLOT, LAST_SLOT, TRIGGERS
 from ..rows import identifier_of
 from ..telling import some
-from .drawing import histogram
+from ..worst import Strange, worst_of, worst_sent
+from .own import run_in
 from .promised import Promised
-from .rows import NoLog, is_slot, length_of, millis, opened
-from .slots import ridden, sent_of
+from .rows import NoLog, Summary, is_slot, millis
+from .slots import planned, ridden, sent_of
 from .steps import records_of
+from .strips import Picture, histogram
 
 PERCENTILES = (50, 90, 99)
 PERCENTS = [f"p{percent}" for percent in PERCENTILES]
@@ -114,7 +116,8 @@ def asynchronous(rows, words, names, end):
         beside = [column(identifier) for column in columns.values()]
         lines.append([names.of(identifier), str(len(values)), *statistics(values, shown),
                       *("-" if it is None else shown(it) for it in beside), str(waiting), str(later)])
-        pictures.append((names.of(identifier), values, shown, f"{what}, in {unit}"))
+        pictures.append(Picture(names.of(identifier), values, shown, f"asynchronous frames, {what}, in {unit}",
+                                dict(zip(columns, (column(identifier) for column in columns.values())))))
     head = ["identifier", "sent", "least", "mean", *PERCENTS, "greatest", *columns, "waiting", "later"]
     told = f"asynchronous frames, {what}, in {unit}\n" + table(head, lines) + LEFT
     if promised is None:
@@ -128,9 +131,37 @@ def spans(cycles, length, shown):
     return "/".join(shown(it * length) for it in sorted(cycles)) or "-"
 
 
-def synchronous(sent, words, names, length):
+def plan_in(path):
+    """A plan of admit."""
+    plan = run_in(path)
+    if plan.has_frames:
+        raise NoLog(f"{path}: this is a log, and --plan takes a plan, as `fttcan admit SYSTEM STEPS` writes it")
+    return plan
+
+
+def worsts_of(rows, sent, words, length):
+    """By slot how late a frame is at worst with any data, in bit times from its release: by the plan that the words name,
+    else by the cycles of the run. And what is said of these."""
+    table, until = planned(rows, words.steps)
+    many = Summary(rows).many
+    if words.plan is None:
+        found = {slot: it.bits for slot, it in worst_sent(sent, length).items()}
+        if until <= many:
+            return found, "worst: with any data, in all cycles of the plan up to its repeat\n"
+        return found, (f"worst: with any data, in the {some(many, 'cycle')} of this run; the plan has {until} up to its repeat. "
+                       "With more cycles, or with --plan and the plan of admit, it is that of the plan\n")
+    plan = plan_in(words.plan)
+    try:
+        found = worst_of(table, plan.masks, length, plan.first)
+    except Strange as fault:
+        raise NoLog(f"{words.plan}: it sends slot {fault.args[0]} in cycle {fault.args[1]}, of which {words.steps} has no "
+                    "instance then. Is it the plan of these steps, and are all of them accepted?") from fault
+    return {slot: it.bits for slot, it in found.items()}, "worst: with any data, by the plan\n"
+
+
+def synchronous(sent, words, names, length, worsts):
     """The table of delays, and what is needed for their histograms: in cycles to the one that sends an instance; or in
-    milliseconds to the end of its frame, with its deadline, where the rate is known."""
+    milliseconds to the end of its frame, with the worst case of any data and its deadline, where the rate is known."""
     lines, pictures, by_slot = [], [], collections.defaultdict(list)
     for it in sent:
         by_slot[it.slot].append(it)
@@ -138,10 +169,11 @@ def synchronous(sent, words, names, length):
     what = "from the release to the " + ("end of the frame, in ms" if is_timed else "cycle that sends them, in cycles")
     for slot, found in sorted(by_slot.items()):
         values = [it.end - it.release * length if is_timed else it.cycle - it.release for it in found]
-        last = [spans({it.deadline for it in found}, length, shown)] if is_timed else []
+        last = [shown(worsts[slot]), spans({it.deadline for it in found}, length, shown)] if is_timed else []
         lines.append([names.of_slot(slot), str(len(values)), *statistics(values, shown), *last])
-        pictures.append((names.of_slot(slot), values, shown, what))
-    head = ["message", "sent", "least", "mean", *PERCENTS, "greatest", *(["deadline"] if is_timed else [])]
+        beside = {"worst": worsts.get(slot), "deadline": min(it.deadline for it in found) * length} if is_timed else {}
+        pictures.append(Picture(names.of_slot(slot), values, shown, f"synchronous frames, {what}", beside))
+    head = ["message", "sent", "least", "mean", *PERCENTS, "greatest", *(["worst", "deadline"] if is_timed else [])]
     told = f"synchronous frames, {what}\n" + table(head, lines)
     return told, pictures
 
@@ -163,7 +195,9 @@ def polled(rows, sent, words, names, length, end):
         bounds = spans({entries[slot, *it] for it in taken if (slot, *it) in entries}, length, shown)
         lines.append([names.of_slot(slot), str(len(values)), *statistics(values, shown), bounds,
                       str(sum(at < end for at in left)), str(sum(at >= end for at in left))])
-        pictures.append((names.of_slot(slot), values, shown, what))
+        bound = max((entries[slot, *it] for it in taken if (slot, *it) in entries), default=None)
+        pictures.append(Picture(names.of_slot(slot), values, shown, f"requests of polled slots, {what}",
+                                {"bound": None if bound is None else bound * length}))
     head = ["message", "sent", "least", "mean", *PERCENTS, "greatest", "bound", "waiting", "later"]
     told = f"requests of polled slots, {what}\n" + table(head, lines)
     return told + LEFT, pictures
@@ -171,13 +205,12 @@ def polled(rows, sent, words, names, length, end):
 
 def late(rows, words, names, put):
     """Tables of latencies and delays, and their histograms as SVG where a file is named. Whether a bound is broken."""
-    rows = list(rows)
-    ends, cycles = [int(fields[0]) for word, fields, _ in rows if word == "end"], opened(rows)
-    if not ends or cycles and cycles[0][0] != 0 or len(cycles) != ends[0]:
+    whole = Summary(rows)
+    if not whole.is_whole():
         raise NoLog("the log is not whole, and late needs all of it")
-    parts, length = [], words.cycle
+    parts, length, ends = [], words.cycle, [whole.ends]
     if length is None and (words.requests, words.streams, words.kbits) != (None, None, None):
-        length = length_of(cycles)
+        length = whole.length()
     sent = [] if words.steps is None else sent_of(rows, words.steps)
     is_broken = False
     if words.requests is not None:
@@ -186,11 +219,13 @@ def late(rows, words, names, put):
     if words.streams is not None:
         parts.append(polled(rows, sent, words, names, length, length * ends[0]))
     if words.steps is not None:
-        parts.append(synchronous(sent, words, names, length))
+        worsts, told = worsts_of(rows, sent, words, length) if words.kbits is not None else ({}, "")
+        table_told, pictures = synchronous(sent, words, names, length, worsts)
+        parts.append((table_told + told, pictures))
     pictures = [picture for _, more in parts for picture in more]
     if words.svg is not None:
         with open(words.svg, "w", encoding="utf-8", newline="\n") as file:
-            histogram(pictures, file.write)
+            histogram(pictures, words.kbits, file.write)
         parts.append((f"histograms of {some(len(pictures), 'message')}: {words.svg}\n", []))
     put("\n".join(told for told, _ in parts))
     return is_broken

@@ -8,7 +8,7 @@ from ..masks import slots_of
 from ..steps import ENTRY
 from ..table import silence_of
 from ..telling import listed, some
-from .rows import NoLog, duration, is_slot, length_of, millis, opened
+from .rows import NoLog, Summary, cycles_of, duration, is_slot, millis
 from .slots import accepted
 from .steps import Asked, answered
 
@@ -175,6 +175,13 @@ class Teller:
         if verdict == "miss":
             self.missed = [int(field) for field in rest]
 
+    def passed(self, word, fields, place):
+        """Takes a call that is not told of."""
+        if self.asked is not None and word in ("submit", "look"):
+            act = self.asked.next(word, int(fields[0]), place)
+            if word == "submit" and fields[2] == "accepted":
+                self.table = accepted(self.table, act)
+
     def reported(self, word, fields):
         """Tells a row after the row `end`."""
         self.line(reported_told(word, fields, self.names))
@@ -202,19 +209,22 @@ class Teller:
                 self.reported(word, fields)
 
 
-def say(rows, names, steps, kbits, is_all, put):
-    """Sentences on each row of the log and of its report."""
-    length = None
-    if steps is not None:
-        rows = list(rows)
-        answered(rows, steps)
+def say(rows, names, words, put):
+    """Sentences on each row of the log and of its report, or on those of some cycles, or on changes alone."""
+    length, asked = None, None
+    if words.steps is not None:
+        answered(rows, words.steps)
+        asked = Asked(words.steps)
         try:
-            length = length_of(opened(rows))
+            length = Summary(rows).length()
         except NoLog:
             pass
-    teller = Teller(names, None if steps is None else Asked(steps), kbits, is_all, put, length)
-    for word, fields, place in rows:
-        teller.row(word, fields, place)
+    teller = Teller(names, asked, words.kbits, words.all, put, length)
+    for (word, fields, place), is_told in cycles_of(rows, words.first, words.last):
+        if not is_told:
+            teller.passed(word, fields, place)
+        elif not words.changes or word not in ("open", "frame"):
+            teller.row(word, fields, place)
     teller.finish()
 
 

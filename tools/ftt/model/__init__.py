@@ -3,6 +3,8 @@
     tools/fttmodel KBITS CYCLE_US MESSAGES OUT [options]
     tools/fttmodel --from-recording RECORDING [--interface NAME] > MESSAGES
     tools/fttmodel --from-dbc FILE [--period-attribute NAME] [--strict] > MESSAGES
+    tools/fttmodel --report FOLDER [--since OLD] ..
+    tools/fttmodel --compare OLD NEW
 
 KBITS is the bit rate in kbit/s and CYCLE_US the elementary cycle in microseconds. MESSAGES is a CSV file with a header
 row, or a DBC file if its name ends with .dbc; docs/tools.md says how its attributes are read. OUT is a folder; it is
@@ -22,6 +24,7 @@ The columns of the CSV file, in any order:
     kind      sync, polled or async; without one, sync. A polled message comes when it likes, and has a deadline: a
               slot with one byte more asks for it, and keeps it. `period` is then its least distance, if one is known
     priority  0 to 255; between equal keys of the policy the lower one goes first; without one, 0
+    slot      its slot, from 0 on; each once. Without one it gets the lowest that is free
 
 name, sender, length and period are needed. Names of times may end with _ms. Fields may be separated by semicolons or
 tabs in place of commas, and then times may have decimal commas. A column whose name begins with # is left
@@ -30,7 +33,7 @@ says so, unless its name is near one of these.
 
 --from-recording makes such a list from a recording of a plain CAN bus, as `candump -L` writes it: identifiers, lengths,
 periods and least distances. What a recording can't tell is left open. --from-dbc makes one from a DBC file, to which
-deadlines can be added.
+deadlines can be added. --report writes a page about the files that were made, and --compare says what changed.
 
 Two commands, at 250 kbit/s and with cycles of 5 ms: the files in the folder mine, and the run.
 
@@ -50,13 +53,13 @@ import sys
 from fractions import Fraction
 
 from .. import limits
-from ..command import Parser, needs_tomllib, takes_version, put_lines
+from ..command import Help, Parser, needs_tomllib, put_lines, stop, takes_version
 from ..faults import Refused, Unread
 from ..telling import listed, some
-from . import arrivals, bus_dbc, dbc, lists, promised, table
+from . import arrivals, bus_dbc, dbc, disturbed, kept, lists, promised, table
 from .bus import Bus, alike, entries_of, owned_of, window_of
 from .files import names_text, steps_text, system_text, write_all
-from .messages import Mistakes, text_of
+from .messages import Mistakes, read_text, text_of
 from .said import common_period, told
 
 
@@ -71,17 +74,22 @@ def messages_of(words, text, mistakes):
         return dbc.read(words.messages, text, words.kbits, words, mistakes)
     if words.strict or words.period_attribute:
         raise Refused("--strict and --period-attribute are for a DBC file, whose name ends with .dbc. Leave them out.")
-    return table.read(words.messages, text, mistakes)
+    return table.read(words.messages, text, mistakes, words.map)
 
 
-def nodes_of(messages, mistakes):
-    """The senders of messages, each with its number."""
-    nodes, most = {}, limits.NODES[1]
+def nodes_of(messages, mistakes, kept=None):
+    """The senders of messages, each with its number. Some are kept; the others get the lowest ones that are free."""
+    nodes, most, kept = {}, limits.NODES[1], kept or {}
+    free = iter([it for it in range(most) if it not in kept.values()])
     for message in messages:
-        if message.sender not in nodes and len(nodes) == most:
+        if message.sender in nodes:
+            continue
+        number = kept.get(message.sender)
+        number = next(free, None) if number is None else number
+        if number is None:
             mistakes.add(message.line, "sender", message.sender, f"this is a sender beyond the {most} nodes. Let some "
                          "nodes share a name.")
-        nodes.setdefault(message.sender, len(nodes))
+        nodes[message.sender] = number or 0
     return nodes
 
 
@@ -103,21 +111,25 @@ def model(words):
     """Reads the messages, writes the files, and says what was done. The status."""
     bus = Bus(words.kbits, words.cycle_us)
     mistakes = Mistakes(words.messages)
-    text = text_of(words.messages)
+    text, encoding = read_text(words.messages)
     read = messages_of(words, text, mistakes)
     messages = read.messages
     if not messages and not mistakes.lines:
         raise Refused(f"{words.messages}:1: there are no messages. Write a row for each.")
     alike(messages, mistakes)
-    nodes = nodes_of(messages, mistakes)
-    entries = entries_of(messages, bus, nodes, words.slots, mistakes)
-    owned = owned_of(messages, nodes, words.renumber, mistakes)
+    old = kept.read(words.keep)
+    messages = kept.pinned(messages, old, words.keep, mistakes)
+    nodes = nodes_of(messages, mistakes, old.nodes)
+    gone = set(old.slots.values()) - {it.slot for it in messages}
+    entries = entries_of(messages, bus, nodes, words.slots, mistakes, gone)
+    owned = owned_of(messages, nodes, words.renumber, mistakes, old.ids)
     promised.check(bus, messages, mistakes)
     mistakes.stop()
-    count = words.nodes or len(nodes)
-    if count < len(nodes):
+    least = max(nodes.values(), default=0) + 1
+    count = words.nodes or least
+    if count < least:
         raise Refused(f"--nodes is {count}: the messages have {some(len(nodes), 'sender')}. Take at least "
-                      f"{len(nodes)}.")
+                      f"{least}.")
     window = window_of(bus, words, entries, owned)
     cycles = words.cycles
     if cycles is None:
@@ -128,10 +140,18 @@ def model(words):
              "steps.csv": steps_text(entries, cycles), "names.csv": names_text(entries, owned)}
     if owned:
         texts["async.csv"] = promised.text_of(bus, owned)
+    if words.worst:
+        from . import worst  # pylint: disable=import-outside-toplevel
+        read.warnings.extend(worst.add(lines, bus, entries, words, window, count))
+    if words.header:
+        from . import header  # pylint: disable=import-outside-toplevel
+        texts["bus.h"] = header.text_of(bus, entries, owned, words, window)
     more, said, warned = more_of(words, text, bus, entries, owned, cycles)
     texts |= more
     write_all(folder, texts)
-    lines[2:2] = read.notes
+    if words.keep is not None:
+        lines[2:2] = kept.told(messages, entries, old, words.keep)
+    lines[2:2] = [*([] if encoding is None else [f"{words.messages}: {encoding}"]), *read.notes]
     lines += said
     warnings = read.warnings + warnings + warned
     lines += [f"warning: {warning}" for warning in warnings]
@@ -157,9 +177,16 @@ def positive(text):
     return Fraction(text)
 
 
+def not_below_0(text):
+    """A decimal number of at least 0."""
+    if not re.fullmatch(r"[0-9]+(\.[0-9]+)?", text):
+        raise argparse.ArgumentTypeError(f"{text!r} is no number of milliseconds, such as 0 or 0.8")
+    return Fraction(text)
+
+
 def parser():
     """The reader of the words."""
-    made = Parser(prog="fttmodel", description=__doc__, formatter_class=argparse.RawDescriptionHelpFormatter)
+    made = Parser(prog="fttmodel", description=__doc__, formatter_class=Help)
     made.add_argument("kbits", metavar="KBITS", type=positive, help="the bit rate in kbit/s, as 500 or 83.333")
     made.add_argument("cycle_us", metavar="CYCLE_US", type=positive, help="the elementary cycle in microseconds")
     made.add_argument("messages", metavar="MESSAGES", help="the CSV or DBC file")
@@ -167,6 +194,8 @@ def parser():
     made.add_argument("--window", type=within(*limits.WINDOW), help="the synchronous window in bit times; without it, "
                       "all that leaves room for the longest asynchronous frame, or for 8 bytes if there is none")
     made.add_argument("--turnaround", type=within(*limits.TURNAROUND), default=0, help="in bit times; without it 0")
+    made.add_argument("--errors", metavar="K", type=within(0, disturbed.MOST), help="leave room for K disturbances of each "
+                      "synchronous window, and say what that takes; without it none is planned for")
     made.add_argument("--policy", choices=limits.POLICIES, default="rm", help="without it rm")
     made.add_argument("--fill", choices=limits.FILLS, default="prefix", help="what a cycle does at a message "
                       "that doesn't fit any more: it ends there, or passes over it; without it prefix")
@@ -180,6 +209,10 @@ def parser():
                       "one common period after the greatest offset, at most 20000")
     made.add_argument("--renumber", action="store_true", help="give asynchronous messages 0x200, 0x201, .. in the "
                       "order of their identifiers")
+    made.add_argument("--keep", metavar="NAMES", help="keep the slots, the nodes and the identifiers that messages of the "
+                      "same names have in this names.csv of an earlier call. New ones get others")
+    made.add_argument("--map", action="store_true", help="take messages with 29-bit identifiers, as of J1939 and ISOBUS: "
+                      "slots and free identifiers stand for theirs")
     made.add_argument("--period-attribute", metavar="NAME", help="of a DBC file: the attribute of messages that has "
                       "the period in milliseconds, beside GenMsgCycleTime")
     made.add_argument("--requests", metavar="WHAT", help="write the requests of asynchronous messages into "
@@ -188,16 +221,25 @@ def parser():
                       "times in milliseconds")
     made.add_argument("--seed", type=within(0, 1 << 32), help="the number from which random requests come; "
                       "without it 1")
-    made.add_argument("--from", dest="start", metavar="MS", type=positive, help="when the first requests come at the "
+    made.add_argument("--from", dest="start", metavar="MS", type=not_below_0, help="when the first requests come at the "
                       "earliest, in milliseconds; without it 0")
     made.add_argument("--dbc", action="store_true", help="write bus.dbc too: the triggers, and each message by its "
                       "identifier on this bus, with the signals that a DBC file has of it")
     made.add_argument("--instances", action="store_true", help="write bus.dbc, in which each slot has the number of "
                       "the instance, as in a log of the simulator")
+    made.add_argument("--worst", action="store_true", help="say how late each message with a slot is at worst, with any data, "
+                      "by the plan: of the program that FTTCAN names, else of the library libfttcan.so.1 if it is found, else "
+                      "of tools/reference")
+    made.add_argument("--header", action="store_true", help="write bus.h too: the identifiers, lengths and times of all "
+                      "messages for C")
     made.add_argument("--strict", action="store_true", help="refuse a DBC file with a message that would be left out")
     made.add_argument("--signals", metavar="FILE", help="write bus.dbc with the signals that this DBC file has of the "
                       "messages with the same identifiers")
     made.add_argument("--from-dbc", metavar="FILE", help="alone, in front: print a list of messages from a DBC file")
+    made.add_argument("--report", metavar="FOLDER", help="alone, in front: write a page about the files of a folder; "
+                      "--report --help says the words")
+    made.add_argument("--compare", metavar="OLD", help="alone, in front: say what changed from the files of one folder to "
+                      "those of another; --compare --help says the words")
     made.add_argument("--from-recording", metavar="RECORDING", help="alone, in front: print a list of messages from a "
                       "recording")
     takes_version(made)
@@ -207,6 +249,9 @@ def parser():
 def main():
     """Reads the words, and does what they ask. The status."""
     needs_tomllib("fttmodel")
+    if sys.argv[1:2] in (["--report"], ["--compare"]):
+        from ..report import main as reported  # pylint: disable=import-outside-toplevel
+        return reported(sys.argv[1:])
     try:
         of_list = {lists.RECORDING: lists.from_recording, lists.DBC: lists.from_dbc}.get("".join(sys.argv[1:2]))
         if of_list is not None:
@@ -215,6 +260,8 @@ def main():
         words = reader.parse_args()
         if words.from_recording is not None or words.from_dbc is not None:
             reader.error("--from-recording and --from-dbc stand in front: --from-recording RECORDING > MESSAGES")
+        if words.report is not None or words.compare is not None:
+            reader.error("--report and --compare stand in front: --report FOLDER")
         return model(words)
     except (Refused, csv.Error) as fault:
         print(fault, file=sys.stderr)
@@ -222,3 +269,5 @@ def main():
     except Unread as fault:
         print(fault, file=sys.stderr)
         return 3
+    except KeyboardInterrupt:
+        return stop("fttmodel")

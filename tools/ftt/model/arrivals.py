@@ -1,8 +1,7 @@
 """Requests of asynchronous messages and of polled ones, by names and in milliseconds: of a list, all at once, or at
 random. They become the files requests.csv and streams.csv.
 """
-import csv
-import io
+import functools
 import math
 import random
 import re
@@ -14,6 +13,7 @@ from ..frames import worst
 from ..limits import REQUESTS, STREAMS
 from ..telling import close, decimal, some
 from . import polled, promised, table
+from .amounts import Amounts
 from .bus import Entry
 from .messages import Mistakes, read_time, text_of
 
@@ -98,7 +98,7 @@ def at_random(asking, seed, start):
 
 def columns_of(row, line, mistakes):
     """The places of the columns in a header row."""
-    names = [re.sub(r"_ms$", "", name.strip().lower()) for name in row]
+    names = [table.UNIT.sub("", name.strip().lower()) for name in row]
     for name in names:
         if name not in COLUMNS and close(name, COLUMNS):
             mistakes.add(line, "the column", name, f"there is none of this name. Is it {close(name, COLUMNS)}?")
@@ -110,10 +110,10 @@ def columns_of(row, line, mistakes):
     return {name: names.index(name) for name in COLUMNS if name in names}
 
 
-def request_of(field, line, asking, count, mistakes):
+def request_of(field, line, asking, count, amounts, mistakes):
     """The request of a row; None where it is wrong. So many of its message stand above."""
     name, text = field("name"), field("data").replace(" ", "")
-    it, time = asking.by_name.get(name), read_time(field("at"), True, line, "at", mistakes)
+    it, time = asking.by_name.get(name), read_time(field("at"), True, line, "at", mistakes, amounts)
     if it is None:
         known = next((each for each in asking.all if each.message.name == name), None)
         near = close(name, list(asking.by_name))
@@ -135,28 +135,27 @@ def request_of(field, line, asking, count, mistakes):
 
 def listed(asking, path):
     """The requests of a list, whose columns are at, name and data."""
-    mistakes, columns, found, counts = Mistakes(path), None, [], {}
+    mistakes, found, counts = Mistakes(path), [], {}
     text = text_of(path)
     separator = table.separator_of(text, COLUMNS)
-    for line, row in enumerate(csv.reader(io.StringIO(text, newline=""), delimiter=separator), 1):
-        if not any(field.strip() for field in row) or row[0].lstrip().startswith("#"):
-            continue
-        if columns is None:
-            columns = columns_of(row, line, mistakes)
-            continue
+    rows = list(table.rows_in(path, text, separator))
+    if not rows:
+        raise Refused(f"{path}:1: there is no header row. Name the columns in the first row: {', '.join(COLUMNS)}.")
+    (line, header), *rows = rows
+    columns = columns_of(header, line, mistakes)
 
-        def field(name, fields=row):
-            place = columns.get(name)
-            value = fields[place].strip() if place is not None and place < len(fields) else ""
-            return value.replace(",", ".") if separator != "," and name == "at" else value
+    def value(row, name):
+        place = columns.get(name)
+        return row[place].strip() if place is not None and place < len(row) else ""
 
-        request = request_of(field, line, asking, counts.get(field("name"), 0), mistakes)
+    amounts = Amounts(separator, (value(row, "at") for _, row in rows))
+    for line, row in rows:
+        name = value(row, "name")
+        request = request_of(functools.partial(value, row), line, asking, counts.get(name, 0), amounts, mistakes)
         if request is not None:
-            counts[field("name")] = counts.get(field("name"), 0) + 1
+            counts[name] = counts.get(name, 0) + 1
             found.append(request)
     mistakes.stop()
-    if columns is None:
-        raise Refused(f"{path}:1: there is no header row. Name the columns in the first row: {', '.join(COLUMNS)}.")
     return found
 
 
@@ -224,4 +223,7 @@ def texts_of(words, asking):
                               for it in rows)
         senders = len({it.message.message.name for it in rows})
         told.append(f"{name}: {some(len(rows), 'request')} of {some(senders, 'message')}")
+    if words.requests == TOGETHER:
+        told.append("together is not the worst case: a request that comes just too late for its window waits longer. Another "
+                    "--from may show that; the bounds hold for all")
     return texts, told, warnings

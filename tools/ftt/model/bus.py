@@ -5,10 +5,11 @@ from fractions import Fraction
 
 from ..faults import Refused
 from ..frames import TRIGGER, worst
-from ..limits import CYCLE, FEW_SLOTS, FIRST_ASYNC, LAST_ASYNC, LENGTH, RATE, TIMES, WINDOW
+from ..limits import CYCLE, FEW_SLOTS, FIRST_ASYNC, LAST_ASYNC, LENGTH, MANY_SLOTS, RATE, TIMES, WINDOW
 from ..system import room
 from ..telling import decimal
-from . import polled
+from . import disturbed, polled
+from .messages import id_text, is_extended
 
 # The kinds of messages that get slots, as they are told.
 KINDS = {"sync": "synchronous", polled.KIND: "polled"}
@@ -28,7 +29,7 @@ def alike(messages, mistakes):
             if value in (None, ""):
                 continue
             if value in seen:
-                mistakes.add(message.line, field, value if field == "name" else f"{value:#05x}",
+                mistakes.add(message.line, field, value if field == "name" else id_text(value),
                              f"it stands in line {seen[value]} too. Give each message its own.")
             seen.setdefault(value, message.line)
 
@@ -87,55 +88,92 @@ def times_of(message, bus, mistakes):
     return bus.cycles(message.offset, "offset", message, 0, mistakes), period, deadline
 
 
-def entries_of(messages, bus, nodes, slots, mistakes):
-    """The synchronous and the polled messages in their slots, in the order of their identifiers."""
+def order_of(message):
+    """The place of a message among others: by its identifier, and those without one last."""
+    return message.id is None, message.id or 0
+
+
+def slots_of(chosen, slots, mistakes, gone=()):
+    """The slots of messages, by their lines: those that the list gives them, and for the others the lowest that are free, in
+    the order of their identifiers. Slots that a message had which is gone are taken last."""
+    taken, found = {}, {}
+    for it in sorted(chosen, key=lambda it: it.line):
+        if it.slot is None:
+            continue
+        if it.slot >= slots:
+            mistakes.add(it.line, "slot", str(it.slot), f"there are {slots} slots, from 0 on. Take "
+                         f"{'--slots 96' if it.slot < MANY_SLOTS and slots == FEW_SLOTS else 'a lower one'}.")
+        elif it.slot in taken:
+            mistakes.add(it.line, "slot", str(it.slot), f"it stands in line {taken[it.slot]} too. Give each message its own.")
+        else:
+            taken[it.slot] = it.line
+            found[it.line] = it.slot
+    free = iter(sorted((slot for slot in range(slots) if slot not in taken), key=lambda slot: (slot in gone, slot)))
+    for it in sorted((it for it in chosen if it.slot is None), key=order_of):
+        found[it.line] = next(free, 0)
+    return found
+
+
+def entries_of(messages, bus, nodes, slots, mistakes, gone=()):
+    """The synchronous and the polled messages in their slots."""
     chosen = [message for message in messages if message.kind in KINDS]
     more = "Take --slots 96, make some asynchronous" if slots == FEW_SLOTS else "Make some asynchronous"
     for message in chosen[slots:]:
         mistakes.add(message.line, "name", message.name, f"this is a {KINDS[message.kind]} message beyond the {slots} "
                      f"slots. {more}, or leave some out.")
-    chosen = sorted(chosen[:slots], key=lambda it: (it.id is None, it.id or 0))
-    taken = {}
+    chosen = chosen[:slots]
+    placed, taken = slots_of(chosen, slots, mistakes, gone), {}
     for message in sorted(chosen, key=lambda it: it.line):
         of_kind = polled.times_of if message.kind == polled.KIND else times_of
         taken[message.line] = of_kind(message, bus, mistakes)
-    return [Entry(message, slot, nodes[message.sender], message.length + (message.kind == polled.KIND),
+    return [Entry(message, placed[message.line], nodes[message.sender], message.length + (message.kind == polled.KIND),
                   *taken[message.line])
-            for slot, message in enumerate(chosen) if taken[message.line] is not None]
+            for message in sorted(chosen, key=lambda it: placed.get(it.line, 0)) if taken[message.line] is not None
+            and message.line in placed]
 
 
-def owned_of(messages, nodes, renumber, mistakes):
-    """The asynchronous messages with their identifiers in the model."""
-    chosen = sorted((it for it in messages if it.kind == "async"), key=lambda it: (it.id is None, it.id or 0))
-    if renumber:
-        most = LAST_ASYNC - FIRST_ASYNC + 1
-        for message in chosen[most:]:
-            mistakes.add(message.line, "name", message.name, f"there are more than {most} asynchronous messages. Leave "
-                         "some out.")
-        return [Owned(message, FIRST_ASYNC + place, nodes[message.sender]) for place, message in enumerate(chosen)]
+def owned_of(messages, nodes, renumber, mistakes, kept=None):
+    """The asynchronous messages with their identifiers in the model. Those of 29 bits get free ones, and so do all where they
+    are renumbered; but those that are kept, by the names of the messages, stay."""
+    chosen, kept = sorted((it for it in messages if it.kind == "async"), key=order_of), kept or {}
+    given = [it for it in chosen if renumber or is_extended(it.id)]
     for message in chosen:
-        if message.id is None or not FIRST_ASYNC <= message.id <= LAST_ASYNC:
+        if message not in given and (message.id is None or not FIRST_ASYNC <= message.id <= LAST_ASYNC):
             why = f"{message.name} is asynchronous {message.why}. Such a" if message.why else "an asynchronous"
             mistakes.add(message.line, "id",
-                         "" if message.id is None else f"{message.id:#05x}", f"{why} message "
+                         "" if message.id is None else id_text(message.id), f"{why} message "
                          "has 0x200 to 0x7ef. Give it another, or let --renumber do so.")
-    return [Owned(message, message.id, nodes[message.sender]) for message in chosen]
+    found = {it.line: kept[it.name] for it in given if it.name in kept}
+    taken = {it.id for it in chosen if it not in given} | set(kept.values())
+    free = iter([it for it in range(FIRST_ASYNC, LAST_ASYNC + 1) if it not in taken])
+    for message in given:
+        if message.line not in found:
+            found[message.line] = next(free, None)
+            if found[message.line] is None:
+                mistakes.add(message.line, "name", message.name, f"there are more than {LAST_ASYNC - FIRST_ASYNC + 1} "
+                             "asynchronous messages. Leave some out.")
+    return [Owned(it, found.get(it.line, it.id), nodes[it.sender]) for it in chosen]
 
 
 def window_of(bus, words, entries, owned):
     """The window that is asked for; else all but one longest asynchronous frame, and not below one longest frame."""
     longest = max((worst(it.length) for it in entries), default=WINDOW[0])
-    most = room(bus.cycle, words.slots, words.turnaround)
-    spare = max((worst(it.message.length) for it in owned), default=worst(LENGTH))
+    reserve = disturbed.reserve_of(words, entries)
+    most = room(bus.cycle, words.slots, words.turnaround) - reserve
+    spare = max((worst(it.message.length) for it in owned), default=worst(LENGTH)) + disturbed.guard_of(words)
+    beside = f" and the reserve's {reserve} (--errors {words.errors})" if reserve else ""
     if longest > most:
         raise Refused(f"CYCLE_US is {decimal(words.cycle_us)}: a cycle has {bus.cycle} bit times, and the trigger, the "
-                      f"turnaround and the longest frame need {bus.cycle - most + longest}. Take a longer cycle.")
-    window = words.window or max(min(most - spare, WINDOW[1]), longest)
+                      f"turnaround{beside} and the longest frame need {bus.cycle - most + longest}. Take a longer cycle.")
+    window = words.window or max(min(most - spare, WINDOW[1] - reserve), longest)
     if window < longest:
         raise Refused(f"--window is {window}: the longest frame has {longest} bit times and never fits. Take at least "
                       f"{longest}.")
     if window > most:
         raise Refused(f"--window is {window}: with the trigger's {TRIGGER[words.slots]} and the turnaround's "
-                      f"{words.turnaround} it is above the cycle of {bus.cycle}. Take at most {most}, or a longer "
+                      f"{words.turnaround}{beside} it is above the cycle of {bus.cycle}. Take at most {most}, or a longer "
                       "cycle.")
+    if window + reserve > WINDOW[1]:
+        raise Refused(f"--errors is {words.errors}: a window of {window} and the reserve of {reserve} are more than the "
+                      f"{WINDOW[1]} that a trigger can say. Take a narrower window, or fewer.")
     return window

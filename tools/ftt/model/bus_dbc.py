@@ -12,6 +12,7 @@ from ..limits import FEW_SLOTS, FIRST_SLOT, LENGTH, TRIGGERS, WINDOW
 from ..telling import decimal
 from . import attributes
 from .bus import Entry
+from .messages import id_text
 from .polled import KIND
 
 # A DBC file has names of at most so many letters.
@@ -123,7 +124,7 @@ def number_of(it):
 
 def told_of(it):
     """What is told of a message: its name, how it is sent, and its own identifier."""
-    own = "" if it.message.id is None else f", {it.message.id:#05x} by itself"
+    own = "" if it.message.id is None else f", {id_text(it.message.id)} by itself"
     if not isinstance(it, Entry):
         return f"{it.message.name}: asynchronous{own}"
     kind = "polled" if it.message.kind == KIND else "sent"

@@ -9,9 +9,9 @@ from fractions import Fraction
 
 from ..faults import Refused
 from ..limits import LAST_ID, LENGTH
-from ..telling import decimal
+from ..telling import decimal, some
 from . import attributes
-from .messages import Message, Read
+from .messages import LAST_EXTENDED, Message, Read, is_extended
 
 NOBODY = "Vector__XXX"
 DIAGNOSIS = ("DiagRequest", "DiagResponse", "DiagState", "DiagUudResponse", "DiagUudtResponse")
@@ -55,15 +55,19 @@ def heads_of(text, mistakes):
     return [head for head in heads if head.name != "VECTOR__INDEPENDENT_SIG_MSG"]
 
 
-def why_left_out(head, form):
-    """Why the model can't have a message whose frames have this form; None where it can."""
+def why_left_out(head, form, is_mapped):
+    """Why the model can't have a message whose frames have this form; None where it can. One of 29 bits it can where those
+    are mapped."""
     if "FD" in form.upper() or form in ("14", "15"):
         return f"it is sent by CAN FD (VFrameFormat {form})"
-    if head.number >= 1 << 31:
-        return f"its identifier has 29 bits, {head.number & 0x1FFFFFFF:#x}"
-    if head.number > LAST_ID:
+    if head.length > LENGTH:
+        return f"it has {head.length} bytes, and a frame at most {LENGTH}"
+    if is_extended(head.number):
+        if not is_mapped:
+            return f"its identifier has 29 bits, {head.number & LAST_EXTENDED:#x}. --map takes it"
+    elif head.number > LAST_ID:
         return f"its identifier is {head.number:#x}, above 0x7ff"
-    return f"it has {head.length} bytes, and a frame at most {LENGTH}" if head.length > LENGTH else None
+    return None
 
 
 class Reader:
@@ -73,7 +77,7 @@ class Reader:
         self.known = known
         self.periods = ("GenMsgCycleTime",) + ((period_attribute,) if period_attribute else ())
         self.notes, self.warnings = [], []
-        self.by_event, self.too = [], []
+        self.by_event, self.too, self.silent = [], [], []
 
     def warn(self, head, what):
         """A warning about a message."""
@@ -92,7 +96,14 @@ class Reader:
         told = [sending_of(self.known.value("GenSigSendType", it) or "none")._replace(
             **({} if sending == SILENT or self.known.is_own("GenSigSendType", it) else {"is_cyclic": False}))
                 for it in signals]
-        return Sending(*(any(it) for it in zip(sending, *told)))
+        found = Sending(*(any(it) for it in zip(sending, *told)))
+        # Where nothing is said of events, a period of its own decides.
+        return Sending(True, False, False) if found == SILENT and self.has_own_cycle(head) else found
+
+    def has_own_cycle(self, head):
+        """Whether a cycle time is a message's own, or that of one of its signals, and no default."""
+        return any(self.known.is_own(it, head.number) for it in self.periods) or any(
+            self.known.is_own("GenSigCycleTime", (head.number, it)) for it in head.signals)
 
     def cycle(self, head, sending):
         """The least period that the file asks for; 0 where it asks for none."""
@@ -121,9 +132,7 @@ class Reader:
     def event(self, head, word, name, cycle):
         """Notes a message that is sent on events, and has no slot whatever its cycle time is."""
         self.by_event.append(f"{name} ({word})")
-        is_own = any(self.known.is_own(it, head.number) for it in self.periods) or any(
-            self.known.is_own("GenSigCycleTime", (head.number, it)) for it in head.signals)
-        if cycle and is_own:
+        if cycle and self.has_own_cycle(head):
             self.warn(head, f"has a cycle time of {decimal(cycle)} ms, and gets no slot: it is sent on events "
                       f"({word}). Give it a cyclic send type for a slot.")
 
@@ -136,7 +145,10 @@ class Reader:
         word = diagnosis or self.known.value("GenMsgSendType", head.number) or "no send type"
         kind, why, offset = "async", f"by its send type, {word}", Fraction(0)
         period = self.known.time("GenMsgDelayTime", head.number)
-        if diagnosis or not sending.is_cyclic:
+        if not diagnosis and sending == SILENT:
+            self.silent.append(name)
+            why = "since the file gives it neither a send type nor a period of its own"
+        elif diagnosis or not sending.is_cyclic:
             self.event(head, word, name, cycle)
         elif not cycle:
             why = f"without a period ({' or '.join(self.periods)})"
@@ -148,10 +160,24 @@ class Reader:
         return Message(head.line, name, self.sender(head), head.length, period or None, None, offset, head.number, kind,
                        0, why)
 
+    def times(self, head):
+        """What the file says of a message's times, whatever is made of it: the cycle time, the fast one, the least distance,
+        the delay of the start, and the send type."""
+        signals = [(head.number, name) for name in head.signals]
+        own = self.known.value("GenMsgSendType", head.number)
+        cycles = [self.least(self.periods, head.number), *(self.least(("GenSigCycleTime",), it) for it in signals)]
+        fast = [self.least(("GenMsgCycleTimeFast",), head.number),
+                *(self.least(("GenSigCycleTimeActive",), it) for it in signals)]
+        least = [min((it for it in times if it), default=Fraction(0)) for times in (cycles, fast)]
+        return [decimal(it, 12) if it else "" for it in (*least, self.known.time("GenMsgDelayTime", head.number),
+                                                         self.known.time("GenMsgStartDelayTime", head.number))] + [own or ""]
+
     def close(self, messages, kbits):
         """Tells what is said of all messages together."""
         if self.by_event:
             self.notes.append(f"asynchronous by their send types: {', '.join(self.by_event)}")
+        if self.silent:
+            self.notes.append(f"asynchronous, with neither a send type nor a period of their own: {', '.join(self.silent)}")
         if self.too:
             self.warnings.append(f"sent on events too, which wait for the next period here: {', '.join(self.too)}.")
         rate = self.known.rate()
@@ -172,11 +198,12 @@ def read(path, text, kbits, words, mistakes):
     if words.period_attribute and words.period_attribute not in known.of_messages:
         raise Refused(f"--period-attribute is '{words.period_attribute}': the file has no attribute of messages of "
                       f"this name. It has {', '.join(sorted(known.of_messages)) or 'none'}.")
-    reader, messages, left = Reader(known, words.period_attribute), [], []
+    reader, messages, left, times = Reader(known, words.period_attribute), [], [], {}
     for head in heads_of(text, mistakes):
-        why = why_left_out(head, known.value("VFrameFormat", head.number) or "")
+        why = why_left_out(head, known.value("VFrameFormat", head.number) or "", words.map)
         if why is None:
             messages.append(reader.message(head))
+            times[head.line] = reader.times(head)
         else:
             name = known.text("SystemMessageLongSymbol", head.number) or head.name
             left.append((head.line, f"{name} is left out: {why}."))
@@ -184,4 +211,7 @@ def read(path, text, kbits, words, mistakes):
         mistakes.lines += [f"{path}:{line}: {what}" for line, what in left]
     elif messages:
         reader.close(messages, kbits)
-    return Read(messages, reader.notes, [f"line {line}: {what}" for line, what in left] + reader.warnings)
+    if words.map and any(is_extended(it.id) for it in messages):
+        reader.notes.append(f"mapped: {some(sum(is_extended(it.id) for it in messages), 'message')} with 29-bit identifiers, "
+                            "which names.csv keeps as real_id")
+    return Read(messages, reader.notes, [f"line {line}: {what}" for line, what in left] + reader.warnings, times)

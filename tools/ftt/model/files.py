@@ -6,6 +6,7 @@ from ..faults import Unread
 from ..limits import FEW_SLOTS, OPERATIONS
 from ..telling import decimal
 from .bus import Entry
+from .messages import id_text
 
 
 def system_text(bus, owned, words, window, nodes):
@@ -23,8 +24,8 @@ def system_text(bus, owned, words, window, nodes):
 def steps_text(entries, cycles):
     """The steps file: changes of 16 operations, and the cycles."""
     text = ""
-    for it in entries:
-        start = "add,1,0" if it.slot % OPERATIONS == 0 else "and,add"
+    for place, it in enumerate(entries):
+        start = "add,1,0" if place % OPERATIONS == 0 else "and,add"
         text += (f"{start},{it.slot},{it.node},{it.length},{it.phase},{it.period},{it.deadline},"
                  f"{it.message.priority}\n")
     return text + f"cycle,{cycles}\n"
@@ -42,7 +43,7 @@ def names_text(entries, owned):
         rows.writerow([it.slot if isinstance(it, Entry) else f"{it.id:#05x}", message.name, message.sender, it.node,
                        it.period if isinstance(it, Entry) else "",
                        "" if message.period is None else decimal(message.period),
-                       "" if message.id is None else f"{message.id:#05x}", message.kind,
+                       "" if message.id is None else id_text(message.id), message.kind,
                        "" if deadline is None else decimal(deadline)])
     return out.getvalue()
 

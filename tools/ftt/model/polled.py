@@ -13,18 +13,23 @@ KIND = "polled"
 MOST = LENGTH - 1
 
 
+def whole(message, bus):
+    """The deadline of a message in whole cycles."""
+    return min(math.floor(message.deadline * bus.kbits / bus.cycle), 2 * TIMES)
+
+
 def times_of(message, bus, mistakes):
     """The phase, the period and the deadline of the slot in cycles: together they keep the message's deadline, and no
     period is above the least distance of two requests, if one is given. None where the deadline is missing."""
     if message.deadline is None:
         return None
-    exact = message.deadline * bus.kbits / bus.cycle
-    whole = min(math.floor(exact), 2 * TIMES)
-    if whole < 2:
+    cycles = whole(message, bus)
+    if cycles < 2:
+        exact = message.deadline * bus.kbits / bus.cycle
         mistakes.add(message.line, "deadline", decimal(message.deadline), f"it is {decimal(exact)} cycles, and a "
                      f"polled slot needs 2, {decimal(bus.millis(2))} ms. Take a shorter cycle, or a longer time.")
         return None
-    period = whole - whole // 2
+    period = cycles - cycles // 2
     if message.period is not None:
         period = min(period, bus.cycles(message.period, "period", message, 1, mistakes))
     phase = bus.cycles(message.offset, "offset", message, 0, mistakes)
@@ -32,7 +37,7 @@ def times_of(message, bus, mistakes):
         mistakes.add(message.line, "offset", decimal(message.offset), f"the first poll comes {some(phase, 'cycle')} "
                      f"after the start, and requests are polled every {some(period, 'cycle')}. Take less than "
                      f"{decimal(bus.millis(period))} ms.")
-    return phase, period, min(period, whole - period)
+    return phase, period, min(period, cycles - period)
 
 
 def bound(entry):

@@ -56,15 +56,16 @@ def check(bus, messages, mistakes):
                          f"times. Take at least {millis_of(bus, least)} ms.")
 
 
-def remedy(layout, streams, it, least):
-    """What to do about a message without a bound, or with one that is too late."""
-    window = bounds.widest_window(layout, streams, it.declared.stream, it.declared.deadline, least)
+def remedy(layout, streams, it, least, beside):
+    """What to do about a message without a bound, or with one that is too late. So much of the layout's window is no part
+    of the window that is asked for."""
+    window = bounds.widest_window(layout, streams, it.declared.stream, it.declared.deadline, least + beside)
     if window is not None:
-        return f"Take --window {window} or less, or write polled."
+        return f"Take --window {window - beside} or less, or write polled."
     return "Take longer periods or a higher bit rate, or write polled."
 
 
-def why_late(bus, streams, it, bound, layout, least):
+def why_late(bus, streams, it, bound, layout, least, beside):
     """What is said of a message that has no bound, or one after its deadline, and what to do."""
     message, unknown = it.owned.message, [other.id for other in streams if declared.is_any(other)]
     if bound is not None:
@@ -74,7 +75,7 @@ def why_late(bus, streams, it, bound, layout, least):
                 "like, and go first. Give that message a period, or a greater identifier.")
     else:
         said = f"has no bound: a request may still wait when the next one comes, {decimal(message.period)} ms later."
-    return f"{said} {remedy(layout, streams, it, least)}"
+    return f"{said} {remedy(layout, streams, it, least, beside)}"
 
 
 def told_bound(bus, it, bound):
@@ -94,11 +95,11 @@ def least_window(entries):
     return max(WINDOW[0], math.ceil(need), *(worst(it.length) for it in entries))
 
 
-def told(bus, owned, entries, words, window):
-    """The lines on bounds, and warnings."""
+def told(bus, owned, entries, words, window, beside=0):
+    """The lines on bounds, and warnings. So many bit times before the window are taken too."""
     if not any(is_apart(it.message) for it in owned):
         return [], []
-    layout = bounds.Layout(bus.cycle, words.turnaround, window, words.slots)
+    layout = bounds.Layout(bus.cycle, words.turnaround, window + beside, words.slots)
     every = promised_of(bus, owned)
     streams = [it.declared.stream for it in every]
     late = {it.stream.id for it, _ in declared.late_of([it.declared for it in every], layout)}
@@ -109,7 +110,7 @@ def told(bus, owned, entries, words, window):
         if it.owned.id in late:
             message = it.owned.message
             warnings.append(f"line {message.line}: {message.name} "
-                            f"{why_late(bus, streams, it, bound, layout, least)}")
+                            f"{why_late(bus, streams, it, bound, layout, least, beside)}")
     return lines, warnings
 
 

@@ -6,7 +6,7 @@ from ..frames import TRIGGER, worst
 from ..limits import HORIZON, WINDOW
 from ..system import room
 from ..telling import decimal, some
-from . import polled, promised
+from . import disturbed, polled, promised
 from .dbc import NOBODY
 
 
@@ -77,19 +77,22 @@ def told(bus, entries, owned, words, window, nodes):
     period = common_period(entries)
     most, is_exact = released(entries, period)
     settled = max((it.phase for it in entries), default=0)
-    free = room(bus.cycle, words.slots, words.turnaround) - window
+    beside = disturbed.beside_window(words, entries)
+    free = room(bus.cycle, words.slots, words.turnaround) - window - beside
     lines.append(f"cycle: {decimal(bus.millis(1), 6)} ms at {decimal(bus.kbits)} kbit/s is {bus.cycle} bit times")
     asked = [it for it in entries if it.message.kind == polled.KIND]
     lines.append(f"messages: {len(entries) - len(asked)} synchronous, {f'{len(asked)} polled, ' if asked else ''}"
                  f"{len(owned)} asynchronous, of {some(len(nodes), 'sender')}")
     lines += [f"rounded: {said}" for said in bus.said or ["nothing"]]
     lines += [f"polled: {polled.told(it, bus)}" for it in asked]
-    bounds, late = promised.told(bus, owned, entries, words, window)
+    bounds, late = promised.told(bus, owned, entries, words, window, beside)
     lines += bounds
     lines.append(f"need: {decimal(need, 1)} bit times a cycle on average, at {'worst' if is_exact else 'most'} {most} "
                  "released in one cycle")
     lines.append(f"window: at least {max(longest, WINDOW[0])} for one longest frame; {window} is taken")
     lines.append(f"asynchronous time: {free} bit times in a cycle with a full window")
+    errors, short = disturbed.told(bus, entries, words, window)
+    lines += errors
     whole, share = share_of(bus, words, need, owned)
     lines.append(share)
     if whole >= 1:
@@ -105,7 +108,7 @@ def told(bus, entries, owned, words, window, nodes):
     if owned and free < max(worst(it.message.length) for it in owned):
         warnings.append(f"a cycle with a full window has {free} bit times of asynchronous time, too few for the "
                         "longest frame. Take a narrower window.")
-    warnings += late
+    warnings += late + short
     for it in entries + owned:
         if it.message.sender == NOBODY:
             warnings.append(f"line {it.message.line}: {it.message.name} has no sender. A node of its own, {NOBODY}, "

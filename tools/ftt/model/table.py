@@ -1,17 +1,19 @@
 """Messages of a CSV file with a header row."""
 import csv
+import functools
 import io
 import re
 from fractions import Fraction
 
 from ..faults import Refused
-from ..limits import LENGTH, PRIORITY
+from ..limits import LENGTH, MANY_SLOTS, PRIORITY
 from ..telling import close
 from . import polled
-from .messages import Message, Read, read_id, read_time, read_whole
+from .amounts import Amounts
+from .messages import Message, Mistakes, Read, read_id, read_time, read_whole
 
 NEEDED = ("name", "sender", "length", "period")
-COLUMNS = (*NEEDED, "deadline", "offset", "id", "kind", "priority")
+COLUMNS = (*NEEDED, "deadline", "offset", "id", "kind", "priority", "slot")
 TIMES = ("period", "deadline", "offset")
 SEPARATORS = (",", ";", "\t")
 # What other lists of messages call these columns.
@@ -19,17 +21,22 @@ OTHER_NAMES = {
     "message": "name", "message name": "name", "signal": "name", "frame": "name", "node": "sender", "ecu": "sender",
     "transmitter": "sender", "source": "sender", "dlc": "length", "bytes": "length", "size": "length", "len": "length",
     "data bytes": "length", "cycle": "period", "cycle time": "period", "cycletime": "period", "interval": "period",
-    "phase": "offset", "identifier": "id", "can id": "id", "type": "kind", "prio": "priority"}
+    "phase": "offset", "identifier": "id", "can id": "id", "type": "kind", "prio": "priority",
+    "nachricht": "name", "botschaft": "name", "absender": "sender", "knoten": "sender", "steuergerät": "sender",
+    "länge": "length", "datenlänge": "length", "periode": "period", "zykluszeit": "period", "zyklus": "period",
+    "frist": "deadline", "versatz": "offset", "kennung": "id", "typ": "kind", "priorität": "priority"}
+# The unit that the name of a column of times may end with.
+UNIT = re.compile(r"_ms|\s*[(\[]\s*ms\s*[)\]]")
 
 
 def column_of(name):
     """The column that a name in the header row means, or None, and whether the name is the column's own, or only near
     it."""
     word = name.strip().lower()
-    short = word[:-3] if word in [f"{it}_ms" for it in TIMES] else word
+    short = next((it for it in TIMES if word.startswith(it) and UNIT.fullmatch(word[len(it):])), word)
     if short in COLUMNS:
         return short, "own"
-    plain = re.sub(r"[^a-z]+", " ", re.sub(r"[(\[].*|\bms$", "", word.replace("_", " "))).strip()
+    plain = re.sub(r"[^a-zäöü]+", " ", re.sub(r"[(\[].*|\bms$", "", word.replace("_", " "))).strip()
     if plain in OTHER_NAMES:
         return OTHER_NAMES[plain], "other"
     near = close(plain, COLUMNS)
@@ -68,7 +75,7 @@ def separator_of(text, columns=None):
     def is_column(name):
         if columns is None:
             return column_of(name)[0] is not None
-        return re.sub("_ms$", "", name.strip().lower()) in columns
+        return UNIT.sub("", name.strip().lower()) in columns
     first = next((row for row in text.splitlines() if row.strip(" ,;\t") and not row.lstrip().startswith("#")), "")
     return max(SEPARATORS, key=lambda it: sum(is_column(name) for row in csv.reader([first], delimiter=it)
                                               for name in row))
@@ -82,7 +89,17 @@ def no_header(row, line, mistakes):
     mistakes.stop()
 
 
-def message_of(field, line, mistakes):
+def slot_of(field, kind, line, mistakes):
+    """The slot of a row; None where it gives none."""
+    if not field("slot"):
+        return None
+    if kind == "async":
+        mistakes.add(line, "slot", field("slot"), "an asynchronous message has none. Leave it out, or write sync.")
+        return None
+    return read_whole(field("slot"), None, MANY_SLOTS - 1, line, "slot", mistakes, "Leave it out for any other slot.")
+
+
+def message_of(field, line, amounts, is_mapped, mistakes):
     """The message of a row, whose fields are asked for by their columns."""
     kind = field("kind").lower() or "sync"
     if kind not in ("sync", "async", polled.KIND):
@@ -104,41 +121,89 @@ def message_of(field, line, mistakes):
         read_whole(field("length"), None, polled.MOST if kind == polled.KIND else LENGTH, line, "length", mistakes,
                    "Its frame has one byte more." if kind == polled.KIND else
                    "Part longer messages into frames of at most 8 bytes."),
-        read_time(field("period"), kind == "sync", line, "period", mistakes),
-        read_time(field("deadline"), False, line, "deadline", mistakes),
-        read_time(field("offset"), False, line, "offset", mistakes) or Fraction(0),
-        read_id(field("id"), line, mistakes), kind,
-        read_whole(field("priority"), 0, PRIORITY, line, "priority", mistakes, "The lower one goes first."), "")
+        read_time(field("period"), kind == "sync", line, "period", mistakes, amounts),
+        read_time(field("deadline"), False, line, "deadline", mistakes, amounts),
+        read_time(field("offset"), False, line, "offset", mistakes, amounts) or Fraction(0),
+        read_id(field("id"), line, mistakes, is_mapped), kind,
+        read_whole(field("priority"), 0, PRIORITY, line, "priority", mistakes, "The lower one goes first."), "",
+        slot_of(field, kind, line, mistakes))
 
 
-def read(path, text, mistakes):
-    """The messages of a CSV file."""
-    columns, extra, messages, before = None, [], [], 0
-    hint = re.match(r"sep=([,;\t])\r?\n", text)
-    separator = hint[1] if hint else separator_of(text)
-    # The row of the hint is a comment to what follows.
-    reader = csv.reader(io.StringIO("#" + text if hint else text, newline=""), delimiter=separator)
-    for row in reader:
+def rows_in(path, text, separator):
+    """The rows of a text that are none of comments, each with its line. A quote that is not closed is refused, since it
+    takes the rest of the file."""
+    before, reader = 0, csv.reader(io.StringIO(text, newline=""), delimiter=separator, strict=True)
+    while True:
+        try:
+            row = next(reader)
+        except StopIteration:
+            return
+        except csv.Error as fault:
+            line = before + 1
+            if "end of data" in str(fault):
+                raise Refused(f"{path}:{line}: a quote is opened in this line, and none closes it. Close it, or take it "
+                              "away.") from fault
+            what = "a field is too long" if "limit" in str(fault) else str(fault)
+            raise Refused(f"{path}:{line}: {what}. Is it a list of messages?") from fault
         line, before = before + 1, reader.line_num
-        if not any(field.strip() for field in row) or row[0].lstrip().startswith("#"):
-            continue
-        if columns is None:
-            no_header(row, line, mistakes)
-            columns, extra = header_of(row, line, mistakes)
-            width = len(row)
-            continue
+        if any(field.strip() for field in row) and not row[0].lstrip().startswith("#"):
+            yield line, row
+
+
+def separated(text):
+    """What stands between the fields of a list, and its text. A first row that says so is a comment to what follows."""
+    hint = re.match(r"sep=([,;\t])\r?\n", text)
+    return (hint[1], "#" + text) if hint else (separator_of(text), text)
+
+
+def read(path, text, mistakes, is_mapped=False):
+    """The messages of a CSV file. Identifiers of 29 bits are taken where they are mapped."""
+    separator, text = separated(text)
+    rows = list(rows_in(path, text, separator))
+    if not rows:
+        raise Refused(f"{path}:1: there is no header row. Name the columns in the first row: {', '.join(COLUMNS)}.")
+    (line, header), *rows = rows
+    no_header(header, line, mistakes)
+    columns, extra = header_of(header, line, mistakes)
+    width = len(header)
+
+    def value(row, name):
+        place = columns.get(name)
+        return row[place].strip() if place is not None and place < len(row) else ""
+
+    amounts = Amounts(separator, (value(row, name) for _, row in rows for name in TIMES))
+    messages = []
+    for line, row in rows:
         if any(field.strip() for field in row[width:]):
             mistakes.add(line, f"field {width + 1}", next(f for f in row[width:] if f.strip()),
                          f"the header has {width} columns. A value with a comma stands in double quotes.")
             continue
-
-        def field(name, fields=row):
-            place = columns.get(name)
-            value = fields[place].strip() if place is not None and place < len(fields) else ""
-            return value.replace(",", ".") if separator != "," and name in TIMES else value
-
-        messages.append(message_of(field, line, mistakes))
-    if columns is None:
-        raise Refused(f"{path}:1: there is no header row. Name the columns in the first row: {', '.join(COLUMNS)}.")
+        messages.append(message_of(functools.partial(value, row), line, amounts, is_mapped, mistakes))
     notes = [f"left out: the column{'' if len(extra) == 1 else 's'} {', '.join(extra)}"] if extra else []
     return Read(messages, notes, [])
+
+
+def with_offsets(path, text, offsets):
+    """The text of a list with other offsets, in milliseconds by the lines of the messages. All else stays as it is; a list
+    without this column gets it as its last one."""
+    separator, text = separated(text)
+    rows = {line: row for line, row in rows_in(path, text, separator)}
+    head = min(rows)
+    columns, _ = header_of(rows[head], head, Mistakes(path))
+    place, width = columns.get("offset"), len(rows[head])
+    has_commas = Amounts(separator, (row[columns[name]].strip() for line, row in rows.items() for name in TIMES
+                                     if line != head and columns.get(name, width) < len(row))).has_commas
+    out, lines, at = io.StringIO(), text.splitlines(True), 1
+    writer = csv.writer(out, delimiter=separator, lineterminator="\n")
+    for line, row in rows.items():
+        out.write("".join(lines[at - 1:line - 1]))
+        row = row[:width] + [""] * (width - len(row)) + ([""] if place is None else [])
+        if line == head and place is None:
+            row[-1] = "offset"
+        elif line in offsets:
+            row[-1 if place is None else place] = offsets[line].replace(".", ",") if has_commas else offsets[line]
+        writer.writerow(row)
+        # A field may go over lines.
+        at = line + 1 + sum(field.count("\n") for field in row)
+    out.write("".join(lines[at - 1:]))
+    return out.getvalue().removeprefix("#") if text.startswith("#sep=") else out.getvalue()

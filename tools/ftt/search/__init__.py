@@ -2,15 +2,17 @@
 
     tools/fttsearch MESSAGES --cycle-us RANGE --kbits RANGE [--slots N,..] [--window RANGE] [--policy P,..] [--fill F,..]
                              [--deadline RANGE] [--period NAME=RANGE].. [--turnaround N] [--horizon N] [--refine]
-                             [--headroom [--add RANGE]] [--rounding FILE] [--csv FILE | --resume FILE] [--svg FILE]
-                             [--jobs N] [--engine KIND]
+                             [--headroom [--add RANGE]] [--rounding FILE] [--errors] [--csv FILE | --resume FILE]
+                             [--svg FILE] [--jobs N] [--engine KIND]
     tools/fttsearch SYSTEM STEPS [--window RANGE] [--policy P,..] [--fill F,..] [--deadline RANGE]
-                                 [--period SLOT=RANGE].. [--bounds FILE] [--refine | --part K/N]
+                                 [--period SLOT=RANGE].. [--bounds FILE] [--errors] [--refine | --part K/N]
                                  [--csv FILE | --resume FILE] [--svg FILE] [--jobs N] [--engine KIND]
     tools/fttsearch --join FILE.. [--csv FILE] [--svg FILE]
     tools/fttsearch (SYSTEM STEPS | MESSAGES ..) --offsets [--out FILE] [--keep SLOT,..] [--seconds S] [--rounds N]
                                                  [--seed N] [--csv FILE] ..
     tools/fttsearch .. --scheduler ADDRESS [--tls-ca FILE --tls-cert FILE --tls-key FILE]
+    tools/fttsearch --switch KBITS CYCLE_US BEFORE AFTER ..
+    tools/fttsearch --ask SYSTEM STEPS ..
 
 A RANGE is FIRST:LAST, FIRST:LAST:STEP or a number, or some of these with commas. A point is accepted if the master accepts
 each change, as the program answers it.
@@ -39,13 +41,16 @@ so that several machines share a grid, and --join reads the rows of all parts. A
 
 --offsets looks for phases by which the least window is narrower. It says each window with the phases of the files and
 with those that were found, which the program has accepted. --out writes the steps with them whenever a better window is
-found.
+found, or the list with them as offsets.
+
+--switch and --ask try changes of a running plan before each cycle in which they may be asked for: --switch --help and
+--ask --help.
 
 --scheduler lets the workers of a scheduler of dask.distributed answer: on this machine by tcp://, on others by tls://.
 
 If FTTCAN names a program, that one answers, a process for each point. Otherwise the library libfttcan.so.1 answers in
 this process, through the package fttcan, if it is found. If not, the program answers that ./fttcan at the top of the
-repository builds; or, for an installed fttsearch, the fttcan beside it or on the path. All answer the same.
+repository has built; or, for an installed fttsearch, the fttcan beside it or on the path. All answer the same.
 
 The least windows of messages in milliseconds, at two rates, in the cycles that fit their periods:
 
@@ -60,8 +65,9 @@ This program is a help for people. Nothing of it is proved, and nothing that is 
 import argparse
 import os
 import re
+import sys
 
-from ..command import Parser, needs_tomllib, takes_version
+from ..command import Help, Parser, needs_tomllib, takes_version
 from ..limits import HORIZON, TURNAROUND, USUAL_HORIZON
 from .engine import KINDS
 
@@ -90,7 +96,8 @@ def slots_of(text):
 def takes_offsets(made):
     """The words of the search for phases."""
     made.add_argument("--offsets", action="store_true", help="look for phases by which the least window is narrower")
-    made.add_argument("--out", metavar="FILE", help="write the steps with the best phases")
+    made.add_argument("--out", metavar="FILE", help="write the steps with the best phases; of a list, the "
+                      "list with them as offsets")
     made.add_argument("--keep", metavar="SLOT,..", type=slots_of, help="leave the phases of these slots as they are")
     made.add_argument("--seconds", metavar="S", type=seconds_of, help="look at most so long at each point; without it, 10")
     made.add_argument("--rounds", metavar="N", type=jobs_of, help="make at most so many rounds at each point. The "
@@ -118,7 +125,7 @@ def within(low, high):
 
 def parser():
     """The reader of the words."""
-    made = Parser(prog="fttsearch", description=__doc__, formatter_class=argparse.RawDescriptionHelpFormatter)
+    made = Parser(prog="fttsearch", description=__doc__, formatter_class=Help)
     made.add_argument("files", metavar="FILE", nargs="*", help="MESSAGES; or SYSTEM and STEPS; or with --join the tables")
     made.add_argument("--cycle-us", metavar="RANGE", help="of a list: elementary cycles in microseconds. A step may be "
                       "`fit`: the cycles in which some period or deadline is a whole number of cycles")
@@ -135,6 +142,8 @@ def parser():
                       "turnaround in bit times; without it 0")
     made.add_argument("--horizon", metavar="N", type=within(*HORIZON), default=None, help="of a list: within how many "
                       "cycles a plan has to repeat; without it 10000")
+    made.add_argument("--errors", action="store_true", help="tell for how many disturbances of each window the least window "
+                      "leaves room, and beside it the cycle")
     made.add_argument("--refine", action="store_true", help="try an axis of numbers coarsely, and then between an accepted "
                       "and a refused neighbour, down to the step; windows of a list are always refined if --window "
                       "is left out")
@@ -156,6 +165,10 @@ def parser():
     made.add_argument("--engine", choices=KINDS, help="what answers: the library in this process, or the program, a "
                       "process for each point; without it, the program if FTTCAN names one, otherwise the library if "
                       "it is found, otherwise the program")
+    made.add_argument("--switch", action="store_true", help="alone, in front: try the switch from one list of messages to "
+                      "another before each cycle; --switch --help says the words")
+    made.add_argument("--ask", action="store_true", help="alone, in front: try the changes of SYSTEM and STEPS that are asked "
+                      "for while something runs before each cycle; --ask --help says the words")
     takes_offsets(made)
     takes_scheduler(made)
     made.add_argument("--jobs", metavar="N", type=jobs_of, default=len(os.sched_getaffinity(0)),
@@ -168,6 +181,8 @@ def words_of():
     """The words of the call."""
     reader = parser()
     words = reader.parse_intermixed_args()
+    if words.switch or words.ask:
+        reader.error("--switch and --ask stand in front")
     if words.join and not words.files or not words.join and len(words.files) not in (1, 2):
         reader.error("MESSAGES is needed, or SYSTEM and STEPS, or --join and tables")
     is_list = not words.join and len(words.files) == 1
@@ -179,6 +194,8 @@ def words_of():
                      "list")
     if words.bounds and (is_list or words.join):
         reader.error("--bounds is for SYSTEM and STEPS")
+    if words.errors and (words.join or words.offsets or words.part):
+        reader.error("--errors is for a whole grid of windows")
     if words.part and (is_list or words.refine):
         reader.error("--part takes a grid that is tried whole")
     if words.add and not words.headroom:
@@ -190,6 +207,7 @@ def words_of():
         reader.error("--resume takes a file, which is the table: leave --csv out")
     if words.csv == words.svg == "-":
         reader.error("--csv and --svg can't both be standard output")
+    words.is_horizon_asked = words.horizon is not None
     words.turnaround, words.horizon = words.turnaround or 0, words.horizon or USUAL_HORIZON
     if not words.scheduler and any((words.tls_ca, words.tls_cert, words.tls_key)):
         reader.error("--tls-ca, --tls-cert and --tls-key are for --scheduler")
@@ -211,5 +229,8 @@ def words_of():
 def main():
     """Tries the points or joins tables, and tells what was found. The status."""
     needs_tomllib("fttsearch")
+    if sys.argv[1:2] in (["--ask"], ["--switch"]):
+        from ..switch import main as switched  # pylint: disable=import-outside-toplevel
+        return switched(sys.argv[1:])
     from .run import run  # pylint: disable=import-outside-toplevel
     return run(words_of())

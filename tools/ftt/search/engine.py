@@ -320,12 +320,23 @@ def module_engine():
 
 
 def program_engine():
-    """The engine of the program. The launcher of a checkout builds it first, and what it says of that is shown."""
+    """The engine of the program: the one that FTTCAN names; else, in a checkout, the one that its launcher has built. A
+    search builds none, since that takes long. Else the program that is installed."""
     named, usual = os.environ.get("FTTCAN"), places.program()
-    if not named and usual is None:
+    if named:
+        return ProgramEngine(named)
+    if usual is None:
         raise Failed("There is no program to ask: no fttcan is beside fttsearch, and none on the path. With "
                      "FTTCAN=fttcan-reference in front, fttsearch asks a plain program: slower, and not proved.")
-    return ProgramEngine(named or usual)
+    if not places.checkout():
+        return ProgramEngine(usual)
+    place, _, status = CALLS.make(usual, ["where"])
+    if status != 0:
+        raise Failed("There is no program to ask: ./fttcan has built none of these sources, and a search builds none. With "
+                     f"FTTCAN={places.TOOLS}/reference in front, fttsearch asks a plain program: slower, and not proved. "
+                     "`./fttcan replay SYSTEM STEPS` proves and builds one, and docs/BUILDING.md says how to keep one without "
+                     "proofs.")
+    return ProgramEngine(place.strip())
 
 
 def engine(words):
@@ -344,38 +355,29 @@ def engine(words):
 
 def first_call(asked, words):
     """Asks of the files as they are, and gives the engine for the points. What the program writes to standard error is
-    shown, as how far a build is."""
+    shown."""
     if asked.kind == MODULE:
         check_files(asked, words)
         return asked
-    named = os.environ.get("FTTCAN")
     _, _, status = CALLS.make(asked.path, ["replay", words.system, words.steps], None)
     if status == 3:
-        refuse(words, named or not places.checkout())
+        refuse(words)
     return built(asked, status)
 
 
 def built(asked, status=None):
-    """The engine for the points. The launcher of a checkout builds its program with the first call, which is made here
-    where no status of one is given, and is asked for the program that it has built."""
+    """The engine for the points. Where no status of a call is given, one is made, which shows whether there is a program."""
     if asked.kind == MODULE:
         return asked
-    named = os.environ.get("FTTCAN")
     if status is None:
         with tempfile.TemporaryDirectory(prefix="fttsearch.") as room:
             files = [os.path.join(room, name) for name in ("system.toml", "steps.csv")]
             for path, text in zip(files, ("[bus]\ncycle = 400\nwindow = 55\nnodes = 1\n", "cycle,0\n")):
                 pathlib.Path(path).write_text(text, encoding="utf-8")
             _, _, status = CALLS.make(asked.path, ["replay", *files], None)
-    if status in (126, 127) and not named and places.checkout():
-        raise Failed(f"There is no program to ask. With FTTCAN={places.TOOLS}/reference in front, fttsearch asks a "
-                     "plain program: slower, and not proved.")
     if status not in (0, 1):
         raise Failed(f"{asked.path}: it ended with status {status}.")
-    if named or not places.checkout():
-        return asked
-    place, _, status = CALLS.make(asked.path, ["where"])
-    return ProgramEngine(place.strip()) if status == 0 else asked
+    return asked
 
 
 def check_files(asked, words):
@@ -385,10 +387,9 @@ def check_files(asked, words):
     said = asked.answer(system, steps)
     if not said.accepted and said.change is None:
         print(said.why.replace("; ", "\n"), file=sys.stderr)
-        refuse(words, True)
+        refuse(words)
 
 
-def refuse(words, is_advised):
-    """Refuses the files of a call. The launcher gives its advice by itself."""
-    more = f" {places.tool('fttlint')} {words.system} {words.steps} tells what to do." if is_advised else ""
-    raise Refused(f"fttcan refuses a file.{more}")
+def refuse(words):
+    """Refuses the files of a call."""
+    raise Refused(f"fttcan refuses a file. {places.tool('fttlint')} {words.system} {words.steps} tells what to do.")

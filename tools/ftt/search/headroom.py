@@ -11,7 +11,7 @@ from ..limits import LENGTH
 from ..model import polled
 from ..model.bus import KINDS
 from ..telling import decimal, listed
-from .grid import Amount
+from .grid import Amount, Answer
 from .listed import Placing, Unfit, changed, entries_at
 from .refined import searched
 
@@ -69,7 +69,7 @@ class Point:
     def added(self, engine, period):
         """How many messages of 8 bytes with a period are accepted, one more each time; and why the next one is not."""
         one = next(it for it in self.messages if it.kind in KINDS)._replace(
-            length=LENGTH, period=Fraction(period), deadline=None, offset=Fraction(0), id=None, kind="sync", priority=0)
+            length=LENGTH, period=Fraction(period), deadline=None, offset=Fraction(0), id=None, kind="sync", priority=0, slot=None)
         many = 0
         while True:
             more = [one._replace(name=f"{one.name} {place}", line=-1 - place) for place in range(many + 1)]
@@ -87,19 +87,35 @@ class Point:
         """The least deadline of a message that is accepted with all of those between it and its own, in cycles; and its
         own. Deadlines are tried coarsely first."""
         placing = self.placing(self.messages)
-        at, own = next((at, it.deadline) for at, it in enumerate(placing.placed) if it.message.name == name)
+        at, it = next((at, it) for at, it in enumerate(placing.placed) if it.message.name == name)
+        if it.message.kind == polled.KIND:
+            first, own, ask = 2, polled.whole(it.message, placing.bus), self.asks_polled(engine, placing, name)
+        else:
+            first, own = 1, it.deadline
 
-        def ask(deadline):
-            placed = list(placing.placed)
-            placed[at] = placed[at]._replace(deadline=deadline)
-            return self.ask(engine, placing, entries_at(placed))
+            def ask(deadline):
+                placed = list(placing.placed)
+                placed[at] = placed[at]._replace(deadline=deadline)
+                return self.ask(engine, placing, entries_at(placed))
 
-        tried, least = searched(range(1, own + 1), ask), own
+        tried, least = searched(range(first, own + 1), ask), own
         for deadline in sorted(tried, reverse=True):
             if not tried[deadline].accepted:
                 break
             least = deadline
         return least, own
+
+    def asks_polled(self, engine, placing, name):
+        """What asks for a polled message with another deadline in cycles: of its slot PERIOD and DEADLINE follow from it,
+        as in the list."""
+        def ask(deadline):
+            time = placing.bus.millis(deadline)
+            try:
+                return self.ask(engine, self.placing([it._replace(deadline=time) if it.name == name else it
+                                                      for it in self.messages]))
+            except Unfit as fault:
+                return Answer(False, None, str(fault))
+        return ask
 
 
 class HeadroomQuestion:
@@ -138,7 +154,8 @@ def miss_told(placing, said):
     if word != "miss":
         return said.why.replace(",", " ")
     slot, release, cycle = map(int, numbers)
-    return (f"{placing.placed[slot].message.name} in slot {slot}: what is released in cycle {release} is not sent by cycle "
+    name = next(it.message.name for it in placing.placed if it.slot == slot)
+    return (f"{name} in slot {slot}: what is released in cycle {release} is not sent by cycle "
             f"{cycle}")
 
 
@@ -188,10 +205,9 @@ def rows(base, placing, answers):
     table = [f"{'message':{width}}  {'period':>8}  {'deadline':>8}  {'cut to':>8}  {'without':>8}  {'slower':>8}"]
     for it in placing.placed:
         name = it.message.name
-        more = polled.bound(it) - it.deadline if it.message.kind == polled.KIND else 0
         cut, own = answers[CUT, name]
-        texts = [decimal(bus.millis(it.period)), decimal(bus.millis(own + more)),
-                 decimal(bus.millis(cut + more)) if base.said.accepted else "",
+        texts = [decimal(bus.millis(it.period)), decimal(bus.millis(own)),
+                 decimal(bus.millis(cut)) if base.said.accepted else "",
                  *("refused" if not said or said.least is None else str(said.least)
                    for said in (answers[WITHOUT, name], answers[SLOWER, name]))]
         table.append(f"{name:{width}}  " + "  ".join(f"{text:>8}" for text in texts))

@@ -4,6 +4,7 @@ The list is that of fttmodel, and so are slots, nodes and rounding: a table here
 steps.csv. Only the window is left open.
 """
 import math
+import sys
 from collections import namedtuple
 from fractions import Fraction
 
@@ -14,7 +15,7 @@ from .. import declared
 from ..bounds import Layout
 from ..model import nodes_of, polled, promised, table
 from ..model.bus import KINDS, Bus, alike, entries_of, owned_of
-from ..model.messages import Mistakes, text_of
+from ..model.messages import Mistakes, read_text
 from ..model.said import common_period
 from ..system import room
 from .bounds import first_late
@@ -31,7 +32,10 @@ Rounded = namedtuple("Rounded", "message period taken deadline kept added")
 def read(path):
     """The messages of a list. They are refused where fttmodel refuses them on any bus."""
     mistakes = Mistakes(path)
-    messages = table.read(path, text_of(path), mistakes).messages
+    text, encoding = read_text(path)
+    if encoding is not None:
+        print(f"fttsearch: {path}: {encoding}", file=sys.stderr)
+    messages = table.read(path, text, mistakes).messages
     if not messages and not mistakes.lines:
         raise Refused(f"{path}:1: there are no messages. Write a row for each.")
     alike(messages, mistakes)

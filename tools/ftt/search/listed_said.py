@@ -8,8 +8,10 @@ from ..model.bus import KINDS
 from ..model.said import percent
 from ..telling import decimal, listed, some
 
+from . import disturbed
 from .listed import Unfit, rounded
-from .said import axis_name, jumps, label, value_name
+from .reasons import HORIZON, MISS, NO_BOUND, NO_ROOM, NO_TABLE, TOO_LATE, kind_of
+from .said import axis_name, jumps, label, told_bounded, value_name
 
 # So many messages are named in a sentence.
 SHOWN = 5
@@ -119,9 +121,33 @@ def told_rate(source, lines, rate):
         cycles[lines.values(one)["cycle_us"]] = cycles.get(lines.values(one)["cycle_us"], False) or good
     good = [cycle for cycle, is_good in cycles.items() if is_good]
     said.append(f"{rate} kbit/s: accepted cycles: {len(good)} of {len(cycles)} tried, from {min(good)} to {max(good)} us")
+    said += told_fallen(lines, of_rate, rate)
     said += [told_extra(lines, of_rate, line, name, rate) for name in extra]
     said.append(f"{rate} kbit/s: {told_rounding(placing)}")
     return said
+
+
+# Why cycles fell, in the order in which a cycle is told of: the first of these that some point of it has.
+WHYS = {NO_BOUND: "to an asynchronous message without a bound", TOO_LATE: "to a bound that is after its deadline",
+        MISS: "to a missed deadline", HORIZON: "to the horizon", NO_ROOM: "since no window has room",
+        NO_TABLE: "since the list has no table there"}
+
+
+def told_fallen(lines, of_rate, rate):
+    """Why the cycles of a rate fell that are not accepted; nothing where all are."""
+    kinds, good = {}, set()
+    for line, windows in of_rate.items():
+        cycle = lines.values(line)["cycle_us"]
+        kinds.setdefault(cycle, set()).update(kind_of(said) for said in windows.values())
+        good |= {cycle} if least_of(windows) is not None else set()
+    counts = {}
+    for cycle, of_one in kinds.items():
+        if cycle not in good:
+            kind = next((kind for kind in WHYS if kind in of_one), None)
+            counts[kind] = counts.get(kind, 0) + 1
+    parts = [f"{counts[kind]} {WHYS[kind]}" for kind in WHYS if kind in counts]
+    parts += [f"{counts[None]} to other verdicts"] if None in counts else []
+    return [f"{rate} kbit/s: cycles that fell: {', '.join(parts)}"] if parts else []
 
 
 def told_extra(lines, of_rate, line, name, rate):
@@ -160,14 +186,16 @@ def none_accepted(source, of_rate, rate):
             f"{rate} kbit/s: most often refused, at {some(len(same), 'point')}, with such as: {same[0]}"]
 
 
-def told_axis(names, found, axis):
+def told_axis(source, names, found, axis):
     """Whether something is refused above what is accepted along an axis, of what was tried."""
-    many, bad = jumps(names, found, axis)
+    many, bad, bounded = jumps(names, found, axis)
+    called = {it.id: it.name for it in source.messages if it.id is not None}
+    lines = told_bounded(names, bounded, many, axis, called)
     if not bad:
-        return []
+        return lines
     rest, one, other = bad[0]
     where = label(names, rest, (axis,))
-    return [f"not monotone: in {len(bad)} of {some(many, 'line')} along the {axis}, first {where}: {one} is accepted and "
+    return [*lines, f"not monotone: in {len(bad)} of {some(many, 'line')} along the {axis}, first {where}: {one} is accepted and "
             f"{other} is not"]
 
 
@@ -176,16 +204,27 @@ def told_refined(grid):
     return f"refined: {listed(grid.refined)}; a border between two tried values of the same answer is not found"
 
 
-def told(source, grid, found):
-    """The sentences on a list."""
+def told_errors(source, lines, rate):
+    """For how many disturbances a cycle has room beside the least window, at the best cycle of a rate."""
+    best = best_of(source, lines, rate)
+    if best is None:
+        return []
+    values, least = lines.values(best[0]), best[1]
+    placing = source.placing(values)
+    size = max((entry.length for entry in placing.placed), default=0)
+    return [disturbed.told_list(rate, placing.bus.cycle, values["slots"], source.turnaround, least, size)]
+
+
+def told(source, grid, found, has_errors=False):
+    """The sentences on a list, where it is asked for also those on disturbances."""
     lines = Lines(grid.names, found)
     count = sum(said.accepted for said in found.values())
     said = [f"points: {len(found)} tried in {some(len(lines.lines), 'line')}, {count} accepted"]
     if grid.refined:
         said.append(told_refined(grid))
     for rate in lines.rates():
-        said += told_rate(source, lines, rate)
-    said += told_axis(grid.names, found, "window")
+        said += told_rate(source, lines, rate) + (told_errors(source, lines, rate) if has_errors else [])
+    said += told_axis(source, grid.names, found, "window")
     return said
 
 

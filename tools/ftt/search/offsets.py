@@ -167,7 +167,7 @@ class Offsets:
 
     def __init__(self):
         self.names, self.found, self.points, self.many = [], {}, [], 0
-        self.table, self.steps, self.text, self.endless = None, None, "", []
+        self.table, self.steps, self.text, self.endless, self.case = None, None, "", [], None
 
     def open(self, words, subject):
         """Looks at the words, and opens the outputs."""
@@ -242,6 +242,7 @@ class Offsets:
 
     def point(self, words, asked, case, values):
         """The search at a point."""
+        self.case = case
         bus = case.document["bus"]
         space = room(bus["cycle"], bus.get("slots", FEW_SLOTS), bus.get("turnaround", 0))
         judge = Judge(asked, case, values, self.window_range(words, messages_of(case.text), space))
@@ -283,7 +284,7 @@ class Offsets:
     def write(self, values, point):
         """Writes the steps, where they are asked for: what can't be written anew, as standard output, at the end alone."""
         if self.steps:
-            self.text = with_phases(point.judge.case.written, self.found[values].phases or {})
+            self.text = point.judge.case.written(self.found[values].phases or point.phases())
             if self.steps.is_regular:
                 self.steps.begin()
                 self.steps.put(self.text)
@@ -316,14 +317,14 @@ class Offsets:
         if any(it.after is not None and it.after != it.bound for it in self.found.values()):
             lines.append(f"Windows were found by halving, and the {NEAR} below each were tried too. Acceptance need not be "
                          "monotone, so a narrower one may be accepted.")
-        if words.out and any(it.after is not None for it in self.found.values()):
-            lines.append(f"written: {words.out}; the system file has to have {listed(self.keys())}")
+        if words.out and self.case is not None and any(it.after is not None for it in self.found.values()):
+            keys = self.keys() if words.steps else [f"--{key.replace(' = ', ' ').replace(chr(34), '')}" for key in self.keys()]
+            lines.append(f"written: {words.out}; {self.case.needs.format(listed(keys))}")
         print("\n".join(lines), flush=True, file=sys.stderr if "-" in (words.csv, words.out) else None)
 
     def phases(self):
         """A line of the phases of the only point, where others than those of the files were found."""
-        return [f"phases: {', '.join(f'slot {slot} {phase}' for slot, phase in found.phases.items())}"
-                for found in self.found.values() if found.phases]
+        return [self.case.told(found.phases) for found in self.found.values() if found.phases]
 
     def keys(self):
         """What the system file of the only point has to have."""

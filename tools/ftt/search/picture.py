@@ -4,22 +4,17 @@ import itertools
 from fractions import Fraction
 
 from .alike import together
+from .reasons import kind_of
 from .said import axis_name, label, lines_along, wide_axes, with_unit
 
 # What a picture paints by the first word of what is said of a point: a colour, and the lines on it in a square of 6 by 6.
 KINDS = {"accepted": ("#8d8", ""), "miss": ("#e99", "M0 6L6 0M-1 1L1 -1M5 7L7 5"), "horizon": ("#fd8", "M0 3H6"),
          "refused file": ("#ddd", "M1 1H2M4 4H5"), "malformed": ("#cbe", "M0 0L6 6M-1 5L1 7M5 -1L7 1"),
-         "passed": ("#bcd", "M3 0V6")}
+         "passed": ("#bcd", "M3 0V6"), "no bound": ("#8cf", "M0 1.5H6M0 4.5H6"), "late bound": ("#bdf", "M0 1.5H6"),
+         "no room": ("#eee", "M1 1H2M4 1H5M1 4H2M4 4H5"), "no table": ("#fff", "M3 3H4")}
 OTHER = ("#cdd", "M0 3H6M3 0V6")
 # A row, the front of the picture, what is left for the words after a row, and a letter at most, all in pixels.
 HIGH, TOP, BEHIND, LETTER = 15, 44, 110, 6.2
-
-
-def kind_of(said):
-    """The first word of what is said of a point."""
-    if said.accepted:
-        return "accepted"
-    return said.why.partition(",")[0] if said.change else "refused file"
 
 
 def runs_of(line):

@@ -108,7 +108,9 @@ def amounts(text, name, messages=()):
 def slots_of(text, messages):
     """The numbers of slots that are asked for; without them the least that the messages fit."""
     if text is None:
-        return [FEW_SLOTS if sum(it.kind in KINDS for it in messages) <= FEW_SLOTS else MANY_SLOTS]
+        most = max((it.slot for it in messages if it.slot is not None), default=0)
+        is_few = sum(it.kind in KINDS for it in messages) <= FEW_SLOTS and most < FEW_SLOTS
+        return [FEW_SLOTS if is_few else MANY_SLOTS]
     return [int(word) for word in word_list(text, "slots", [str(it) for it in SLOTS])]
 
 
@@ -145,7 +147,8 @@ def list_axes(words, messages):
 def sum_of_list(messages, turnaround, horizon):
     """A sum over a list: what its messages are, the turnaround and the horizon."""
     rows = [(it.name, it.sender, it.length, *(None if time is None else decimal(time, 12) for time in
-             (it.period, it.deadline, it.offset)), it.id, it.kind, it.priority) for it in messages]
+             (it.period, it.deadline, it.offset)), it.id, it.kind, it.priority, *([] if it.slot is None else [it.slot]))
+            for it in messages]
     return hashlib.sha256(repr((rows, turnaround, horizon)).encode("utf-8", "surrogateescape")).hexdigest()[:16]
 
 

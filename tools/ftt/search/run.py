@@ -8,7 +8,7 @@ import tomllib
 from ..faults import Refused, Unread
 from ..limits import FEW_SLOTS, WINDOW
 from ..system import room
-from . import listed
+from . import disturbed, horizons, listed
 from .asking import tried
 from .bounds import read_streams
 from .engine import built, engine, first_call
@@ -33,6 +33,8 @@ class Search:
     def __init__(self):
         self.names, self.found, self.many, self.widest = [], {}, 0, None
         self.table, self.picture, self.source, self.heads, self.rounding = None, None, None, [], None
+        # Of a system and steps: the bus, and the rows of the steps.
+        self.bus, self.rows, self.looked = None, [], {}
 
     def open(self, words, grid):
         """Opens the outputs, before anything is asked."""
@@ -58,6 +60,7 @@ class Search:
         if self.rounding:
             write_rounding(self.rounding, self.source, grid)
         search_lines(asked, self.source, grid, self.table, words)
+        self.looked = horizons.look(asked, self.source, grid, self.found, words)
         if words.headroom:
             self.heads = heads(asked, self.source, grid, self.found, words)
 
@@ -66,7 +69,7 @@ class Search:
         self.open(words, refined_grid(words, rows, system, streams))
         asked, document = first_call(engine(words), words), tomllib.loads(system)
         print(f"fttsearch: asks {asked.told()}", file=sys.stderr)
-        self.widest = widest_of(document["bus"])
+        self.widest, self.bus, self.rows = widest_of(document["bus"]), document["bus"], rows
         self.table.begin()
         search_lines(asked, FilesSource(document, rows, self.names[:-1], streams), self.table.grid, self.table, words)
 
@@ -84,7 +87,7 @@ class Search:
         self.open(words, asked_grid(words, rows, system, streams))
         asked, document = first_call(engine(words), words), tomllib.loads(system)
         print(f"fttsearch: asks {asked.told()}", file=sys.stderr)
-        self.widest = widest_of(document["bus"])
+        self.widest, self.bus, self.rows = widest_of(document["bus"]), document["bus"], rows
         self.table.begin()
         tried(asked, FilesQuestion(document, rows, self.names, streams), self.table, words)
 
@@ -122,11 +125,14 @@ class Search:
     def tell(self, words):
         """Prints the sentences."""
         if self.source is not None:
-            lines = told_list(self.source, self.table.grid, self.found) + self.heads
+            lines = told_list(self.source, self.table.grid, self.found, words.errors)
+            lines += horizons.told(self.source, self.table.grid, self.found, self.looked) + self.heads
         else:
             lines = told(self.names, self.found, len(self.found) if self.many is None else self.many, self.widest)
             if self.table.grid.refined:
                 lines.insert(1, told_refined(self.table.grid))
+            if words.errors and self.bus is not None:
+                lines += disturbed.told_files(self.names, self.found, self.bus, self.rows)
         if words.part:
             lines = [lines[0], f"this is part {words.part} of the grid; --join tells of the whole"]
         print("\n".join(lines), flush=True, file=sys.stderr if "-" in (words.csv, words.svg, words.rounding)

@@ -1,7 +1,8 @@
 """What is said of a grid, in sentences."""
 import itertools
 
-from ..telling import listed
+from ..telling import listed, some
+from . import reasons
 
 # So many lines of an axis are said.
 SHOWN = 40
@@ -78,17 +79,32 @@ def along(names, found, axis, narrow):
 
 
 def jumps(names, found, axis):
-    """The lines of the grid along an axis, and those among them where a value is refused above one that is accepted:
-    each with two neighbours."""
+    """The lines of the grid along an axis; those among them where a value is refused above one that is accepted, each
+    with two neighbours; and those where the bound of an asynchronous message is the reason for that, each with what is
+    said of the upper one."""
     lines = lines_along(names, found, axis)
-    bad = []
+    bad, bounded = [], []
     for rest, line in lines.items():
-        values = list(line)
-        pair = next(((one, other) for one, other in itertools.pairwise(values)
-                     if line[one].accepted and not line[other].accepted), None)
-        if pair:
-            bad.append((rest, *pair))
-    return len(lines), bad
+        pairs = [(one, other) for one, other in itertools.pairwise(line)
+                 if line[one].accepted and not line[other].accepted]
+        planned = next((pair for pair in pairs if not reasons.is_bounded(line[pair[1]])), None)
+        if planned:
+            bad.append((rest, *planned))
+        late = next((pair for pair in pairs if reasons.is_bounded(line[pair[1]])), None)
+        if late:
+            bounded.append((rest, *late, line[late[1]]))
+    return len(lines), bad, bounded
+
+
+def told_bounded(names, bounded, many, axis, called=None, left_out=()):
+    """A sentence on values above which the bound of an asynchronous message is the reason; none where it is none."""
+    if not bounded:
+        return []
+    rest, one, other, said = bounded[0]
+    where, rates = label(names, rest, (axis, *left_out)), dict(zip(names, rest))
+    why = reasons.bound_told(said, called, rates.get("kbits"))
+    return [f"{axis_name(axis)}: in {len(bounded)} of {some(many, 'line')}{', first ' + where if where else ''}: {one} is "
+            f"accepted, and at {other} {why}"]
 
 
 def wider(names, found, widest):
@@ -129,15 +145,16 @@ def told(names, found, many, widest=None):
         lines += more[:SHOWN]
         if len(more) > SHOWN:
             lines.append(f"and {len(more) - SHOWN} more, which --csv has")
-        many, bad = jumps(names, found, axis)
+        many, bad, bounded = jumps(names, found, axis)
+        lines += told_bounded(names, bounded, many, axis, left_out=narrow)
         if bad:
             rest, one, other = bad[0]
             where = label(names, rest, (axis, *narrow))
             lines.append(f"not monotone: in {len(bad)} of {many} lines along the {axis_name(axis)}, first "
                          f"{where + ': ' if where else ''}{one} is accepted and {other} is not")
         else:
-            lines.append(f"along the {axis_name(axis)} nothing is refused above what is accepted, in {many} "
-                         f"line{'' if many == 1 else 's'} of tried points")
+            lines.append(f"along the {axis_name(axis)} nothing{' else' if bounded else ''} is refused above what is "
+                         f"accepted, in {many} line{'' if many == 1 else 's'} of tried points")
     lines += wider(names, found, widest)
     if not count:
         whys = {}

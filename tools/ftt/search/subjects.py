@@ -1,17 +1,26 @@
 """What phases are looked for in: a system and steps, or a list, at each point of a grid that leaves windows open."""
+import math
 import tomllib
 from collections import namedtuple
+from fractions import Fraction
 
 from ..faults import Refused
+from ..limits import MANY_SLOTS
+from ..model import table
+from ..model.bus import slots_of
+from ..model.messages import Mistakes, text_of
+from ..telling import decimal
 from . import listed
 from .engine import built, engine, first_call
 from .files import rows_of, stepped
 from .grid import read
-from .placing import fields_of, messages_of
+from .placing import fields_of, messages_of, with_phases
 from .ranges import axes_of, list_axes
 
-# A point: the system as its tables, the steps up to the last change, and all that is written of them.
-Case = namedtuple("Case", "document text written")
+MICROS = 1_000_000
+# A point: the system as its tables, the steps up to the last change, what is written with other phases, and how these are
+# told of: both are functions of the phases by slots. And what a user has to do with what is written.
+Case = namedtuple("Case", "document text written told needs")
 
 
 class FilesSubject:
@@ -38,7 +47,14 @@ class FilesSubject:
 
     def at(self, values):
         """A point."""
-        return Case(tomllib.loads(self.system), stepped(self.rows, values), stepped(fields_of(self.steps), values))
+        written = stepped(fields_of(self.steps), values)
+        return Case(tomllib.loads(self.system), stepped(self.rows, values), lambda phases: with_phases(written, phases),
+                    told_by_slots, "the system file has to have {}")
+
+
+def told_by_slots(phases):
+    """Phases by slots, in words."""
+    return f"phases: {', '.join(f'slot {slot} {phase}' for slot, phase in phases.items())}"
 
 
 class ListSubject:
@@ -46,6 +62,7 @@ class ListSubject:
 
     def __init__(self, words):
         self.words, self.messages = words, listed.read(words.system)
+        self.list = text_of(words.system)
         self.source = listed.Source(self.messages, [], words.turnaround, words.horizon)
 
     def axes(self):
@@ -55,7 +72,7 @@ class ListSubject:
 
     def slots(self):
         """The slots that have an entry."""
-        return list(range(sum(it.kind in listed.KINDS for it in self.messages)))
+        return sorted(slots_of([it for it in self.messages if it.kind in listed.KINDS], MANY_SLOTS, Mistakes("")).values())
 
     def engine(self):
         """What answers."""
@@ -67,5 +84,21 @@ class ListSubject:
             placing = self.source.placing(values)
         except listed.Unfit as fault:
             raise Refused(f"{self.words.system}: {fault}") from fault
-        text = placing.entries.text()
-        return Case(tomllib.loads(placing.rules(max(placing.room, 55), values, self.source.horizon).text()), text, text)
+        by_slot = {it.slot: it.message for it in placing.placed}
+
+        def millis(phases):
+            return {by_slot[slot]: offset_text(placing.bus, phase) for slot, phase in phases.items()}
+
+        def written(phases):
+            return table.with_offsets(self.words.system, self.list, {it.line: text for it, text in millis(phases).items()})
+
+        def told(phases):
+            return f"offsets: {', '.join(f'{it.name} {text} ms' for it, text in millis(phases).items())}"
+        document = tomllib.loads(placing.rules(max(placing.room, 55), values, self.source.horizon).text())
+        return Case(document, placing.entries.text(), written, told, "with fttmodel take {}")
+
+
+def offset_text(bus, cycles):
+    """So many cycles in milliseconds, as a list has them: not less, so that they become as many cycles again."""
+    exact = bus.millis(cycles)
+    return decimal(exact if exact * MICROS % 1 == 0 else Fraction(math.floor(exact * MICROS) + 1, MICROS), 6)

@@ -25,7 +25,7 @@ static void ask(const char *what, uint64_t start, const fttcan_op *ops, size_t c
     fttcan_verdict verdict;
     fttcan_mask trail[100];
     char words[160];
-    size_t cycles = 0;
+    fttcan_size cycles = 0;
     must(fttcan_master_submit(&master, 1, start, ops, count, &verdict), "submit");
     fttcan_verdict_words(&verdict, words, sizeof words);
     printf("%s: %s\n", what, words);
@@ -34,7 +34,7 @@ static void ask(const char *what, uint64_t start, const fttcan_op *ops, size_t c
     if (verdict.kind != FTTCAN_MISSED)
         return;
     must(fttcan_master_trail(&master, trail, 100, &cycles), "trail");
-    for (size_t n = 0; n < cycles; n++)
+    for (fttcan_size n = 0; n < cycles; n++)
         printf("    cycle %" PRIu64 " would send %010" PRIx64 "\n", verdict.second + 1 - cycles + n, trail[n].low);
 }
 
@@ -53,7 +53,7 @@ static void open_cycle(void) {
     fttcan_trigger trigger;
     fttcan_frame frame;
     fttcan_follow fault;
-    size_t count;
+    fttcan_size count;
     must(fttcan_master_open(&master, &order), "open");
     trigger = (fttcan_trigger){order.flags, order.cycle, order.window};
     must(fttcan_trigger_encode(rules.slots, &trigger, &frame, 1, &count), "trigger");

@@ -19,15 +19,14 @@ import json
 import math
 import pathlib
 import queue
-import struct
 import subprocess
 import sys
 import threading
 import time
 
 import can
-from fttcan import (Add, Change, Frame, Layout, Master, NotPlanned, Order, Refused, Remove, Rules, Standby, Trigger,
-                    frames, slots_of)
+from fttcan import (Add, Change, Frame, Heard, Layout, Master, Node, NotPlanned, Order, Refused, Remove, Rules, Standby, Trigger,
+                    apply, changes, frames, slots_of)
 
 # 125 kbit/s: a bit time lasts 8 microseconds, and a cycle of 2,500 bit times 20 milliseconds.
 KBITS, CYCLE, TURNAROUND, WINDOW, NODES = 125, 2500, 30, 405, 3
@@ -46,10 +45,8 @@ OVER = 0.005
 SILENCE = 2.0
 # A change is asked for so many cycles before it starts, so that all have been told by then.
 AHEAD = 12
-# Two asynchronous frames tell an operation of an accepted change: place, kind, slot, node, length, priority and the low
-# bits of the start; and place, phase, period and deadline. The place of the last operation has bit 7.
-TELLS, FIRST, SECOND = (0x7E0, 0x7E1), struct.Struct(">6BH"), struct.Struct(">Bx3H")
-KINDS = (Add, Remove, Change)
+# Asynchronous frames of this identifier tell an accepted change.
+TELLS = 0x7E0
 
 MACHINE = [Add(slot=0, node=0, length=8, period=1, deadline=1), Add(slot=1, node=1, length=8, period=2, deadline=2),
            Add(slot=2, node=2, length=4, period=4, deadline=4), Add(slot=3, node=1, length=2, period=3, deadline=2)]
@@ -88,46 +85,12 @@ class Wire:
         return None if found is None else (Frame(found.arbitration_id, bytes(found.data)), found.timestamp)
 
 
-def told_by(start, operations):
-    """The frames that tell an accepted change."""
-    for place, operation in enumerate(operations):
-        mark = place | 0x80 * (place == len(operations) - 1)
-        entry = operation
-        if isinstance(operation, Remove):
-            entry = Add(slot=operation.slot, node=0, length=0, period=1, deadline=1)
-        yield Frame(TELLS[0], FIRST.pack(mark, KINDS.index(type(operation)), entry.slot, entry.node, entry.length,
-                                         entry.priority, start & 0xFFFF))
-        yield Frame(TELLS[1], SECOND.pack(mark, entry.phase, entry.period, entry.deadline))
-
-
-class Told:
-    """Changes as they are heard from these frames."""
-
-    def __init__(self):
-        self.first, self.operations = None, []
-
-    def hear(self, frame, cycle):
-        """The start and the operations of a change that is whole now; else None. The cycle is the next one."""
-        if frame.identifier == TELLS[0]:
-            self.first = FIRST.unpack(frame.data)
-            if self.first[0] & 0x7F == 0:
-                self.operations = []
-            return None
-        mark, phase, period, deadline = SECOND.unpack(frame.data)
-        place, kind, slot, node, length, priority, low = self.first
-        if mark != place or place & 0x7F != len(self.operations):
-            return None
-        self.operations.append(Remove(slot) if KINDS[kind] is Remove else KINDS[kind](
-            slot=slot, node=node, length=length, period=period, deadline=deadline, phase=phase, priority=priority))
-        return (cycle + (low - cycle) % 65_536, self.operations) if mark & 0x80 else None
-
-
 class Opener:
     """What opens cycles by the clock: a master, and a standby that has taken over."""
 
     def __init__(self, wire, master, name):
         self.wire, self.master, self.name = wire, master, name
-        self.news, self.planner, self.settled = collections.deque(), None, queue.Queue()
+        self.news, self.planner, self.settled, self.accepted = collections.deque(), None, queue.Queue(), 0
 
     def run(self, begin, last, wishes, is_killed=lambda: False):
         """Opens the next cycle at a time, and so on up to a last one."""
@@ -143,7 +106,8 @@ class Opener:
                 self.wire.send(frame)
             self.ask(order.cycle + 1, wishes.get(order.cycle))
             self.spread(order, now)
-            # Nodes count from the trigger that they heard, so a late cycle makes all after it late.
+            # Nodes count from the trigger that they heard, so a late cycle makes all after it late. On a bus where triggers
+            # are sent again a node keeps the time by itself: docs/ERRORS.md.
             due = max(due, now) + CYCLE * BIT
         tell(part=self.name, opened=self.master.next)
 
@@ -158,7 +122,8 @@ class Opener:
             planned, start, operations, since = self.settled.get()
             try:
                 verdict = self.master.settle(planned)
-                self.news.extend(told_by(start, operations))
+                self.accepted += 1
+                self.news.extend(changes.encode_change(TELLS, self.accepted, start, *operations))
             except Refused as fault:
                 verdict = fault
             tell(part=self.name, start=start, since=since, settled=cycle, verdict=verdict.row, words=str(verdict),
@@ -183,66 +148,65 @@ def rows_of(start, operations):
             for place, (word, rest) in enumerate(fields)]
 
 
-class Table:
-    """What a node knows of the table: of each slot its entries, with the cycles of their first releases."""
-
-    def __init__(self):
-        self.entries = collections.defaultdict(list)
-
-    def change(self, start, operations):
-        """Learns an accepted change."""
-        for operation in operations:
-            if not isinstance(operation, Remove):
-                old = self.entries[operation.slot][-1][1] if isinstance(operation, Change) else None
-                origin = start + old.deadline - 1 if old else start
-                self.entries[operation.slot].append((origin + operation.phase, operation))
-
-    def due(self, trigger, cycle):
-        """The frames that a trigger asks for, in their order: the node, and when each starts in bit times of the cycle."""
-        at = CYCLE - trigger.window
-        for slot in slots_of(trigger.flags):
-            first, entry = next(it for it in reversed(self.entries[slot]) if it[0] <= cycle)
-            frame = Frame(0x100 + slot, frames.payload((cycle - first) // entry.period, entry.length))
-            yield entry.node, at, frame
-            at += frames.wire_length(frame.identifier, frame.data)
+def turn_of(table, order, slot):
+    """When a slot may begin, in bit times of the cycle: after the longest frames of all slots before it. Where a bus
+    arbitrates, no node has to know that."""
+    newest = {}
+    for placed in table:
+        if placed.origin <= order.cycle:
+            newest[placed.entry.slot] = placed.entry.length
+    return CYCLE - order.window + sum(55 + 10 * newest[other] for other in order.slots if other < slot)
 
 
-def node(wire, number):
-    """A node: hears triggers, and sends its own frames in the synchronous window. Without arbitration on these buses it
-    waits for its turn by the clock."""
-    table, told, cycle, sent, late = Table(), Told(), -1, 0, 0
-    while (heard := wire.hear(SILENCE if cycle >= 0 else 60)) is not None:
-        frame, at = heard
-        if frame.identifier in TELLS:
-            change = told.hear(frame, cycle + 1)
-            if change:
-                table.change(*change)
-        if frame.identifier != 0:
-            continue
-        trigger = frames.decode([frame], RULES.slots)
-        cycle += 1 + (trigger.cycle - cycle - 1) % 256
-        for owner, begin, own in table.due(trigger, cycle):
-            if owner == number:
-                until(at + begin * BIT)
-                if time.time() > at + begin * BIT + OVER:
-                    late += 1
-                    continue
-                wire.send(own)
+def send_slots(wire, node, table, begun):
+    """Sends what a node owes in the open cycle, and answers how many were sent, and how many would have been too late.
+    Without arbitration on these buses the node waits for its turn by the clock."""
+    order, sent, late = node.opened, 0, 0
+    for slot in slots_of(node.due()):
+        turn = turn_of(table, order, slot)
+        until(begun + turn * BIT)
+        if time.time() <= begun + turn * BIT + OVER:
+            loaded = node.load(max(turn, math.floor((time.time() - begun) / BIT)), 0x100 + slot)
+            if loaded:
+                wire.send(loaded.frame)
+                node.sent(loaded.ticket)
                 sent += 1
-    tell(part=f"node {number}", sent=sent, late=late)
+                continue
+        late += 1
+    return sent, late
+
+
+def run_node(wire, number):
+    """A node: learns changes, hears triggers, and sends its own slots."""
+    table, told, begun, counts = [], changes.Collector(entries=32), None, (0, 0)
+    with Node(LAYOUT, number=number, entries=32, tolerance=LATE + PATIENCE) as node:
+        node.go_to(0)
+        while (heard := wire.hear(60 if begun is None else SILENCE)) is not None:
+            frame, at = heard
+            if frame.identifier == TELLS and (change := told.hear(frame)):
+                table = apply(table, change.start, *change.operations)
+                node.learn(table)
+            if frame.identifier != 0:
+                continue
+            # A late master makes all cycles after it late, so the clock can be some cycles ahead of the count.
+            passed = 0 if begun is None else max(0, round((at - begun) / (CYCLE * BIT)) - 1)
+            if node.trigger(frame, passed=passed) is Heard.OPENED:
+                begun = at
+                counts = tuple(map(sum, zip(counts, send_slots(wire, node, table, begun))))
+    tell(part=f"node {number}", sent=counts[0], late=counts[1])
 
 
 def standby_of(wire, last):
     """A standby: hears changes and triggers up to its turn, and takes over where no trigger comes."""
-    standby, told, at = Standby(RULES), Told(), None
+    standby, told, at = Standby(RULES), changes.Collector(entries=32), None
     while True:
         heard = wire.hear(60 if at is None else at + PATIENCE * CYCLE * BIT - READY - time.time())
         if heard is None:
             break
-        if heard[0].identifier in TELLS:
-            change = told.hear(heard[0], standby.next)
+        if heard[0].identifier == TELLS:
+            change = told.hear(heard[0])
             if change:
-                standby.change(change[0], *change[1])
+                standby.change(change.start, *change.operations)
         elif heard[0].identifier == 0:
             try:
                 standby.trigger(heard[0])
@@ -280,7 +244,7 @@ class Recorder:
         if frame.identifier == 0:
             trigger = frames.decode([frame], RULES.slots)
             self.cycles.append((at, trigger, set(), [CYCLE - trigger.window]))
-        elif frame.identifier not in TELLS:
+        elif frame.identifier != TELLS:
             self.slot(frame, at, length)
 
     def slot(self, frame, at, length):
@@ -325,7 +289,7 @@ def part(words, is_killed=lambda: False):
     elif words.part == "recorder":
         recorder(wire, words.into / "recording.log")
     else:
-        node(wire, int(words.part))
+        run_node(wire, int(words.part))
     wire.bus.shutdown()
 
 

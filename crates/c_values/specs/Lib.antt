@@ -1,0 +1,4 @@
+pub mod Plain
+pub mod Refused
+pub mod Room
+pub mod Told

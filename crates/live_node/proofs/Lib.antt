@@ -1,0 +1,15 @@
+mod Boxes
+mod Clock
+mod Frames
+mod Fresh
+mod Hearing
+mod KnownBytes
+mod Model
+mod Offered
+mod Quiet
+mod Requests
+mod Slots
+mod Steps
+mod Tickets
+mod Wake
+mod Windows

@@ -1,0 +1,3 @@
+mod Driven
+mod Kept
+mod Offers
