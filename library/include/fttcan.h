@@ -268,7 +268,8 @@ typedef struct {
     fttcan_size room;    /* how many requests may wait under each of its identifiers */
     fttcan_size entries; /* how many entries of its own it can know at once, ended ones included */
     uint8_t number;      /* its number (0 to 29) */
-    uint8_t tolerance;   /* by how many cycles the count of fttcan_node_trigger may be off (0 to 127): 1 or 2 with a crystal */
+    uint8_t tolerance;   /* by how many cycles the count of fttcan_node_trigger may be off (0 to 127): 1 or 2 with a crystal, and
+                          * at least 1 with 96 slots */
     uint8_t silent;      /* if 0, a slot without fitting bytes sends the number of its instance; else it is not sent */
 } fttcan_settings;
 

@@ -168,7 +168,7 @@ static void make_boards(uint8_t nodes, unsigned entries) {
         it->board->on_timer = wake;
         it->offset = (int64_t)pick(100000, 1000000000);
         it->ppm = (int32_t)pick(0, 200) - 100;
-        it->driver.board = (driver_board){.cycle = now.layout.cycle, .buffers = kind->buffers, .sorts = kind->sorts,
+        it->driver.board = (driver_board){.cycle = now.layout.cycle, .turnaround = now.layout.turnaround, .buffers = kind->buffers, .sorts = kind->sorts,
                                           .load_least = kind->load_least, .load_most = kind->load_most,
                                           .abort_most = kind->abort_most, .timer_late = 6, .margin = 3, .drift = 2};
         it->driver.controller = it;
@@ -269,20 +269,23 @@ static void one_run(uint64_t seed, unsigned cycles, unsigned errors) {
     now.layout.cycle = part + now.layout.turnaround + now.layout.window + (uint32_t)pick(300, 900);
     now.slack = 6;
     now.bus.on_sent = judge;
-    now.bus.cut_per_mille = errors ? 20 : 0;
-    now.bus.last_per_mille = errors ? 20 : 0;
     unsigned m = bus_board(&now.bus, &master_kind, NULL);
     now.bus.boards[m].on_done = ignore_done;
     make_boards(nodes, 256);
-    uint64_t serial = 0, hits = 0;
+    uint64_t serial = 0, hits = 0, moved = 0; /* how far the master has moved its cycles */
     unsigned hears_at = 1;
     for (unsigned c = 0; c < cycles && wrong < 20; c++) {
-        uint64_t begins = (uint64_t)c * now.layout.cycle;
+        int moves = c > 0 && !pick(0, 29);
+        if (moves) /* and then no trigger is hit, so that it says where the cycle begins */
+            moved += pick(now.layout.turnaround + 20, now.layout.cycle / 2);
+        uint64_t begins = (uint64_t)c * now.layout.cycle + moved;
         bus_run(&now.bus, begins);
         if (c > 0)
             judge_cycle(now.bus.hits - hits <= errors);
         hits = now.bus.hits;
         now.cycle_begins = begins;
+        now.bus.cut_per_mille = errors && !moves ? 20 : 0;
+        now.bus.last_per_mille = errors && !moves ? 20 : 0;
         if (c >= hears_at) { /* now and then a node hears nothing, for some cycles */
             if (now.deaf >= 0)
                 now.bus.boards[now.deaf + 1].deaf = 0;
@@ -316,7 +319,7 @@ static void one_run(uint64_t seed, unsigned cycles, unsigned errors) {
         }
     }
     if (wrong < 20) {
-        bus_run(&now.bus, (uint64_t)cycles * now.layout.cycle);
+        bus_run(&now.bus, now.cycle_begins + now.layout.cycle);
         judge_cycle(now.bus.hits - hits <= errors);
     }
     for (unsigned n = 0; n < nodes; n++)

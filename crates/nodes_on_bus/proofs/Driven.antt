@@ -71,14 +71,15 @@ module _ (reserve : ℕ) (late : Late) (layout : CycleLayout) (o : Opening) (nar
   -- a slot that is offered is offered behind the start of the window, for the first of the drivers
   slot-behind : (board : Board) (load slot : ℕ) (sent : TimedFrame) → slot < most_slots → sent.frame.identifier ≡ first_identifier + slot
       → IsLoadedAt reserve late layout o board load sent
-      → (start_of layout o ≤ load) × (window_from reserve late.least layout o ≤ load) × (is_ready (board.view load) slot ≡ true)
+      → (start_of layout o ≤ sent.start) × (window_from reserve late.least layout o ≤ sent.start) × (is_ready (board.view load) slot ≡ true)
       × (has_bit o.mask slot ≡ true)
   slot-behind board load slot sent known id is =
       let view = board.view load in
-      let found = slot-offered view (into layout o board load) slot known is.in_cycle.waiting.least (is.offered ∙ ap Some id) in
+      let found = slot-offered view (into layout o board is.from) slot known is.in_cycle.waiting.least (is.offered ∙ ap Some id) in
       let one : found.it ≡ is.in_cycle.opened = grind (arith, found.is_open, is.in_cycle.is_open) in
       let width : found.it.width ≡ width_with reserve o = ap (λ (x : Opened). x.width) one ∙ is.in_cycle.width in
       let begun = found.begun in
+      let starts = is.from_before in
       let cycle = same-cycle view is.in_cycle in
       let least = is.as_late.least in
       let longer = end-at layout o in
@@ -93,14 +94,15 @@ module _ (reserve : ℕ) (late : Late) (layout : CycleLayout) (o : Opening) (nar
   -- a request is offered behind the trigger part and the turnaround
   request-behind : (board : Board) (load : ℕ) (sent : TimedFrame) → least_asynchronous ≤ sent.frame.identifier
       → IsLoadedAt reserve late layout o board load sent
-      → (start_of layout o + board.late o.cycle ≤ load) × (async_open layout o.cycle ≤ load)
+      → (start_of layout o + board.late o.cycle ≤ sent.start) × (async_open layout o.cycle ≤ sent.start)
   request-behind board load sent low is =
       let view = board.view load in
-      let found = request-offered view (into layout o board load) sent.frame.identifier low is.offered in
+      let found = request-offered view (into layout o board is.from) sent.frame.identifier low is.offered in
       let begun = found.begun in
       let part = same-part view is.in_cycle in
       let some = part-least (triggers_of layout.slots) in
-      (omega (arith, begun, part, some), omega (arith, begun, part, some))
+      let starts = is.from_before in
+      (omega (arith, begun, starts, part, some), omega (arith, begun, starts, part, some))
 
   -- so it keeps the guard
   request-keeps : (board : Board) (load : ℕ) (sent : TimedFrame) (past : List TimedFrame) → IsRequestOf reserve late layout o board load sent
@@ -274,6 +276,18 @@ module _ (reserve : ℕ) (late : Late) (silent : Silent) (sends : Instance → L
         ],
       )
 
+  -- a slot that is unsent has not started
+  not-started : (o : Opening) (slot at : ℕ) → HasNotStarted layout o (first_identifier + slot) (started_before at trace)
+      → HasStarted layout o slot trace at → ⊥
+  not-started o slot at fresh started =
+      let before = started.before in
+      let among : Contains (started_before at trace) started.sent
+      = Contains-filter (λ (s : TimedFrame). ltb s.start at) trace started.sent started.among (lt-ltb started.sent.start at before) in
+      let early = All-contains (λ (s : TimedFrame). s.frame.identifier ≡ first_identifier + slot → s.start < start_of layout o) (started_before at trace) started.sent
+      fresh among started.identifier in
+      let from = started.from in
+      omega (arith, early, from)
+
   -- a slot that is offered without fail is owed
   owed : (o : Opening) → Contains openings o → (slot at : ℕ) (frame : DataFrame)
       → OffersSlotAgain reserve late.most silent sends layout o (started_before at trace) at frame slot
@@ -289,13 +303,7 @@ module _ (reserve : ℕ) (late : Late) (silent : Silent) (sends : Instance → L
       = subst (λ c. is_some (instance_in view.state.entries slot c) ≡ true) (sym it.cycle) here.1 in
       let due : is_due view.state.entries opened slot ≡ true = and_from _ _ flag (and_from _ _ instance (grind (arith, heard))) in
       let not_sent : has_bit view.sent slot ≡ false = elim (cases_Bool (has_bit view.sent slot)) [
-        | inl told ↦
-            let started = are.told_truly o slot at has is.known it told in
-            let before = started.before in
-            let among : Contains (started_before at trace) started.sent = Contains-filter (λ (s : TimedFrame). ltb s.start at) trace started.sent started.among (lt-ltb started.sent.start at before) in
-            let early = All-contains (λ (s : TimedFrame). s.frame.identifier ≡ first_identifier + slot → s.start < start_of layout o) (started_before at trace) started.sent is.unsent among started.identifier in
-            let from = started.from in
-            absurd (omega (arith, early, from))
+        | inl told ↦ absurd (not-started o slot at is.unsent (are.told_truly o slot at has is.known it told))
         | inr none ↦ none
       ] in
       (it, owes view.state slot opened (has_bit view.sent slot) it.is_open due not_sent)
@@ -309,7 +317,8 @@ module _ (reserve : ℕ) (late : Late) (silent : Silent) (sends : Instance → L
     | inl trigger ↦ are.busy_triggers is.0 at frame is.1 before trigger.0 trigger.1
     | inr slots ↦
         let it = owed is.0 is.1 slots.0 at frame slots.1 in
-        are.busy_slots is.0 slots.0 at frame.bytes is.1 slots.1.known slots.1.late_enough slots.1.bytes slots.2 it.0 it.1
+        are.busy_slots is.0 slots.0 at frame.bytes is.1 slots.1.known slots.1.late_enough slots.1.bytes slots.2
+        slots.1.loud (not-started is.0 slots.0 at slots.1.unsent) it.0 it.1
   ]
 
   pub run : IsDisturbedTrace (may_start reserve late silent sends layout (keeps_guard reserve late layout) openings)

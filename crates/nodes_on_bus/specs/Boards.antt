@@ -47,13 +47,16 @@ pub record IsAsLate (late : Late) (opening : Opening) (board : Board) : Type 0 w
   pub least : late.least opening.cycle ≤ board.late opening.cycle
   pub most : board.late opening.cycle ≤ late.most opening.cycle
 
--- the frame was loaded at a time at which the node offered its identifier, and it is taken back before the cycle ends
+-- the frame was loaded when the node offered its identifier for a time up to the frame's start, and it is taken back before
+-- the cycle ends. A controller that starts a frame some time after the load may be loaded so much earlier
 pub record IsLoadedAt (reserve : ℕ) (late : Late) (layout : CycleLayout) (opening : Opening) (board : Board) (load : ℕ)
     (sent : TimedFrame) : Type 0 where
   pub before : load ≤ sent.start
   pub as_late : IsAsLate late opening board
   pub in_cycle : IsInCycle reserve layout opening (board.view load)
-  pub offered : live_offer (board.view load) (into layout opening board load) ≡ Some sent.frame.identifier
+  pub from : ℕ
+  pub from_before : from ≤ sent.start
+  pub offered : live_offer (board.view load) (into layout opening board from) ≡ Some sent.frame.identifier
   pub in_time : sent.start < end_of_cycle layout opening
 
 -- the frame of a slot: from the load to its start it is in flight, and it carries the bytes of the instance that may be

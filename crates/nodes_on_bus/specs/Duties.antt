@@ -51,8 +51,9 @@ pub record HasStarted (layout : CycleLayout) (opening : Opening) (slot : ℕ) (t
 
 -- the drivers and controllers of a bus do what they owe: all frames are the master's, or were loaded when a node offered
 -- them; what is loaded once is sent whole once at most; nodes are told what was sent, and nothing else; a slot that is not
--- silent has a node that is in the cycle when the window of the last one opens; and a time at which a slot is owed in its
--- window, or a trigger frame in its part, lies within a frame or is lost, as long as its longest frame would still end in time
+-- silent has a node that is in the cycle when the window of the last one opens; and a time at which such a slot is owed in its
+-- window and has not started, or a trigger frame in its part, lies within a frame or is lost, as long as its longest frame
+-- would still end in time
 pub record AreDriven (reserve : ℕ) (late : Late) (silent : Silent) (sends : Instance → List ℕ) (layout : CycleLayout)
     (openings : List Opening) (senders : Senders) (loads : Loads) (outages : List Outage) (until : ℕ) (trace : List TimedFrame) : Type 0 where
   pub ordered : IsOrdered trace
@@ -77,6 +78,7 @@ pub record AreDriven (reserve : ℕ) (late : Late) (silent : Silent) (sends : In
   pub busy_slots : (opening : Opening) (slot at : ℕ) (bytes : List ℕ) → Contains openings opening → slot < most_slots
       → window_from reserve late.most layout opening ≤ at
       → bytes_sent sends opening slot ≡ Some bytes → at + worst (length bytes) ≤ end_of_cycle layout opening
+      → is_silent silent opening.cycle slot ≡ false → (HasStarted layout opening slot trace at → ⊥)
       → IsInCycle reserve layout opening ((senders opening.cycle slot).view at)
       → is_owed ((senders opening.cycle slot).view at) slot ≡ true → IsBusy outages trace at
   pub busy_triggers : (opening : Opening) (at : ℕ) (frame : DataFrame) → Contains openings opening → at < until

@@ -108,12 +108,13 @@ static void go_on(driver *d) {
 
 /* How many cycles have begun since the one whose start is known, and where the new one begins by the driver's clock: where its
  * trigger was, unless that came late. A trigger that was sent again starts later than its cycle, and never earlier. So the
- * start is taken from it if that is earlier than what the clock says, and else from the clock, as far as that may drift. */
+ * start is taken from it if that is earlier than what the clock says, and else from the clock, as far as that may drift. A
+ * trigger that is later than the turnaround allows says that the master has moved its cycles. */
 static uint64_t cycles_since(driver *d, uint64_t began, uint64_t *start) {
     uint64_t cycle = d->board.cycle;
     uint64_t cycles = began + cycle / 4 < d->began ? 0 : (began + cycle / 4 - d->began) / cycle;
     uint64_t latest = d->began + cycles * (cycle + d->board.drift);
-    *start = began < latest ? began : latest;
+    *start = began < latest || began > latest + d->board.turnaround ? began : latest;
     return cycles;
 }
 

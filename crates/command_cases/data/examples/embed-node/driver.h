@@ -11,6 +11,7 @@ enum { DRIVER_BUFFERS = 8 };
 /* What the board is like. The driver keeps its promises if these numbers are right. */
 typedef struct {
     uint32_t cycle;      /* bit times of a cycle */
+    uint32_t turnaround; /* those after the trigger part: so late a trigger may be that was sent again */
     unsigned buffers;    /* transmit buffers of the controller that it may use: 1 to DRIVER_BUFFERS */
     int sorts;           /* 1: the controller sends the least identifier of its buffers first */
     uint32_t load_least; /* from controller_load until the frame can start */

@@ -166,7 +166,9 @@ def send_slots(wire, node, table, begun):
         turn = turn_of(table, order, slot)
         until(begun + turn * BIT)
         if time.time() <= begun + turn * BIT + OVER:
-            loaded = node.load(max(turn, math.floor((time.time() - begun) / BIT)), 0x100 + slot)
+            # The node is asked for its turn, and not for the time that it is now: Python is late by less than OVER. A real
+            # driver asks for the time at which its frame starts, and a reserve of the window has room for its latency.
+            loaded = node.load(turn, 0x100 + slot)
             if loaded:
                 wire.send(loaded.frame)
                 node.sent(loaded.ticket)
